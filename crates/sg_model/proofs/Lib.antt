@@ -1,0 +1,10 @@
+pub mod Ints
+pub mod Sums
+pub mod Numbers
+pub mod Covers
+pub mod Greatest
+pub mod Levels
+pub mod Forms
+pub mod Best
+pub mod Bound
+pub mod Optimal
