@@ -5,4 +5,6 @@ pub mod Payoffs
 pub mod Commitments
 pub mod Optimality
 pub mod Origami
+pub mod Names
+pub mod Limits
 pub mod Laws
