@@ -1,0 +1,51 @@
+-- The game that parts describe.
+use Rattle.std.specs.Prelude.{ℕ, List, map, ℤ, pos, negsuc, Option, String, string_bytes, option_map, unwrap_or, slice_index_or, Vec}
+use Rattle.std.specs.declared.alloc.Global.{Global}
+use Rattle.sg_model.specs.Games.{Payoff, Attacker, Named, Game}
+use Rattle.sg_game.specs.declared.parts.Parts.{Parts}
+use Rattle.sg_game.specs.declared.parts.ListParts.{ListParts}
+use Rattle.sg_game.specs.declared.parts.TypeParts.{TypeParts}
+
+-- texts as lists of bytes
+abbrev pub texts : List (String Global) → List (List ℕ)
+texts names = map string_bytes names
+
+-- lists of numbers
+abbrev pub rows : List (Vec ℤ Global) → List (List ℤ)
+rows lists = map (λ (v : Vec ℤ Global). v.items) lists
+
+-- the payoffs of four numbers, in the order of a game file
+abbrev pub payoff_of : List ℤ → Payoff
+payoff_of xs = record { dc = slice_index_or xs 0 (pos 0); du = slice_index_or xs 1 (pos 0); ac = slice_index_or xs 2 (pos 0); au = slice_index_or xs 3 (pos 0) }
+
+-- a number that isn't below 0
+abbrev pub count_of : ℤ → ℕ
+count_of (pos n) = n
+count_of (negsuc n) = 0
+
+-- a schedule or a resource
+abbrev pub named_of : ListParts → Named
+named_of x = record { name = string_bytes x.name; members = x.members.items }
+
+-- a type of attacker
+abbrev pub attacker_of : TypeParts → Attacker
+attacker_of x = record {
+  name = string_bytes x.name;
+  prior = x.prior;
+  payoffs = map payoff_of (rows x.payoffs.items);
+  actions = texts x.actions.items;
+  leader = rows x.leader.items;
+  follower = rows x.follower.items;
+}
+
+-- the game of these parts
+abbrev pub game_of : Parts → Game
+game_of p = record {
+  kind = p.kind;
+  scale = unwrap_or p.scale (pos 0);
+  patrols = option_map count_of p.patrols;
+  goals = texts p.goals.items;
+  schedules = map named_of p.schedules.items;
+  resources = map named_of p.resources.items;
+  types = map attacker_of p.types.items;
+}
