@@ -7,4 +7,5 @@ pub mod Optimality
 pub mod Origami
 pub mod Names
 pub mod Limits
+pub mod ReportText
 pub mod Laws
