@@ -8,3 +8,4 @@ pub mod Forms
 pub mod Best
 pub mod Bound
 pub mod Optimal
+pub mod Tickets

@@ -7,4 +7,5 @@ pub mod Optimality
 pub mod Origami
 pub mod Names
 pub mod Limits
-pub mod Laws
+pub mod PlayLaws
+pub mod OrigamiLaws
