@@ -9,3 +9,5 @@ pub mod Best
 pub mod Bound
 pub mod Optimal
 pub mod Tickets
+pub mod Values
+pub mod Scaled

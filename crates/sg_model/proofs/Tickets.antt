@@ -11,16 +11,13 @@ use Rattle.sg_model.specs.Optimality.{IsOptimal}
 use Rattle.sg_model.specs.Origami.{IsOrigami, IsWater, AreLevelTickets, at_level, gap, share, water_bound}
 use Rattle.sg_model.specs.Sums.{numbers}
 use Rattle.sg_model.proofs.Forms.{no_matrix}
-use Rattle.sg_model.proofs.Ints.{v, n, plus, less, times, same_by, same_from, mul-le, mul-lt, cancel-le}
+use Rattle.sg_model.proofs.Ints.{v, n, plus, less, times, same_by, same_from, mul-le, mul-lt, cancel-le, cancel}
 use Rattle.sg_model.proofs.Covers.{weight_total-positive}
 use Rattle.sg_model.proofs.Levels.{sum_a_is, multiple_is, level_reached, IsAtLevel, at_level_each}
 use Rattle.sg_model.proofs.Best.{is_best-from, is_best-not, take_of-bounds, from_map, greatest-reached, filter_none}
 use Rattle.sg_model.proofs.Bound.{sum_d_is, worth_is, prior_is, water_bounds}
 use Rattle.sg_model.proofs.Optimal.{optimal_at_bound}
 use Rattle.sg_model.proofs.Numbers.{All-numbers-at, map-none}
-
-pub cancel : (a b c : ℤ) → (a *ℤ c) ≡ (b *ℤ c) → pos 1 ≤ℤ c → a ≡ b
-cancel a b c e h = omega (arith, ints, cancel-le a b c (omega (arith, ints, e)) h, cancel-le b a c (omega (arith, ints, e)) h)
 
 -- a target of the level pays the attacker the level
 level_case : (au gap d c den num s m scale : ℤ) → pos 1 ≤ℤ scale → m *ℤ gap ≡ scale → s ≡ (au *ℤ d) -ℤ (gap *ℤ c)

@@ -8,4 +8,5 @@ pub mod Origami
 pub mod Names
 pub mod Limits
 pub mod PlayLaws
+pub mod OptimalityLaws
 pub mod OrigamiLaws

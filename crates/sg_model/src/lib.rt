@@ -7,6 +7,7 @@
 mod fault;
 mod kind;
 mod level;
+mod optimality_laws;
 mod origami_laws;
 mod play_laws;
 mod ticket;
@@ -14,6 +15,7 @@ mod ticket;
 pub use fault::{GameFault, Place};
 pub use kind::Kind;
 pub use level::Level;
+pub use optimality_laws::{bound_is_above, optimal_is_bound, optimal_is_least_bound, optimal_value_is_one, scaling_keeps};
 pub use origami_laws::{
     level_is_best, level_is_least, level_is_reached, level_tickets_are_optimal, water_bounds,
 };
