@@ -8,3 +8,6 @@ pub mod Forms
 pub mod Best
 pub mod Bound
 pub mod Optimal
+pub mod Tickets
+pub mod Values
+pub mod Scaled

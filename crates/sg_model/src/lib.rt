@@ -1,17 +1,23 @@
 //! What the product's words mean: games, commitments, best responses, optimal, upper bounds and water levels.
 //!
 //! The definitions stand in `specs/`, one module a subject, and every other crate cites them. The functions below
-//! carry laws about the definitions: each has an empty body, and its contract is a statement of `specs/Laws.antt`.
+//! carry laws about the definitions: each has an empty body, and its contract is a statement of `specs/PlayLaws.antt` or `specs/OrigamiLaws.antt`.
 #![tactic(auto)]
 
 mod fault;
 mod kind;
-mod laws;
 mod level;
+mod optimality_laws;
+mod origami_laws;
+mod play_laws;
 mod ticket;
 
 pub use fault::{GameFault, Place};
 pub use kind::Kind;
-pub use laws::{covers_are_few, level_is_reached, water_bounds};
 pub use level::Level;
+pub use optimality_laws::{bound_is_above, optimal_is_bound, optimal_is_least_bound, optimal_value_is_one, scaling_keeps};
+pub use origami_laws::{
+    level_is_best, level_is_least, level_is_reached, level_tickets_are_optimal, water_bounds,
+};
+pub use play_laws::covers_are_few;
 pub use ticket::{Play, Ticket};
