@@ -1,6 +1,8 @@
 -- Reduced forms of fractions: each quotient has one, and no other.
-use Rattle.std.proofs.Common.{◌≡◌, ◌≢◌, ℕ, zero, suc, ◌+◌, ◌*◌, ◌/◌, ◌<◌, ◌≤◌, Bool, true, false, not, beq, lt_z, Option, Some, None, refl, ap, arith, sym, ◌∙◌, subst, List, [], ◌∷◌}
-use Rattle.std.specs.Prelude.{ℤ, pos, negsuc, neg_ℤ, ◌+ℤ◌, ◌-ℤ◌, ◌*ℤ◌, ◌<ℤ◌, ◌≤ℤ◌, unsigned_abs, IsTrue}
+use Rattle.std.proofs.Common.{◌≡◌, ◌≢◌, ℕ, zero, suc, ◌+◌, ◌*◌, ◌/◌, ◌<◌, ◌≤◌, Bool, true, false, not, Option, Some, None, refl, ap, arith, sym, ◌∙◌, subst, List, [], ◌∷◌}
+use Rattle.std.specs.Bool.{beq}
+use Rattle.std.specs.Int.Signed.{lt_z}
+use Rattle.std.specs.Prelude.{if◌then◌else◌, ℤ, pos, negsuc, neg_ℤ, ◌+ℤ◌, ◌-ℤ◌, ◌*ℤ◌, ◌<ℤ◌, ◌≤ℤ◌, unsigned_abs, IsTrue}
 use Rattle.std.specs.Int.{◌∣◌, IsGcd}
 use Rattle.std.proofs.lemmas.Int.{ints, unsigned_abs-mul}
 use Rattle.std.proofs.Math.Nat.{one-dvd, dvd-mul_left, mul-div_cancel', mul-dvd-mul_left, dvd_of_mul-dvd-mul_left}
@@ -56,7 +58,7 @@ signs_by (negsuc a) (negsuc b) s t e = omega (arith, ints, e)
 signs : (n d : ℤ) (s t : ℕ) → s * unsigned_abs d ≡ unsigned_abs n * t → signed (sign n d) s *ℤ d ≡ n *ℤ pos t
 signs n d s t e = rw (← is_negative-is n, ← is_negative-is d) (signs_by n d s t e)
 
-some_abs : (d : ℤ) → d ≢ pos 0 → 0 < unsigned_abs d
+pub some_abs : (d : ℤ) → d ≢ pos 0 → 0 < unsigned_abs d
 some_abs (pos zero) h = absurd (h refl)
 some_abs (pos (suc n)) h = omega arith
 some_abs (negsuc n) h = omega arith
