@@ -1,5 +1,5 @@
 -- Calls counted from 1, some of which are to fail.
-use Rattle.std.specs.Prelude.{ℕ, ◌+◌, ◌-◌, ◌^◌, List, Bool, ◌==◌, ◌||◌}
+use Rattle.std.specs.Prelude.{ℕ, ◌-◌, ◌^◌, List, Bool, ◌==◌, ◌||◌}
 use Rattle.std.specs.List.{list_any}
 
 -- The count of calls or that of faults stands at its last value.

@@ -1,5 +1,5 @@
 -- What a sink in memory took, and what a put into it takes and answers.
-use Rattle.std.specs.Prelude.{ℕ, ◌+◌, List, [], ◌++◌, length, take, Bool, not, ◌&&◌, ◌||◌, nat_le, if◌then◌else◌}
+use Rattle.std.specs.Prelude.{ℕ, ◌+◌, List, ◌++◌, length, take, Bool, not, ◌&&◌, ◌||◌, nat_le, if◌then◌else◌}
 use Rattle.sg_shelf.specs.Faults.{raised}
 use Rattle.sg_shelf.specs.Calls.{is_spent, is_to_fail}
 

@@ -1,6 +1,6 @@
 //! A shelf in memory.
 
-ghost use Rattle.std.specs.Prelude.{◌≡◌, Ok, IfOk, IfErr, Some, option_copied};
+ghost use Rattle.std.specs.Prelude.{◌≡◌, ◌-◌, ◌^◌, ◌≤◌, Ok, IfOk, OnOk, IfErr, Some, option_copied};
 ghost use Rattle.sg_shelf.specs.Files.{held};
 ghost use Rattle.sg_shelf.specs.NamedFiles.{files_of};
 ghost use Rattle.sg_shelf.specs.ShelfState.{ShelfState, read_answer, after_read, ReadFails};
@@ -73,6 +73,9 @@ impl Shelf for MemShelf {
     ghost faults = { λ shelf. shelf.faults };
 
     fn read(&mut self, alloc: Global, name: &str, limit: usize) -> Result<Vec<u8>, ShelfError>
+        ensures count { self.old.faults ≤ self.new.faults }
+        ensures last_count { self.new.faults ≤ 2 ^ 64 - 1 }
+
         ensures answer { IfOk result (λ bytes. read_answer self.old name.now limit ≡ Ok bytes.items) }
         ensures after { OnOk result (self.new ≡ after_read self.old) }
         ensures fails { IfErr result (ReadFails self.old self.new name.now limit) }

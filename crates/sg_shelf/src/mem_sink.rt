@@ -1,6 +1,6 @@
 //! A sink in memory.
 
-ghost use Rattle.std.specs.Prelude.{◌≡◌, [], ◌-◌, ◌^◌, ◌≤◌, IfOk, OnOk, OnErr, Some, is_err};
+ghost use Rattle.std.specs.Prelude.{◌≡◌, [], ◌-◌, ◌^◌, ◌≤◌, IfOk, OnOk, OnErr, Some, is_err, take, if◌then◌else◌};
 ghost use Rattle.sg_shelf.specs.Faults.{HasRisen};
 ghost use Rattle.sg_shelf.specs.Taken.{Takes, TakesFront};
 ghost use Rattle.sg_shelf.specs.SinkState.{put_fails, after_put};
@@ -25,7 +25,7 @@ pub struct MemSink {
 }
 
 impl Model for MemSink {
-    ghost use Rattle.std.specs.Prelude.{◌≤◌, vec_capacity};
+    ghost use Rattle.std.specs.Prelude.{◌≤◌, vec_capacity, vec_len};
     ghost use Rattle.sg_shelf.specs.SinkState.{SinkState};
 
     ghost Value = { SinkState };
@@ -38,7 +38,7 @@ impl Model for MemSink {
       faults = sink.faults;
     } };
 
-    ghost invariant = { λ sink. 16777216 ≤ vec_capacity sink.bytes };
+    ghost invariant = { λ sink. (16777216 ≤ vec_capacity sink.bytes) × (vec_len sink.bytes ≤ 16777216) };
 }
 
 impl MemSink {
@@ -63,11 +63,11 @@ impl MemSink {
     }
 }
 
-// The first bytes of the piece, or all of a shorter one.
-fn front(piece: &[u8], keep: usize) -> &[u8]
-    ensures { result.now ≡ take keep piece.now }
+// The first bytes of the piece, or all of a shorter one, where the put is to fail, and else the piece.
+fn due(piece: &[u8], fails: bool, keep: usize) -> &[u8]
+    ensures { result.now ≡ (if fails then take keep piece.now else piece.now) }
 {
-    if keep < piece.len() {
+    if fails && keep < piece.len() {
         &piece[..keep]
     } else {
         piece
@@ -80,17 +80,16 @@ impl Sink for MemSink {
     ghost faults = { λ sink. sink.faults };
 
     fn put(&mut self, piece: &[u8]) -> Result<(), SinkError>
+        ensures count { self.old.faults ≤ self.new.faults }
+        ensures last_count { self.new.faults ≤ 2 ^ 64 - 1 }
+
         ensures fails { is_err result ≡ put_fails self.old piece.now }
         ensures after { self.new ≡ after_put self.old piece.now }
     {
         let is_spent = self.calls == u64::MAX || self.faults == u64::MAX;
         self.calls = self.calls.saturating_add(1);
         let fails = self.fails.contains(&self.calls);
-        let due = if fails {
-            front(piece, self.keep)
-        } else {
-            piece
-        };
+        let due = due(piece, fails, self.keep);
         if is_spent || due.len() > RESERVE - self.bytes.len() {
             self.faults = self.faults.saturating_add(1);
             return Err(SinkError::Failed);
