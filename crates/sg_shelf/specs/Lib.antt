@@ -6,3 +6,4 @@ pub mod Calls
 pub mod NamedFiles
 pub mod ShelfState
 pub mod SinkState
+pub mod WriterState

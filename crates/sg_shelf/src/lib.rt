@@ -8,10 +8,12 @@
 
 mod mem_shelf;
 mod mem_sink;
+mod out_sink;
 mod shelf;
 mod sink;
 
 pub use mem_shelf::{MemShelf, NamedBytes};
 pub use mem_sink::MemSink;
+pub use out_sink::OutSink;
 pub use shelf::{Shelf, ShelfError};
 pub use sink::{Sink, SinkError};
