@@ -6,12 +6,15 @@
 //! of content.
 #![tactic(auto)]
 
+mod faults;
+mod file_shelf;
 mod mem_shelf;
 mod mem_sink;
 mod out_sink;
 mod shelf;
 mod sink;
 
+pub use file_shelf::FileShelf;
 pub use mem_shelf::{MemShelf, NamedBytes};
 pub use mem_sink::MemSink;
 pub use out_sink::OutSink;

@@ -1,11 +1,12 @@
 //! A sink over a writer of std.
 
-ghost use Rattle.std.specs.Prelude.{◌≡◌, ◌-◌, ◌^◌, ◌≤◌, None, OnOk, OnErr, if◌then◌else◌};
+ghost use Rattle.std.specs.Prelude.{◌≡◌, ◌-◌, ◌^◌, ◌≤◌, None, OnOk, OnErr};
 ghost use Rattle.std.specs.Bool.{OnTrue};
 ghost use Rattle.std.specs.Io.KnownBytes.{Appends};
-ghost use Rattle.sg_shelf.specs.Faults.{raised, HasRisen};
+ghost use Rattle.sg_shelf.specs.Faults.{HasRisen};
 ghost use Rattle.sg_shelf.specs.WriterState.{AppendsFront};
 
+use crate::faults::raised_unless;
 use crate::sink::{Sink, SinkError};
 use std::io::Write;
 use std::marker::Model;
@@ -59,17 +60,6 @@ impl<W: Write> Sink for OutSink<W> {
         } else {
             Err(SinkError::Failed)
         }
-    }
-}
-
-// The count of faults after a step that went well or not.
-fn raised_unless(is_fine: bool, faults: u64) -> u64
-    ensures { result ≡ (if is_fine then faults else raised faults) }
-{
-    if is_fine {
-        faults
-    } else {
-        faults.saturating_add(1)
     }
 }
 
