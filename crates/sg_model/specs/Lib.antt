@@ -8,7 +8,6 @@ pub mod Origami
 pub mod Names
 pub mod Limits
 pub mod ReportText
-pub mod Laws
 pub mod PlayLaws
 pub mod OptimalityLaws
 pub mod OrigamiLaws

@@ -1,0 +1,148 @@
+//! A shelf over the files of std.
+
+ghost use Rattle.std.specs.Prelude.{◌≡◌, ◌+◌, ◌*◌, ◌-◌, ◌^◌, ◌<◌, ◌≤◌, ◌++◌, [], min, max, length, take, ℕ, None, IfOk, IfErr, OnOk, IsErrOf, vec_len, vec_capacity};
+ghost use Rattle.std.specs.Io.KnownBytes.{Consumes, IsAtEnd};
+ghost use Rattle.sg_shelf.specs.ShelfErrors.{IsFailedOrMemory, count_after};
+ghost use Rattle.sg_shelf.specs.declared.shelf.ShelfError.TheVariants.{TooLong};
+
+use crate::faults::raised_unless;
+use crate::shelf::{Shelf, ShelfError};
+use std::alloc::{AllocError, Global};
+use std::fs::File;
+use std::io;
+use std::io::Read;
+use std::marker::Model;
+use std::rt::Files;
+
+/// The most bytes that one read takes.
+const CHUNK: usize = 65_536;
+
+/// Reads the files of std, where a name is a path. A file that doesn't open and a read that fails, also one
+/// that a signal interrupts, are a fault each. Clauses see it as its count of faults.
+#[derive(Drop)]
+pub struct FileShelf<R: Files> {
+    files: R,
+    faults: u64,
+}
+
+impl<R: Files> Model for FileShelf<R> {
+    ghost use Rattle.std.specs.Prelude.{ℕ};
+
+    ghost Value = { ℕ };
+
+    ghost view = { λ shelf. shelf.faults };
+}
+
+impl<R: Files> FileShelf<R> {
+    /// A shelf over these files, the runtime or a reference to it, with no fault.
+    pub fn new(files: R) -> FileShelf<R>
+        ensures { result ≡ 0 }
+    {
+        FileShelf { files, faults: 0 }
+    }
+}
+
+impl<R: Files> Shelf for FileShelf<R> {
+    ghost files = { λ shelf. None };
+
+    ghost faults = { λ shelf. shelf };
+
+    fn read(&mut self, alloc: Global, name: &str, limit: usize) -> Result<Vec<u8>, ShelfError> {
+        let answer = read_file(alloc, &self.files, name, limit);
+        let is_fine = !matches!(answer, Err(ShelfError::Failed));
+        self.faults = raised_unless(is_fine, self.faults);
+        answer
+    }
+}
+
+// Opens the file and reads it.
+fn read_file<R: Files>(
+    alloc: Global,
+    files: &R,
+    name: &str,
+    limit: usize,
+) -> Result<Vec<u8>, ShelfError>
+    requires { limit ≤ 536870912 }
+    ensures within { IfOk result (λ bytes. vec_len bytes ≤ limit) }
+    ensures long { (seen : ℕ) → IsErrOf result (TooLong seen) → limit < seen }
+{
+    match File::open(files, name) {
+        Ok(mut file) => whole_file(alloc, &mut file, limit),
+        Err(_) => Err(ShelfError::Failed),
+    }
+}
+
+// The bytes that the file has left, where these are no more than the limit.
+fn whole_file<F: Read>(alloc: Global, file: &mut F, limit: usize) -> Result<Vec<u8>, ShelfError>
+    requires { limit ≤ 536870912 }
+    ensures within { IfOk result (λ bytes. vec_len bytes ≤ limit) }
+    ensures bytes { IfOk result (λ bytes. Consumes (F.remaining file.old) (F.remaining file.new) bytes.items) }
+    ensures end { OnOk result (IsAtEnd (F.remaining file.new)) }
+    ensures long { (seen : ℕ) → IsErrOf result (TooLong seen) → limit < seen }
+{
+    let bytes = first_bytes(alloc, file, limit + 1)?;
+    if bytes.len() > limit {
+        return Err(ShelfError::TooLong {
+            seen: bytes.len() as u64,
+        });
+    }
+    Ok(bytes)
+}
+
+// The bytes that the file has left, or the first of them where there are more than `most`.
+fn first_bytes<F: Read>(alloc: Global, file: &mut F, most: usize) -> Result<Vec<u8>, ShelfError>
+    requires { most ≤ 536870913 }
+    ensures within { IfOk result (λ bytes. vec_len bytes ≤ most) }
+    ensures bytes { IfOk result (λ bytes. Consumes (F.remaining file.old) (F.remaining file.new) bytes.items) }
+    ensures end { IfOk result (λ bytes. vec_len bytes < most → IsAtEnd (F.remaining file.new)) }
+    ensures err { IfErr result IsFailedOrMemory }
+{
+    let mut bytes = Vec::new(alloc);
+    let mut chunk = [0u8; CHUNK];
+    while bytes.len() < most {
+        let room = CHUNK.min(most - bytes.len());
+        let count = match read_front(file, &mut chunk, room) {
+            Ok(0) => return Ok(bytes),
+            Ok(count) => count,
+            Err(_) => return Err(ShelfError::Failed),
+        };
+        if add(&mut bytes, &chunk[..count], most).is_err() {
+            return Err(ShelfError::Memory);
+        }
+    }
+    Ok(bytes)
+}
+
+// One read of at most `room` bytes, into the front of the chunk.
+fn read_front<F: Read>(file: &mut F, chunk: &mut [u8], room: usize) -> io::Result<usize>
+    requires { room ≤ length chunk.old }
+    ensures within { IfOk result (λ count. count ≤ room) }
+    ensures bytes { IfOk result (λ count. Consumes (F.remaining file.old) (F.remaining file.new) (take count chunk.new)) }
+    ensures end { IfOk result (λ count. count ≡ 0 → 0 < room → IsAtEnd (F.remaining file.new)) }
+{
+    file.read(&mut chunk[..room])
+}
+
+// Adds the piece.
+fn add(bytes: &mut Vec<u8>, piece: &[u8], most: usize) -> Result<(), AllocError>
+    requires { vec_len bytes.old + length piece.now ≤ most }
+    ensures { OnOk result (bytes.new.items ≡ bytes.old.items ++ piece.now) }
+{
+    make_room(bytes, bytes.len() + piece.len(), most)?;
+    bytes.extend_from_slice(piece)
+}
+
+// Room for so many bytes: at least twice the room of before, but never more than `most`.
+fn make_room(bytes: &mut Vec<u8>, needed: usize, most: usize) -> Result<(), AllocError>
+    requires { needed ≤ most }
+    ensures items { bytes.new.items ≡ bytes.old.items }
+    ensures room { OnOk result (needed ≤ vec_capacity bytes.new) }
+    ensures doubled { vec_capacity bytes.old < needed → OnOk result (min most (2 * vec_capacity bytes.old) ≤ vec_capacity bytes.new) }
+    ensures most { vec_capacity bytes.new ≤ max (vec_capacity bytes.old) most }
+{
+    if needed <= bytes.capacity() {
+        return Ok(());
+    }
+    let wanted = bytes.capacity().saturating_mul(2).max(needed).min(most);
+    bytes.reserve_exact(wanted - bytes.len())
+}
