@@ -1,7 +1,13 @@
 -- The tickets of one patrol.
-use Rattle.std.specs.Prelude.{ℕ, ◌+◌, ◌<◌, ◌^◌, List, [], ◌∷◌, ◌++◌, length, ℤ, pos, ◌-ℤ◌, ◌≤ℤ◌, ◌<ℤ◌, int_lt, All, if◌then◌else◌}
+use Rattle.std.specs.Prelude.{◌≡◌, ℕ, ◌+◌, ◌<◌, ◌^◌, List, [], ◌∷◌, ◌++◌, length, ℤ, pos, ◌-ℤ◌, ◌≤ℤ◌, ◌<ℤ◌, int_lt, All, Some, if◌then◌else◌}
+use Rattle.std.specs.Ordering.{nat_cmp}
+use Rattle.std.specs.Cmp.Lexicographic.{slice_cmp}
+use Rattle.std.specs.declared.cmp.Ordering.TheVariants.{Less}
 use Rattle.sg_model.specs.declared.ticket.Ticket.{Ticket}
 use Rattle.sg_model.specs.Sums.{total}
+use Rattle.sg_model.specs.declared.kind.Kind.TheVariants.{Security}
+use Rattle.sg_model.specs.Games.{Game}
+use Rattle.sg_model.specs.Commitments.{IsCommitment, weight_total}
 
 -- counts of tickets, one for each target, that one patrol can serve out of so many tickets
 pub record IsSpread (counts : List ℤ) (tickets : ℤ) : Type 0 where
@@ -27,3 +33,11 @@ covering_tickets a (c ∷ cs) = some_ticket a c ++ covering_tickets (a + 1) cs
 -- an idle ticket for what is left of the total, then those that cover
 abbrev pub spread : List ℤ → ℤ → List Ticket
 spread counts tickets = some_ticket 0 (tickets -ℤ total (λ c. c) counts) ++ covering_tickets 1 counts
+
+-- a play stands before another, in the order of lists of choices
+abbrev pub IsBefore : Ticket → Ticket → Type 0
+IsBefore x y = slice_cmp nat_cmp x.play.code y.play.code ≡ Less
+
+abbrev pub SpreadCovers : Type 0
+SpreadCovers = (g : Game) → g.kind ≡ Security → g.patrols ≡ Some 1 → (counts : List ℤ) (tickets : ℤ) → IsSpread counts tickets → length counts ≡ length g.goals
+    → IsCommitment g (spread counts tickets)

@@ -1,0 +1,97 @@
+//! Why a run does not do what the words ask for.
+
+ghost use Rattle.std.specs.Prelude.{◌≡◌, ◌++◌, IfOk, codes, decimal, string_bytes};
+ghost use Rattle.sg_cli.specs.Refusals.{status_of, line_of, place_text};
+ghost use Rattle.sg_cli.specs.declared.refusal.Refusal.TheVariants.{Memory};
+
+use sg_model::{GameFault, Place};
+use std::alloc::{AllocError, AllocFailed, Global};
+
+/// Why a run does not do what the words ask for. One refusal decides the status and the line.
+#[derive(Clone, Copy, Debug, PartialEq, Eq)]
+pub enum Refusal {
+    /// The words give no command.
+    Words,
+    /// The game file was not read.
+    GameNotRead,
+    /// The game file has too many bytes.
+    GameTooLong,
+    /// The bytes are no game file, for this reason.
+    GameRefused(GameFault),
+    /// The game is of a kind that is not solved yet.
+    NotYet,
+    /// The report was not written whole.
+    NotWritten,
+    /// There was not enough memory.
+    Memory,
+}
+
+impl From<AllocError> for Refusal {
+    ghost from_gives = { λ _ e. e ≡ Memory };
+
+    fn from(_e: AllocError) -> Refusal {
+        Refusal::Memory
+    }
+}
+
+impl<T: Drop> From<AllocFailed<T>> for Refusal {
+    ghost from_gives = { λ _ e. e ≡ Memory };
+
+    fn from(_e: AllocFailed<T>) -> Refusal {
+        Refusal::Memory
+    }
+}
+
+/// Where a game file breaks a rule.
+fn place_name(alloc: Global, place: Place) -> Result<String, AllocError>
+    ensures { IfOk result (λ text. string_bytes text ≡ place_text place) }
+{
+    match place {
+        Place::Document => String::from_str(alloc, "document"),
+        Place::Target(n) => format!(in alloc; "target {n}"),
+        Place::Row(n) => format!(in alloc; "row {n}"),
+        Place::Schedule(n) => format!(in alloc; "schedule {n}"),
+        Place::Resource(n) => format!(in alloc; "resource {n}"),
+        Place::Attacker(n) => format!(in alloc; "type {n}"),
+    }
+}
+
+/// The line that tells that a game file is refused.
+fn game_line(alloc: Global, fault: GameFault) -> Result<String, AllocError>
+    ensures { IfOk result (λ text. string_bytes text ≡ line_of (Refusal.GameRefused fault)) }
+{
+    let place = place_name(alloc, fault.place)?;
+    format!(in alloc; "game refused {} at {}\n", fault.reason, place)
+}
+
+impl Refusal {
+    /// The status with which the run ends.
+    pub fn status(self) -> u8
+        ensures { result ≡ status_of self }
+    {
+        match self {
+            Refusal::Words => 2,
+            Refusal::NotYet => 3,
+            Refusal::GameNotRead => 4,
+            Refusal::GameTooLong => 5,
+            Refusal::GameRefused(_) => 6,
+            Refusal::NotWritten => 9,
+            Refusal::Memory => 11,
+        }
+    }
+
+    /// The line that tells it, with its newline.
+    pub fn line(self, alloc: Global) -> Result<String, AllocError>
+        ensures { IfOk result (λ text. string_bytes text ≡ line_of self) }
+    {
+        match self {
+            Refusal::Words => String::from_str(alloc, "words refused\n"),
+            Refusal::NotYet => String::from_str(alloc, "not yet\n"),
+            Refusal::GameNotRead => String::from_str(alloc, "game not read\n"),
+            Refusal::GameTooLong => String::from_str(alloc, "game too long\n"),
+            Refusal::GameRefused(fault) => game_line(alloc, fault),
+            Refusal::NotWritten => String::from_str(alloc, "write failed\n"),
+            Refusal::Memory => String::from_str(alloc, "want of memory\n"),
+        }
+    }
+}
