@@ -26,8 +26,8 @@ fn is_joint(game: &Game, code: &[u16]) -> bool
     if code.len() != game.resources() as usize {
         return false;
     }
-    for (k, choice) in code.iter().enumerate() {
-        if *choice as usize > game.resource_schedules(k as u16 + 1).len() {
+    for k in 0..game.resources() {
+        if code[k as usize] as usize > game.resource_schedules(k + 1).len() {
             return false;
         }
     }
@@ -72,8 +72,8 @@ pub fn covers(game: &Game, code: &[u16], target: u16) -> bool
     requires known { IsGoalOf game.now target }
     ensures { result ≡ covers game.now code.now target }
 {
-    for (k, choice) in code.iter().enumerate() {
-        if choice_holds(game, k as u16 + 1, *choice, target) {
+    for k in 0..game.resources() {
+        if choice_holds(game, k + 1, code[k as usize], target) {
             return true;
         }
     }
@@ -140,5 +140,6 @@ pub fn is_origami(game: &Game) -> bool
     ensures scaled { IsTrue result ↔ (game.now.scale ≢ pos 0) }
     ensures origami { IsTrue result ↔ ((patrols : ℕ) × IsOrigami game.now patrols) }
 {
+    game.promises();
     game.scale() != 0
 }
