@@ -135,11 +135,18 @@ pub fn prior_total(game: &Game) -> i64
     total
 }
 
+/// Whether a scale is declared.
+fn has_scale(game: &Game) -> bool
+    ensures { IsTrue result ↔ (game.now.scale ≢ pos 0) }
+{
+    game.scale() != 0
+}
+
 /// Whether the game has identical patrols, one attacker of prior 1, and a scale: exactly where a scale is declared.
 pub fn is_origami(game: &Game) -> bool
     ensures scaled { IsTrue result ↔ (game.now.scale ≢ pos 0) }
     ensures origami { IsTrue result ↔ ((patrols : ℕ) × IsOrigami game.now patrols) }
 {
     game.promises();
-    game.scale() != 0
+    has_scale(game)
 }
