@@ -2,12 +2,15 @@
 #![tactic(auto)]
 
 mod counts;
+mod entries;
+mod fault;
 mod game;
 mod lists;
 mod names;
 mod parts;
 mod play;
 
+pub use fault::BuildFault;
 pub use game::Game;
 pub use parts::{ListParts, Parts, TypeParts};
 pub use play::{covers, is_origami, legal, pay_a, pay_d, prior_total};
