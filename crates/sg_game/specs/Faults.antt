@@ -93,8 +93,8 @@ pays_fault Security goals place x = unless (is_table goals 4 x.payoffs.items) 9 
 pays_fault Matrix goals place x = tables_fault goals place x
 
 -- the first fault of a type but for its name
-abbrev pub type_fault : Kind → ℕ → ℕ → Place → TypeParts → Option GameFault
-type_fault kind prior_limit goals place x = unless (is_within (pos 1) (pos prior_limit) x.prior) 9 place orelse pays_fault kind goals place x
+abbrev pub type_fault : Kind → ℤ → ℕ → Place → TypeParts → Option GameFault
+type_fault kind prior_limit goals place x = unless (is_within (pos 1) prior_limit x.prior) 9 place orelse pays_fault kind goals place x
 
 -- where target or row n stands
 abbrev pub goal_place : Kind → ℕ → Place
@@ -113,6 +113,18 @@ goals_fault p =
     orelse unless (nat_le (length p.goals.items) (goal_limit p.kind (is_some p.scale))) 10 Document
     orelse names_fault (goal_place p.kind) p.goals.items
 
+-- how great a prior may be
+abbrev pub prior_limit : Bool → ℤ
+prior_limit is_scaled = if is_scaled then pos 1 else pos (2 ^ 20)
+
+-- how many types there may be
+abbrev pub type_limit : Bool → ℕ
+type_limit is_scaled = if is_scaled then 1 else 8
+
+-- how many patrols there may be
+abbrev pub patrol_limit : Bool → ℤ
+patrol_limit is_scaled = if is_scaled then pos 200 else pos 32
+
 -- a number out of range, where there is one
 abbrev pub option_fault : ℤ → ℤ → Option ℤ → Option GameFault
 option_fault low high None = None
@@ -122,14 +134,14 @@ option_fault low high (Some z) = unless (is_within low high z) 9 Document
 unfoldable pub numbers_fault : Parts → Option GameFault
 numbers_fault p =
     option_fault (pos 1) (pos (2 ^ 32)) p.scale
-    orelse option_fault (pos 0) (pos (if is_some p.scale then 200 else 32)) p.patrols
+    orelse option_fault (pos 0) (patrol_limit (is_some p.scale)) p.patrols
 
 -- the first fault of the types: none of them, too many, or one of them
 unfoldable pub types_fault : Parts → Option GameFault
 types_fault p =
     unless (nat_le 1 (length p.types.items)) 6 Document
-    orelse unless (nat_le (length p.types.items) (if is_some p.scale then 1 else 8)) 10 Document
-    orelse entries_fault (λ (x : TypeParts). string_bytes x.name) (type_fault p.kind (if is_some p.scale then 1 else 2 ^ 20) (length p.goals.items)) Attacker [] p.types.items
+    orelse unless (nat_le (length p.types.items) (type_limit (is_some p.scale))) 10 Document
+    orelse entries_fault (λ (x : TypeParts). string_bytes x.name) (type_fault p.kind (prior_limit (is_some p.scale)) (length p.goals.items)) Attacker [] p.types.items
 
 -- covering helps the defender and hurts the attacker, and the attacker's gap divides the scale
 abbrev pub is_scaled_payoff : ℤ → Payoff → Bool
@@ -145,13 +157,16 @@ whole_fault p =
     if is_some p.scale then unless (is_scaled_game (game_of p)) 11 (Attacker 1)
     else unless (nat_le (program_rows (game_of p)) 1536) 10 Document
 
--- the first rule that the parts break, in the order of a game file
-unfoldable pub fault_of : Parts → Option GameFault
-fault_of p =
+-- the first fault of the fields, one after the other
+unfoldable pub fields_fault : Parts → Option GameFault
+fields_fault p =
     unless (is_none p.scale || is_some p.patrols) 3 Document
     orelse goals_fault p
     orelse numbers_fault p
     orelse lists_fault (length p.goals.items) 500 200 Schedule p.schedules.items
     orelse lists_fault (length p.schedules.items) 32 500 Resource p.resources.items
     orelse types_fault p
-    orelse whole_fault p
+
+-- the first rule that the parts break, in the order of a game file
+unfoldable pub fault_of : Parts → Option GameFault
+fault_of p = fields_fault p orelse whole_fault p

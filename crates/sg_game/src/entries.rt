@@ -83,7 +83,7 @@ fn is_spelled(text: &str) -> bool
 }
 
 /// Tests a name, and adds it to the names seen.
-fn take_name(
+pub(crate) fn take_name(
     alloc: Global,
     seen: &mut BTreeSet<String>,
     place: Place,

@@ -4,6 +4,7 @@
 mod counts;
 mod entries;
 mod fault;
+mod fields;
 mod game;
 mod lists;
 mod names;
