@@ -1,1 +1,6 @@
 pub mod Seen
+pub mod Counts
+pub mod Stored
+pub mod Faults
+pub mod Building
+pub mod Entries

@@ -1,0 +1,4 @@
+pub mod Promises
+pub mod Patrols
+pub mod Plays
+pub mod Among
