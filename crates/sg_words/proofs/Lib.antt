@@ -1,1 +1,5 @@
-
+pub mod Marks
+pub mod Leaf
+pub mod Solve
+pub mod Top
+pub mod Given

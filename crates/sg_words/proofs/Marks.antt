@@ -1,0 +1,63 @@
+-- Words before and after the first `--`, word by word.
+use Rattle.std.proofs.Common.{◌≡◌, ◌∙◌, ℕ, Bool, true, false, cond, not, List, [], ◌∷◌, ◌++◌, All, Option, Some, None, refl, sym, ap, take, drop, arith}
+use Rattle.std.specs.Prelude.{◌||◌, ◌+◌}
+use Rattle.std.specs.List.{list_any, before_first, after_first, position_or_len, prefix_len}
+use Rattle.std.proofs.lemmas.Bool.{true≢false}
+use Rattle.std.proofs.lemmas.List.Elements.{All-nil, All-cons}
+use Rattle.clap.specs.Lexer.{long_of, short_of}
+use Rattle.sg_words.specs.Words.{Text, is_mark, begins_with_hyphen, has_stray, positional_words}
+
+-- ---- the first `--`
+
+before-mark : (word : Text) (words : List Text) → is_mark word ≡ true → before_first is_mark (word ∷ words) ≡ []
+before-mark word words e = rw e refl
+
+after-mark : (word : Text) (words : List Text) → is_mark word ≡ true → after_first is_mark (word ∷ words) ≡ words
+after-mark word words e = rw e refl
+
+pub before-word : (word : Text) (words : List Text) → is_mark word ≡ false → before_first is_mark (word ∷ words) ≡ word ∷ before_first is_mark words
+before-word word words e = rw e (grind arith)
+
+pub after-word : (word : Text) (words : List Text) → is_mark word ≡ false → after_first is_mark (word ∷ words) ≡ after_first is_mark words
+after-word word words e = rw e (grind arith)
+
+-- ---- positional and stray words
+
+pub positional_words-mark : (word : Text) (words : List Text) → is_mark word ≡ true → positional_words (word ∷ words) ≡ words
+positional_words-mark word words e = rw (before-mark word words e, after-mark word words e) refl
+
+pub positional_words-word : (word : Text) (words : List Text) → is_mark word ≡ false → positional_words (word ∷ words) ≡ word ∷ positional_words words
+positional_words-word word words e = rw (before-word word words e, after-word word words e) refl
+
+pub has_stray-mark : (word : Text) (words : List Text) → is_mark word ≡ true → has_stray (word ∷ words) ≡ false
+has_stray-mark word words e = ap (list_any begins_with_hyphen) (before-mark word words e)
+
+pub has_stray-word : (word : Text) (words : List Text) → is_mark word ≡ false → has_stray (word ∷ words) ≡ (begins_with_hyphen word || has_stray words)
+has_stray-word word words e = ap (list_any begins_with_hyphen) (before-word word words e)
+
+or_parts : (a b : Bool) → (a || b) ≡ false → (a ≡ false) × (b ≡ false)
+or_parts true b h = absurd (true≢false h)
+or_parts false b h = (refl, h)
+
+pub stray_parts : (word : Text) (words : List Text) → has_stray (word ∷ words) ≡ false → is_mark word ≡ false → (begins_with_hyphen word ≡ false) × (has_stray words ≡ false)
+stray_parts word words h e = or_parts (begins_with_hyphen word) (has_stray words) (sym (has_stray-word word words e) ∙ h)
+
+pub All-unhyphened : (words : List Text) → list_any begins_with_hyphen words ≡ false → All (λ word. begins_with_hyphen word ≡ false) words
+All-unhyphened [] h = All-nil (λ word. begins_with_hyphen word ≡ false)
+All-unhyphened (word ∷ words) h =
+    let parts = or_parts (begins_with_hyphen word) (list_any begins_with_hyphen words) h in
+    All-cons (λ word. begins_with_hyphen word ≡ false) word words parts.0 (All-unhyphened words parts.1)
+
+-- ---- how a word without a hyphen looks
+
+pub is_mark-unhyphened : (word : Text) → begins_with_hyphen word ≡ false → is_mark word ≡ false
+is_mark-unhyphened [] e = refl
+is_mark-unhyphened (byte ∷ bytes) e = rw e refl
+
+pub long_of-unhyphened : (word : Text) → begins_with_hyphen word ≡ false → long_of word ≡ None
+long_of-unhyphened [] e = refl
+long_of-unhyphened (byte ∷ bytes) e = rw e refl
+
+pub short_of-unhyphened : (word : Text) → begins_with_hyphen word ≡ false → short_of word ≡ None
+short_of-unhyphened [] e = refl
+short_of-unhyphened (byte ∷ bytes) e = rw e refl
