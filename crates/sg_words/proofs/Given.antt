@@ -1,6 +1,6 @@
 -- clap and the definition agree on the command of the words; reading is writing turned round.
 use Rattle.std.proofs.Common.{◌≡◌, ◌≢◌, ◌∙◌, Bool, true, false, cond, List, [], ◌∷◌, ◌++◌, All, Option, Some, None, codes, refl, sym, ap, subst, inl, inr, arith}
-use Rattle.std.specs.Prelude.{◌⊎◌, ◌||◌, bytes_eq, if◌then◌else◌}
+use Rattle.std.specs.Prelude.{◌⊎◌, ◌↔◌, ◌||◌, bytes_eq, if◌then◌else◌, option_map, IsNone}
 use Rattle.std.specs.List.{before_first}
 use Rattle.std.proofs.lemmas.Bool.{cases_Bool, true≢false, false≢true}
 use Rattle.std.proofs.lemmas.List.Folds.{list_any_none}
@@ -13,7 +13,8 @@ use Rattle.clap.specs.declared.error.kind.ErrorKind.{ErrorKind}
 use Rattle.clap.specs.declared.error.kind.ErrorKind.TheVariants.{UnknownArgument, InvalidSubcommand, OutOfMemory}
 use Rattle.clap.proofs.OnLiterals.{clap_on_literals}
 use Rattle.sg_words.specs.Words.{Text, is_mark, begins_with_hyphen, has_stray, positional_words}
-use Rattle.sg_words.specs.Commands.{Asked, solve, Gives, WordsGive, name_of, positionals_of, with_one, asked_by, command_given}
+use Rattle.sg_words.specs.Commands.{Asked, solve, Gives, WordsGive, name_of, positionals_of, with_one, asked_by, command_given, asked_of}
+use Rattle.sg_words.specs.declared.command.Command.{Command}
 use Rattle.sg_words.specs.Line.{line, command_found}
 use Rattle.sg_words.proofs.Marks.{has_stray-mark, has_stray-word, stray_parts, All-unhyphened}
 use Rattle.sg_words.proofs.Leaf.{Finds, finds, rest_fault, rest_rows}
@@ -170,7 +171,7 @@ none-failed words a kind plain same faults no_memory = go (faults (ap is_simple_
 
 one_positional : (words : List Text) (asked : Asked) → with_one solve words ≡ Some asked → (codes "solve" ≡ name_of asked) × (words ≡ positionals_of asked)
 one_positional [] asked e = absurd cc
-one_positional (game ∷ []) (solve name) e = (refl, ?)
+one_positional (game ∷ []) (solve name) e = (refl, cc)
 one_positional (game ∷ word ∷ words) asked e = absurd cc
 
 read_written : (words : List Text) (asked : Asked) → command_given words ≡ Some asked → Gives words asked
@@ -194,6 +195,15 @@ written_read words (solve game) gives =
     ap command_given gives.named
     ∙ command_given-plain (codes "solve") gives.others (list_any_none begins_with_hyphen (before_first is_mark gives.others) gives.unhyphened)
     ∙ ap (asked_by (codes "solve")) gives.positionals
+
+-- what is read is what is written
+pub given_exactly : (given : Option Asked) (words : List Text) → given ≡ command_given words → (asked : Asked) → (given ≡ Some asked) ↔ Gives words asked
+given_exactly given words e asked = ((λ is. read_written words asked (sym e ∙ is)), (λ gives. e ∙ written_read words asked gives))
+
+-- nothing is read exactly where nothing is written
+pub none_exactly : (command : Option Command) (words : List Text) → option_map asked_of command ≡ command_given words → IsNone command ↔ ((asked : Asked) → ¬ Gives words asked)
+none_exactly None words e = ((λ _ asked gives. let is = written_read words asked gives in cc), (λ _. refl))
+none_exactly (Some command) words e = ((λ none. absurd (true≢false none)), (λ never. absurd (never (asked_of command) (read_written words (asked_of command) (sym e)))))
 
 pub words_give : WordsGive
 words_give words asked = (read_written words asked, written_read words asked)

@@ -2,4 +2,5 @@ pub mod Marks
 pub mod Leaf
 pub mod Solve
 pub mod Top
+pub mod Found
 pub mod Given

@@ -1,5 +1,5 @@
 -- Words before and after the first `--`, word by word.
-use Rattle.std.proofs.Common.{◌≡◌, ◌∙◌, ℕ, Bool, true, false, cond, not, List, [], ◌∷◌, ◌++◌, All, Option, Some, None, refl, sym, ap, take, drop, arith}
+use Rattle.std.proofs.Common.{◌≡◌, ◌∙◌, ℕ, ◌<◌, Bool, true, false, cond, not, List, [], ◌∷◌, ◌++◌, length, map, slice_index_or, All, Option, Some, None, refl, sym, ap, take, drop, drop-cons, add-one, arith}
 use Rattle.std.specs.Prelude.{◌||◌, ◌+◌}
 use Rattle.std.specs.List.{list_any, before_first, after_first, position_or_len, prefix_len}
 use Rattle.std.proofs.lemmas.Bool.{true≢false}
@@ -61,3 +61,20 @@ long_of-unhyphened (byte ∷ bytes) e = rw e refl
 pub short_of-unhyphened : (word : Text) → begins_with_hyphen word ≡ false → short_of word ≡ None
 short_of-unhyphened [] e = refl
 short_of-unhyphened (byte ∷ bytes) e = rw e refl
+
+-- ---- a loop over words
+
+module _ {X : Type 0} (word_of : X → Text) (xs : List X) (i : ℕ) (x : X) (lt : i < length xs) (here : x ≡ slice_index_or xs i x) where
+  words_from : map word_of (drop i xs) ≡ word_of x ∷ map word_of (drop (i + 1) xs)
+  words_from =
+      let split : drop i xs ≡ slice_index_or xs i x ∷ drop (i + 1) xs = rw add-one (drop-cons xs i x lt) in
+      ap (map word_of) split ∙ ap (λ (y : X). word_of y ∷ map word_of (drop (i + 1) xs)) (sym here)
+
+  pub has_stray_at-mark : is_mark (word_of x) ≡ true → has_stray (map word_of (drop i xs)) ≡ false
+  has_stray_at-mark e = ap has_stray words_from ∙ has_stray-mark (word_of x) (map word_of (drop (i + 1) xs)) e
+
+  pub has_stray_at-hyphen : is_mark (word_of x) ≡ false → begins_with_hyphen (word_of x) ≡ true → has_stray (map word_of (drop i xs)) ≡ true
+  has_stray_at-hyphen e h = ap has_stray words_from ∙ has_stray-word (word_of x) (map word_of (drop (i + 1) xs)) e ∙ ap (λ b. b || has_stray (map word_of (drop (i + 1) xs))) h
+
+  pub has_stray_at-plain : is_mark (word_of x) ≡ false → begins_with_hyphen (word_of x) ≡ false → has_stray (map word_of (drop i xs)) ≡ has_stray (map word_of (drop (i + 1) xs))
+  has_stray_at-plain e h = ap has_stray words_from ∙ has_stray-word (word_of x) (map word_of (drop (i + 1) xs)) e ∙ ap (λ b. b || has_stray (map word_of (drop (i + 1) xs))) h
