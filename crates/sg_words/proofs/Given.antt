@@ -1,4 +1,4 @@
--- clap and the definition agree on the command of the words; reading is writing turned round.
+-- clap and the definition agree on the command of the words.
 use Rattle.std.proofs.Common.{◌≡◌, ◌≢◌, ◌∙◌, Bool, true, false, cond, List, [], ◌∷◌, ◌++◌, All, Option, Some, None, codes, refl, sym, ap, subst, inl, inr, arith}
 use Rattle.std.specs.Prelude.{◌⊎◌, ◌↔◌, ◌||◌, bytes_eq, if◌then◌else◌, option_map, IsNone}
 use Rattle.std.specs.List.{before_first}
@@ -12,66 +12,26 @@ use Rattle.clap.specs.Faults.{fault_of, is_simple_and_free}
 use Rattle.clap.specs.declared.error.kind.ErrorKind.{ErrorKind}
 use Rattle.clap.specs.declared.error.kind.ErrorKind.TheVariants.{UnknownArgument, InvalidSubcommand, OutOfMemory}
 use Rattle.clap.proofs.OnLiterals.{clap_on_literals}
-use Rattle.sg_words.specs.Words.{Text, is_mark, begins_with_hyphen, has_stray, positional_words}
+use Rattle.sg_words.specs.Words.{Text, is_end_of_options, begins_with_hyphen, has_stray, positional_words}
 use Rattle.sg_words.specs.Commands.{Asked, solve, Gives, WordsGive, name_of, positionals_of, with_one, asked_by, command_given, asked_of}
 use Rattle.sg_words.specs.declared.command.Command.{Command}
 use Rattle.sg_words.specs.Line.{line, command_found}
 use Rattle.sg_words.proofs.Marks.{has_stray-mark, has_stray-word, stray_parts, All-unhyphened}
-use Rattle.sg_words.proofs.Leaf.{Finds, finds, rest_fault, rest_rows}
-use Rattle.sg_words.proofs.Solve.{leaf, rows, stands, takes}
-use Rattle.sg_words.proofs.Top.{names, whole_fault, stopped_at, line_is_simple, line_is_free, fault_of-name, subcommand_of-name, fault_of-no_name, fault_of-no_words, fault_of-mark}
+use Rattle.sg_words.proofs.Solve.{solve_agrees}
+use Rattle.sg_words.proofs.Top.{Agrees, agrees_as, agrees_none, command_names, line_is_simple, line_is_free, fault_of-no_name, fault_of-no_words, fault_of-mark}
 
 -- ---- clap agrees with the definition
-
--- clap finds what is asked for, and where nothing is it has a fault
-abbrev pub Agrees : Option Asked → Kinds → Option (Text × List Row) → Type 0
-Agrees None kinds found = kinds ≡ [] → ⊥
-Agrees (Some asked) kinds found = (kinds ≡ []) × (command_found found ≡ Some asked)
-
-agrees_as : {a b : Option Asked} {k l : Kinds} {s t : Option (Text × List Row)} → a ≡ b → k ≡ l → s ≡ t → Agrees b l t → Agrees a k s
-agrees_as same_asked same_kinds same_found h = rw (same_asked, same_kinds, same_found) h
-
-agrees_none : (asked : Option Asked) (kinds : Kinds) (found : Option (Text × List Row)) → asked ≡ None → (kinds ≡ [] → ⊥) → Agrees asked kinds found
-agrees_none None kinds found e bad = bad
-agrees_none (Some asked) kinds found e bad = absurd cc
 
 no_fault : (kinds : Kinds) → kinds ≡ UnknownArgument ∷ InvalidSubcommand ∷ [] → kinds ≡ [] → ⊥
 no_fault kinds e none = cc
 
--- ---- `solve GAME`
-
-solve_agrees : (words : List Text) (kinds : Kinds) (found : List Row) → Finds 1 rows words kinds found → Agrees (with_one solve words) kinds (Some (codes "solve", found))
-unfolding clap_on_literals
-solve_agrees [] kinds found f = f.wrong (λ e. cc)
-solve_agrees (game ∷ []) kinds found f = let right = f.right refl in (right.0, rw right.1 refl)
-solve_agrees (game ∷ word ∷ words) kinds found f = f.wrong (λ e. absurd (omega arith))
-
-or_else-nil : (kinds : Kinds) → or_else kinds [] ≡ kinds
-or_else-nil [] = refl
-or_else-nil (x ∷ xs) = refl
-
-solve_whole : (words : List Text) → whole_fault [] (stopped_at (codes "solve") words) ≡ or_else (rest_fault leaf (walk_from nothing_held) words) []
-unfolding clap_on_literals
-solve_whole words = refl
-
-solve_entered : (words : List Text) → entered (built line) (Some (codes "solve", words)) ≡ Some (codes "solve", rest_rows leaf (walk_from nothing_held) words)
-unfolding clap_on_literals
-solve_entered words = refl
-
-solve_is_met : (word : Text) → bytes_eq (codes "solve") word ≡ true → subcommand_met names idle word ≡ Some (codes "solve")
-unfolding clap_on_literals
-solve_is_met word e = rw e refl
-
-asked_by-solve : (word : Text) (words : List Text) → bytes_eq (codes "solve") word ≡ true → asked_by word words ≡ with_one solve words
-asked_by-solve word words e = rw e refl
-
 -- ---- no command of that name
 
-none_is_met : (word : Text) → bytes_eq (codes "solve") word ≡ false → subcommand_met names idle word ≡ None
+none_is_met : (word : Text) → bytes_eq (codes "solve") word ≡ false → subcommand_met command_names idle word ≡ None
 unfolding clap_on_literals
 none_is_met word e = rw e refl
 
-asked_by-none : (word : Text) (words : List Text) → bytes_eq (codes "solve") word ≡ false → asked_by word words ≡ None
+pub asked_by-none : (word : Text) (words : List Text) → bytes_eq (codes "solve") word ≡ false → asked_by word words ≡ None
 asked_by-none word words e = rw e refl
 
 -- a name begins with no hyphen
@@ -91,45 +51,42 @@ if_none : (b : Bool) (asked : Option Asked) → asked ≡ None → (if b then No
 if_none true asked e = refl
 if_none false asked e = e
 
-command_given-plain : (word : Text) (words : List Text) → has_stray words ≡ false → command_given (word ∷ words) ≡ asked_by word (positional_words words)
+pub command_given-plain : (word : Text) (words : List Text) → has_stray words ≡ false → command_given (word ∷ words) ≡ asked_by word (positional_words words)
 command_given-plain word words e = rw e refl
 
-command_given-no_name : (word : Text) (words : List Text) → asked_by word (positional_words words) ≡ None → command_given (word ∷ words) ≡ None
+pub command_given-no_name : (word : Text) (words : List Text) → asked_by word (positional_words words) ≡ None → command_given (word ∷ words) ≡ None
 command_given-no_name word words e = if_none (has_stray words) (asked_by word (positional_words words)) e
 
-command_given-stray_rest : (word : Text) (words : List Text) → has_stray words ≡ true → command_given (word ∷ words) ≡ None
+pub command_given-stray_rest : (word : Text) (words : List Text) → has_stray words ≡ true → command_given (word ∷ words) ≡ None
 command_given-stray_rest word words e = rw e refl
 
 -- where a word is stray, the words ask for nothing
 pub command_given-stray : (words : List Text) → has_stray words ≡ true → command_given words ≡ None
 command_given-stray [] h = refl
-command_given-stray (word ∷ words) h = go (cases_Bool (is_mark word)) (cases_Bool (begins_with_hyphen word))
+command_given-stray (word ∷ words) h = go (cases_Bool (is_end_of_options word)) (cases_Bool (begins_with_hyphen word))
   where
-    go : (is_mark word ≡ true) ⊎ (is_mark word ≡ false) → (begins_with_hyphen word ≡ true) ⊎ (begins_with_hyphen word ≡ false) → command_given (word ∷ words) ≡ None
+    go : (is_end_of_options word ≡ true) ⊎ (is_end_of_options word ≡ false) → (begins_with_hyphen word ≡ true) ⊎ (begins_with_hyphen word ≡ false) → command_given (word ∷ words) ≡ None
     go (inl e) hyphen = absurd (false≢true (sym (has_stray-mark word words e) ∙ h))
     go (inr e) (inl hyphen) = command_given-no_name word words (asked_by-hyphen word (positional_words words) hyphen)
     go (inr e) (inr plain) = command_given-stray_rest word words (sym (has_stray-word word words e ∙ ap (λ b. b || has_stray words) plain) ∙ h)
 
-is_mark-hyphen : (word : Text) → is_mark word ≡ true → begins_with_hyphen word ≡ true
-is_mark-hyphen word e = subst (λ (t : Text). begins_with_hyphen t ≡ true) (sym ((bytes_eq-Decides word (codes "--")).0 e)) refl
+is_end_of_options-hyphen : (word : Text) → is_end_of_options word ≡ true → begins_with_hyphen word ≡ true
+is_end_of_options-hyphen word e = subst (λ (t : Text). begins_with_hyphen t ≡ true) (sym ((bytes_eq-Decides word (codes "--")).0 e)) refl
 
 named_agrees : (word : Text) (words : List Text) → begins_with_hyphen word ≡ false → has_stray words ≡ false → (bytes_eq (codes "solve") word ≡ true) ⊎ (bytes_eq (codes "solve") word ≡ false)
     → Agrees (command_given (word ∷ words)) (fault_of line (word ∷ words)) (subcommand_of line (word ∷ words))
 named_agrees word words unhyphened plain (inl e) =
-    agrees_as (command_given-plain word words plain ∙ asked_by-solve word (positional_words words) e)
-    (fault_of-name word (codes "solve") words (solve_is_met word e) ∙ solve_whole words ∙ or_else-nil (rest_fault leaf (walk_from nothing_held) words))
-    (subcommand_of-name word (codes "solve") words (solve_is_met word e) ∙ solve_entered words)
-    (solve_agrees (positional_words words) (rest_fault leaf (walk_from nothing_held) words) (rest_rows leaf (walk_from nothing_held) words) (finds leaf 1 stands rows takes words plain))
+    agrees_as (command_given-plain word words plain) refl refl (solve_agrees word words e plain)
 named_agrees word words unhyphened plain (inr e) =
     agrees_none (command_given (word ∷ words)) (fault_of line (word ∷ words)) (subcommand_of line (word ∷ words))
     (command_given-no_name word words (asked_by-none word (positional_words words) e))
     (no_fault (fault_of line (word ∷ words)) (fault_of-no_name word words (none_is_met word e) unhyphened))
 
-first_agrees : (word : Text) (words : List Text) → has_stray (word ∷ words) ≡ false → (is_mark word ≡ true) ⊎ (is_mark word ≡ false)
+first_agrees : (word : Text) (words : List Text) → has_stray (word ∷ words) ≡ false → (is_end_of_options word ≡ true) ⊎ (is_end_of_options word ≡ false)
     → Agrees (command_given (word ∷ words)) (fault_of line (word ∷ words)) (subcommand_of line (word ∷ words))
 first_agrees word words h (inl e) =
     agrees_none (command_given (word ∷ words)) (fault_of line (word ∷ words)) (subcommand_of line (word ∷ words))
-    (command_given-no_name word words (asked_by-hyphen word (positional_words words) (is_mark-hyphen word e))) (fault_of-mark word words e)
+    (command_given-no_name word words (asked_by-hyphen word (positional_words words) (is_end_of_options-hyphen word e))) (fault_of-mark word words e)
 first_agrees word words h (inr e) =
     let parts = stray_parts word words h e in
     named_agrees word words parts.0 parts.1 (cases_Bool (bytes_eq (codes "solve") word))
@@ -137,7 +94,7 @@ first_agrees word words h (inr e) =
 -- where no word is stray, clap finds what the words ask for
 line_agrees : (words : List Text) → has_stray words ≡ false → Agrees (command_given words) (fault_of line words) (subcommand_of line words)
 line_agrees [] h = fault_of-no_words
-line_agrees (word ∷ words) h = first_agrees word words h (cases_Bool (is_mark word))
+line_agrees (word ∷ words) h = first_agrees word words h (cases_Bool (is_end_of_options word))
 
 -- ---- what the clauses of a parse say of the words
 
@@ -166,44 +123,3 @@ none-failed words a kind plain same faults no_memory = go (faults (ap is_simple_
     go (inl memory) = absurd (no_memory memory)
     go (inr among) = none_is (command_given words) (fault_of line words) (subcommand_of line words) kind (line_agrees words plain)
         (subst (λ (x : App). IsAmong kind (fault_of x words)) same among)
-
--- ---- reading is writing turned round
-
-one_positional : (words : List Text) (asked : Asked) → with_one solve words ≡ Some asked → (codes "solve" ≡ name_of asked) × (words ≡ positionals_of asked)
-one_positional [] asked e = absurd cc
-one_positional (game ∷ []) (solve name) e = (refl, cc)
-one_positional (game ∷ word ∷ words) asked e = absurd cc
-
-read_written : (words : List Text) (asked : Asked) → command_given words ≡ Some asked → Gives words asked
-read_written [] asked e = absurd cc
-read_written (name ∷ others) asked e = go (cases_Bool (has_stray others)) (cases_Bool (bytes_eq (codes "solve") name))
-  where
-    go : (has_stray others ≡ true) ⊎ (has_stray others ≡ false) → (bytes_eq (codes "solve") name ≡ true) ⊎ (bytes_eq (codes "solve") name ≡ false) → Gives (name ∷ others) asked
-    go (inl stray) named = absurd (let none = command_given-stray_rest name others stray in cc)
-    go (inr plain) (inr other) = absurd (let none = command_given-no_name name others (asked_by-none name (positional_words others) other) in cc)
-    go (inr plain) (inl named) =
-        let parts = one_positional (positional_words others) asked (sym (command_given-plain name others plain ∙ asked_by-solve name (positional_words others) named) ∙ e) in
-        record {
-          others = others;
-          named = ap (λ (n : Text). n ∷ others) (sym ((bytes_eq-Decides (codes "solve") name).0 named) ∙ parts.0);
-          unhyphened = All-unhyphened (before_first is_mark others) plain;
-          positionals = parts.1;
-        }
-
-written_read : (words : List Text) (asked : Asked) → Gives words asked → command_given words ≡ Some asked
-written_read words (solve game) gives =
-    ap command_given gives.named
-    ∙ command_given-plain (codes "solve") gives.others (list_any_none begins_with_hyphen (before_first is_mark gives.others) gives.unhyphened)
-    ∙ ap (asked_by (codes "solve")) gives.positionals
-
--- what is read is what is written
-pub given_exactly : (given : Option Asked) (words : List Text) → given ≡ command_given words → (asked : Asked) → (given ≡ Some asked) ↔ Gives words asked
-given_exactly given words e asked = ((λ is. read_written words asked (sym e ∙ is)), (λ gives. e ∙ written_read words asked gives))
-
--- nothing is read exactly where nothing is written
-pub none_exactly : (command : Option Command) (words : List Text) → option_map asked_of command ≡ command_given words → IsNone command ↔ ((asked : Asked) → ¬ Gives words asked)
-none_exactly None words e = ((λ _ asked gives. let is = written_read words asked gives in cc), (λ _. refl))
-none_exactly (Some command) words e = ((λ none. absurd (true≢false none)), (λ never. absurd (never (asked_of command) (read_written words (asked_of command) (sym e)))))
-
-pub words_give : WordsGive
-words_give words asked = (read_written words asked, written_read words asked)

@@ -7,7 +7,7 @@ use Rattle.clap.specs.Simple.{Shape}
 use Rattle.clap.specs.Kinds.{Kinds, or_else}
 use Rattle.clap.specs.Faults.{walk_fault, turn_fault, settle_fault, defaults_fault, check_fault}
 use Rattle.clap.specs.declared.error.kind.ErrorKind.TheVariants.{UnknownArgument}
-use Rattle.sg_words.specs.Words.{Text, is_mark, begins_with_hyphen, has_stray, positional_words}
+use Rattle.sg_words.specs.Words.{Text, is_end_of_options, begins_with_hyphen, has_stray, positional_words}
 use Rattle.sg_words.proofs.Marks.{positional_words-mark, positional_words-word, stray_parts}
 
 -- ---- faults and rows from where a walk stands on
@@ -56,7 +56,7 @@ IsPositional ended word = ended ≡ false → begins_with_hyphen word ≡ false
 -- where the walk stands after these positional words, past `--` or not, and what each word and the end do there
 pub record Takes (leaf : Shape) (count : ℕ) (stands : List Text → Bool → Walk) (rows : List Text → List Row) : Type 0 where
   pub starts : stands [] false ≡ walk_from nothing_held
-  pub mark : (names : List Text) (word : Text) → length names ≤ count → is_mark word ≡ true → Moves leaf (stands names false) word (stands names true)
+  pub mark : (names : List Text) (word : Text) → length names ≤ count → is_end_of_options word ≡ true → Moves leaf (stands names false) word (stands names true)
   pub next : (names : List Text) (ended : Bool) (word : Text) → length names < count → IsPositional ended word → Moves leaf (stands names ended) word (stands (names ++ word ∷ []) ended)
   pub stray : (names : List Text) (ended : Bool) (word : Text) → length names ≡ count → IsPositional ended word → turn_fault leaf [] (stands names ended) word ≡ UnknownArgument ∷ []
   pub full : (names : List Text) (ended : Bool) → length names ≡ count → (end_fault leaf (stands names ended).held ≡ []) × (finished leaf.rules (stands names ended).held ≡ rows names)
@@ -111,7 +111,7 @@ module _ (leaf : Shape) (count : ℕ) (stands : List Text → Bool → Walk) (ro
   one_word names ended word words (inr lt) plain split h = one_more names ended word words lt plain split (h lt)
 
   -- a word before `--`, or `--` itself
-  first_part : (names : List Text) (word : Text) (words : List Text) → length names ≤ count → (length names ≡ count) ⊎ (length names < count) → (is_mark word ≡ true) ⊎ (is_mark word ≡ false)
+  first_part : (names : List Text) (word : Text) (words : List Text) → length names ≤ count → (length names ≡ count) ⊎ (length names < count) → (is_end_of_options word ≡ true) ⊎ (is_end_of_options word ≡ false)
       → has_stray (word ∷ words) ≡ false → FindsFrom names true words → (length names < count → has_stray words ≡ false → FindsFrom (names ++ word ∷ []) false words)
       → FindsFrom names false (word ∷ words)
   first_part names word words le room (inl e) plain ended h =
@@ -139,7 +139,7 @@ module _ (leaf : Shape) (count : ℕ) (stands : List Text → Bool → Walk) (ro
   unfolding walk_fault
   finds_from names [] le plain = finds_as (append-nil names) refl refl (at_end names false le (room_left (length names) le))
   finds_from names (word ∷ words) le plain =
-      first_part names word words le (room_left (length names) le) (cases_Bool (is_mark word)) plain (finds_after_mark names words le)
+      first_part names word words le (room_left (length names) le) (cases_Bool (is_end_of_options word)) plain (finds_after_mark names words le)
       (λ lt later. finds_from (names ++ word ∷ []) words (length-one_more names word lt) later)
 
 -- clap's answer to the words after the command's name

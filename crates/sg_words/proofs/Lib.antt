@@ -4,3 +4,4 @@ pub mod Solve
 pub mod Top
 pub mod Found
 pub mod Given
+pub mod Written

@@ -2,7 +2,7 @@
 use Rattle.std.specs.Prelude.{◌≡◌, ◌↔◌, false, List, [], ◌∷◌, All, Option, Some, None, option_and_then, find, codes, if◌then◌else◌}
 use Rattle.std.specs.List.{before_first}
 use Rattle.std.specs.Str.{bytes_eq}
-use Rattle.sg_words.specs.Words.{Text, is_mark, begins_with_hyphen, has_stray, positional_words}
+use Rattle.sg_words.specs.Words.{Text, is_end_of_options, begins_with_hyphen, has_stray, positional_words}
 use Rattle.sg_words.specs.declared.command.Command.{Command}
 use Rattle.sg_words.specs.declared.command.Command.TheVariants.{Solve}
 
@@ -25,7 +25,7 @@ positionals_of (solve game) = game ∷ []
 pub record Gives (words : List Text) (asked : Asked) : Type 0 where
   pub others : List Text
   pub named : words ≡ name_of asked ∷ others
-  pub unhyphened : All (λ word. begins_with_hyphen word ≡ false) (before_first is_mark others)
+  pub unhyphened : All (λ word. begins_with_hyphen word ≡ false) (before_first is_end_of_options others)
   pub positionals : positional_words others ≡ positionals_of asked
 
 -- ---- how words are read

@@ -8,8 +8,8 @@ abbrev pub Text : Type 0
 Text = List ℕ
 
 -- the word `--`, after whose first use all words are positional
-abbrev pub is_mark : Text → Bool
-is_mark word = bytes_eq word (codes "--")
+abbrev pub is_end_of_options : Text → Bool
+is_end_of_options word = bytes_eq word (codes "--")
 
 -- the word begins with a hyphen, as an option does
 abbrev pub begins_with_hyphen : Text → Bool
@@ -18,8 +18,8 @@ begins_with_hyphen (first ∷ others) = first == byte "-"
 
 -- a word before the first `--` begins with a hyphen: it is no option, since no command has one, and it is not positional
 abbrev pub has_stray : List Text → Bool
-has_stray words = list_any begins_with_hyphen (before_first is_mark words)
+has_stray words = list_any begins_with_hyphen (before_first is_end_of_options words)
 
 -- the positional words: those before the first `--`, and all after it
 abbrev pub positional_words : List Text → List Text
-positional_words words = before_first is_mark words ++ after_first is_mark words
+positional_words words = before_first is_end_of_options words ++ after_first is_end_of_options words

@@ -1,7 +1,14 @@
 //! Reads the words of a call: the command that they give, or that they give none.
 //!
-//! `command_of` answers exactly by `command_given` of `specs/Commands.antt`, and `words_give` ties that to the rules in
-//! which a command is written. The words are read through `clap`, by a command line of one level of subcommands.
+//! The first word is the command's name. The others are its positional words, in order; the first `--` among them is
+//! none of these, and before it no word begins with a hyphen. There is no help and no version.
+//!
+//! `command_of` answers exactly by these rules, in both directions: `Gives` of `specs/Commands.antt` says how a command
+//! is written, `command_given` how words are read, and `words_give` that the one is the other turned round. The words go
+//! through `clap`, as a command line with one level of subcommands.
+//!
+//! A command more is a variant of `Command`, a function and an arm in `line`, and a row of `name_of`, `positionals_of`
+//! and `forms` in the definitions; its proof is one file beside `proofs/Solve.antt`.
 #![tactic(auto)]
 
 mod command;

@@ -12,7 +12,9 @@ use std::alloc::{AllocError, Global};
 fn solve_line<'a>(alloc: Global) -> Result<Line<'a>, AllocError>
     ensures { IfOk result (λ c. app_of c ≡ solve_line) }
 {
-    let game = Arg::new(alloc, "game").required(true).action(ArgAction::Set);
+    let game = Arg::new(alloc, "game")
+        .required(true)
+        .action(ArgAction::Set);
     Line::new(alloc, "solve").arg(game)
 }
 

@@ -17,10 +17,7 @@ fn is_memory(error: &Error) -> bool
 
 /// The command that the words give, or `None` where they give none. The words are those after the program's name, and
 /// only memory may be wanting.
-pub fn command_of<'a>(
-    alloc: Global,
-    words: &'a [String],
-) -> Result<Option<Command<'a>>, AllocError>
+pub fn command_of<'a>(alloc: Global, words: &'a [String]) -> Result<Option<Command<'a>>, AllocError>
     ensures answer { IfOk result (λ r. option_map asked_of r ≡ command_given (map string_bytes words.entry.now)) }
 
     // The same by the rules of writing, in both directions.
