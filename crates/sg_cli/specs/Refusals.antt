@@ -33,3 +33,8 @@ line_of GameTooLong = codes "game too long\n"
 line_of (GameRefused fault) = codes "game refused " ++ (decimal fault.reason ++ (codes " at " ++ (place_text fault.place ++ codes "\n")))
 line_of NotWritten = codes "write failed\n"
 line_of Memory = codes "want of memory\n"
+
+-- the refusal is of a game file's bytes
+abbrev pub IsGameRefused : Refusal → Type 0
+IsGameRefused (GameRefused fault) = Unit {0}
+IsGameRefused _ = ⊥

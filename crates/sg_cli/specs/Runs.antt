@@ -1,5 +1,6 @@
 -- What a run answers: its status, what it wrote, and why.
-use Rattle.std.specs.Prelude.{◌≡◌, ◌⊎◌, ℕ, ◌≤◌, List, length, Option, Some, None, Result, Ok, Err}
+use Rattle.std.specs.Prelude.{◌≡◌, ◌⊎◌, ℕ, ◌≤◌, List, map, length, String, string_bytes, Option, Some, None, Result, Ok, Err}
+use Rattle.std.specs.declared.alloc.Global.{Global}
 use Rattle.sg_model.specs.declared.fault.GameFault.{GameFault}
 use Rattle.sg_model.specs.Games.{Game}
 use Rattle.sg_model.specs.ReportText.{WaterReport, report_text}
@@ -24,6 +25,23 @@ pub record Scene : Type 0 where
   pub writes_after : ℕ
   pub out_before : Option (List ℕ)
   pub out_after : Option (List ℕ)
+
+-- these, in one record
+abbrev pub scene : Option Asked → Option Files → (reads_before reads_after writes_before writes_after : ℕ) → (out_before out_after : Option (List ℕ)) → Scene
+scene asked files reads_before reads_after writes_before writes_after out_before out_after = record {
+  asked = asked;
+  files = files;
+  reads_before = reads_before;
+  reads_after = reads_after;
+  writes_before = writes_before;
+  writes_after = writes_after;
+  out_before = out_before;
+  out_after = out_after;
+}
+
+-- words as lists of bytes
+abbrev pub texts : List (String Global) → List (List ℕ)
+texts words = map string_bytes words
 
 -- the words ask for this game to be solved
 abbrev pub Names : Scene → List ℕ → Type 0
@@ -123,3 +141,39 @@ pub record IsComplete (s : Scene) (status : ℕ) : Type 0 where
   -- a game that is solved
   pub solved : (name : List ℕ) (files : Files) (bytes : List ℕ) (game : Game) → Names s name → s.files ≡ Some files → held files name ≡ Some bytes → length bytes ≤ 4194304
       → game_of_bytes bytes ≡ Ok game → IsSolved game → HasNotRisen s.reads_before s.reads_after → HasNotRisen s.writes_before s.writes_after → (status ≡ 0) ⊎ (status ≡ 11)
+
+-- ---- why a file gives no game that is solved
+
+-- of one file: no bytes were read
+abbrev pub FileFails : Option Files → List ℕ → ℕ → ℕ → Refusal → Type 0
+FileFails files name before after GameNotRead = HasRisen before after ⊎ IsMissing files name
+FileFails files name before after GameTooLong = MayBeLong files name before after
+FileFails files name before after Memory = Unit {0}
+FileFails files name before after _ = ⊥
+
+-- of what the bytes say
+abbrev pub GameFails : Result Game GameFault → Refusal → Type 0
+GameFails says (GameRefused fault) = says ≡ Err fault
+GameFails says NotYet = (game : Game) × (says ≡ Ok game) × (¬ (IsSolved game))
+GameFails says Memory = Unit {0}
+GameFails says _ = ⊥
+
+-- the bytes of the file say this
+pub record FileSays (files : Option Files) (name : List ℕ) (says : Result Game GameFault) : Type 0 where
+  pub bytes : List ℕ
+  pub reads : Reads files name 4194304 bytes
+  pub game : game_of_bytes bytes ≡ says
+
+-- the file is that of a game that is solved
+pub record ReadsSolved (files : Option Files) (name : List ℕ) (game : Game) : Type 0 where
+  pub says : FileSays files name (Ok game)
+  pub is_solved : IsSolved game
+
+-- the file gives none, for one reason or the other
+abbrev pub FileRefused : Option Files → List ℕ → ℕ → ℕ → Refusal → Type 0
+FileRefused files name before after GameNotRead = HasRisen before after ⊎ IsMissing files name
+FileRefused files name before after GameTooLong = MayBeLong files name before after
+FileRefused files name before after (GameRefused fault) = FileSays files name (Err fault)
+FileRefused files name before after NotYet = (game : Game) × FileSays files name (Ok game) × (¬ (IsSolved game))
+FileRefused files name before after Memory = Unit {0}
+FileRefused files name before after _ = ⊥

@@ -7,7 +7,7 @@ use Rattle.sg_model.specs.Limits.{IsGame, is_scaled}
 use Rattle.sg_model.specs.Commitments.{IsCommitment, IsValue}
 use Rattle.sg_model.specs.Optimality.{IsOptimal}
 use Rattle.sg_model.specs.Origami.{IsWater, AreLevelTickets}
-use Rattle.sg_model.specs.ReportText.{WaterReport}
+use Rattle.sg_model.specs.ReportText.{WaterReport, report_text}
 use Rattle.sg_num.specs.Fractions.{IsReduced}
 use Rattle.sg_origami.specs.Fillings.{IsReasonOf}
 use Rattle.sg_cli.specs.Tickets.{IsBefore}
@@ -42,3 +42,9 @@ pub record IsOptimalReport (g : Game) (r : WaterReport) : Type 0 where
   -- the upper bound is the value
   pub upper_num : r.upper_num ≡ r.value_num
   pub upper_den : r.upper_den ≡ r.value_den
+
+-- the text of a right report
+pub record IsReportText (g : Game) (text : List ℕ) : Type 0 where
+  pub report : WaterReport
+  pub is_right : IsOptimalReport g report
+  pub is_text : text ≡ report_text report

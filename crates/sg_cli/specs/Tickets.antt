@@ -38,6 +38,3 @@ spread counts tickets = some_ticket 0 (tickets -ℤ total (λ c. c) counts) ++ c
 abbrev pub IsBefore : Ticket → Ticket → Type 0
 IsBefore x y = slice_cmp nat_cmp x.play.code y.play.code ≡ Less
 
-abbrev pub SpreadCovers : Type 0
-SpreadCovers = (g : Game) → g.kind ≡ Security → g.patrols ≡ Some 1 → (counts : List ℤ) (tickets : ℤ) → IsSpread counts tickets → length counts ≡ length g.goals
-    → IsCommitment g (spread counts tickets)

@@ -1,11 +1,15 @@
-//! The program's one call, `run`: words in, a report or a refusal out.
+//! The program's one call, [`run`]: words in, a report or a refusal out.
+//!
+//! What it promises stands in `specs/Runs.antt` (`Answers`, `IsComplete`), what a right report is in
+//! `specs/Solutions.antt`, and the status and line of each refusal in `specs/Refusals.antt`.
 #![tactic(auto)]
 
+mod refusal;
 mod report;
+mod run;
+mod solving;
 mod tickets;
-ghost use Rattle.sg_cli.specs.Tickets.{SpreadCovers};
+mod value;
 
-/// law
-pub fn spread_covers()
-    ensures { SpreadCovers }
-{}
+pub use refusal::Refusal;
+pub use run::run;

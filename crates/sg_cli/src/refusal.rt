@@ -1,7 +1,7 @@
 //! Why a run does not do what the words ask for.
 
 ghost use Rattle.std.specs.Prelude.{◌≡◌, ◌++◌, IfOk, codes, decimal, string_bytes};
-ghost use Rattle.sg_cli.specs.Refusals.{status_of, line_of, place_text};
+ghost use Rattle.sg_cli.specs.Refusals.{status_of, line_of, place_text, IsGameRefused};
 ghost use Rattle.sg_cli.specs.declared.refusal.Refusal.TheVariants.{Memory};
 
 use sg_model::{GameFault, Place};
@@ -56,14 +56,6 @@ fn place_name(alloc: Global, place: Place) -> Result<String, AllocError>
     }
 }
 
-/// The line that tells that a game file is refused.
-fn game_line(alloc: Global, fault: GameFault) -> Result<String, AllocError>
-    ensures { IfOk result (λ text. string_bytes text ≡ line_of (Refusal.GameRefused fault)) }
-{
-    let place = place_name(alloc, fault.place)?;
-    format!(in alloc; "game refused {} at {}\n", fault.reason, place)
-}
-
 impl Refusal {
     /// The status with which the run ends.
     pub fn status(self) -> u8
@@ -80,18 +72,27 @@ impl Refusal {
         }
     }
 
-    /// The line that tells it, with its newline.
-    pub fn line(self, alloc: Global) -> Result<String, AllocError>
-        ensures { IfOk result (λ text. string_bytes text ≡ line_of self) }
+    /// The line, with its newline, that tells a refusal of all but a game file's bytes.
+    pub fn plain_line(self) -> &'static str
+        requires { ¬ (IsGameRefused self) }
+        ensures { result.now ≡ line_of self }
     {
         match self {
-            Refusal::Words => String::from_str(alloc, "words refused\n"),
-            Refusal::NotYet => String::from_str(alloc, "not yet\n"),
-            Refusal::GameNotRead => String::from_str(alloc, "game not read\n"),
-            Refusal::GameTooLong => String::from_str(alloc, "game too long\n"),
-            Refusal::GameRefused(fault) => game_line(alloc, fault),
-            Refusal::NotWritten => String::from_str(alloc, "write failed\n"),
-            Refusal::Memory => String::from_str(alloc, "want of memory\n"),
+            Refusal::Words => "words refused\n",
+            Refusal::NotYet => "not yet\n",
+            Refusal::GameNotRead => "game not read\n",
+            Refusal::GameTooLong => "game too long\n",
+            Refusal::GameRefused(_) => unreachable!(),
+            Refusal::NotWritten => "write failed\n",
+            Refusal::Memory => "want of memory\n",
         }
+    }
+
+    /// The line, with its newline, that tells why a game file is refused.
+    pub fn game_line(alloc: Global, fault: GameFault) -> Result<String, AllocError>
+        ensures { IfOk result (λ text. string_bytes text ≡ line_of (Refusal.GameRefused fault)) }
+    {
+        let place = place_name(alloc, fault.place)?;
+        format!(in alloc; "game refused {} at {}\n", fault.reason, place)
     }
 }
