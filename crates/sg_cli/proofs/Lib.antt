@@ -1,3 +1,5 @@
 pub mod Rests
 pub mod Spreads
 pub mod Texts
+pub mod Tops
+pub mod Solutions
