@@ -11,3 +11,4 @@ pub mod Optimal
 pub mod Tickets
 pub mod Values
 pub mod Scaled
+pub mod Held

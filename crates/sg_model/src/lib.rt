@@ -19,5 +19,5 @@ pub use optimality_laws::{bound_is_above, optimal_is_bound, optimal_is_least_bou
 pub use origami_laws::{
     level_is_best, level_is_least, level_is_reached, level_tickets_are_optimal, water_bounds,
 };
-pub use play_laws::covers_are_few;
+pub use play_laws::{covers_are_few, covers_where_held, held_pays_covered, patrols_cover_choices, same_cover_pays_same};
 pub use ticket::{Play, Ticket};
