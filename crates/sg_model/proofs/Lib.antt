@@ -12,3 +12,5 @@ pub mod Tickets
 pub mod Values
 pub mod Scaled
 pub mod Held
+pub mod Promises
+pub mod Sizes

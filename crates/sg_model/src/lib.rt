@@ -5,6 +5,7 @@
 #![tactic(auto)]
 
 mod fault;
+mod game_laws;
 mod kind;
 mod level;
 mod optimality_laws;
@@ -13,6 +14,7 @@ mod play_laws;
 mod ticket;
 
 pub use fault::{GameFault, Place};
+pub use game_laws::{game_is_peopled, game_is_small, payoffs_are_in_range, scale_means_origami};
 pub use kind::Kind;
 pub use level::Level;
 pub use optimality_laws::{bound_is_above, optimal_is_bound, optimal_is_least_bound, optimal_value_is_one, scaling_keeps};
