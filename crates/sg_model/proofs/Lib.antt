@@ -14,3 +14,5 @@ pub mod Scaled
 pub mod Held
 pub mod Promises
 pub mod Sizes
+pub mod Deciding
+pub mod Worked

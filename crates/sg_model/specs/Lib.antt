@@ -11,3 +11,4 @@ pub mod GameLaws
 pub mod PlayLaws
 pub mod OptimalityLaws
 pub mod OrigamiLaws
+pub mod Examples

@@ -1,7 +1,11 @@
 //! Laws about values, upper bounds and optimal commitments, each as the contract of a function that does nothing.
 
 ghost use Rattle.sg_model.specs.OptimalityLaws.{
-    BoundIsAbove, OptimalIsBound, OptimalIsLeastBound, OptimalValueIsOne, ScalingKeeps,
+  BoundIsAbove,
+  OptimalIsBound,
+  OptimalIsLeastBound,
+  OptimalValueIsOne,
+  ScalingKeeps,
 };
 
 /// An upper bound is at least the value of every commitment.
