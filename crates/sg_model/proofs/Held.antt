@@ -10,7 +10,7 @@ use Rattle.sg_model.specs.Plays.{covers, covers_from, pay_a, pay_d}
 use Rattle.sg_model.specs.PlayLaws.{IsHeld}
 use Rattle.sg_model.proofs.Forms.{no_matrix}
 use Rattle.sg_model.proofs.Numbers.{nth-numbers}
-use Rattle.sg_model.proofs.Greatest.{Contains-head, Contains-tail}
+use Rattle.sg_model.proofs.Greatest.{Contains-head, Contains-tail, or-left, or-right}
 use Rattle.sg_model.proofs.Covers.{holds-patrols}
 
 -- a list has an item that equals t just where it contains t
@@ -24,14 +24,6 @@ contains-any (x ∷ xs) t e =
 
 eqb-same : (t : ℕ) → eqb t t ≡ true
 eqb-same t = grind (arith, nat_tests)
-
-or-right : (a b : Bool) → b ≡ true → (a || b) ≡ true
-or-right true b e = refl
-or-right false b e = e
-
-or-left : (a b : Bool) → a ≡ true → (a || b) ≡ true
-or-left true b e = refl
-or-left false b e = absurd (true≢false (sym e))
 
 pub any-contains : (xs : List ℕ) (t : ℕ) → Contains xs t → list_any (λ x. eqb x t) xs ≡ true
 any-contains [] t h = absurd (omega (arith, h.1))

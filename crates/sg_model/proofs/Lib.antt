@@ -16,3 +16,4 @@ pub mod Promises
 pub mod Sizes
 pub mod Deciding
 pub mod Worked
+pub mod Joined

@@ -20,7 +20,7 @@ pub use game_laws::{game_is_peopled, game_is_small, payoffs_are_in_range, scale_
 pub use kind::Kind;
 pub use level::Level;
 pub use optimality_laws::{
-    bound_is_above, optimal_is_bound, optimal_is_least_bound, optimal_value_is_one, scaling_keeps,
+    bound_is_above, joining_keeps, optimal_is_bound, optimal_is_least_bound, optimal_value_is_one, scaling_keeps,
 };
 pub use origami_laws::{
     level_is_best, level_is_least, level_is_reached, level_tickets_are_optimal, water_bounds,
