@@ -11,3 +11,9 @@ pub mod Optimal
 pub mod Tickets
 pub mod Values
 pub mod Scaled
+pub mod Held
+pub mod Promises
+pub mod Sizes
+pub mod Deciding
+pub mod Worked
+pub mod Joined

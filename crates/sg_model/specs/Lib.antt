@@ -8,6 +8,8 @@ pub mod Origami
 pub mod Names
 pub mod Limits
 pub mod ReportText
+pub mod GameLaws
 pub mod PlayLaws
 pub mod OptimalityLaws
 pub mod OrigamiLaws
+pub mod Examples

@@ -1,7 +1,7 @@
 //! Laws about values, upper bounds and optimal commitments, each as the contract of a function that does nothing.
 
 ghost use Rattle.sg_model.specs.OptimalityLaws.{
-    BoundIsAbove, OptimalIsBound, OptimalIsLeastBound, OptimalValueIsOne, ScalingKeeps,
+    BoundIsAbove, JoiningKeeps, OptimalIsBound, OptimalIsLeastBound, OptimalValueIsOne, ScalingKeeps,
 };
 
 /// An upper bound is at least the value of every commitment.
@@ -27,4 +27,9 @@ pub fn optimal_is_least_bound()
 /// Multiplying all weights by one number of at least 1 keeps the value, and what is optimal.
 pub fn scaling_keeps()
     ensures { ScalingKeeps }
+{}
+
+/// Tickets that give each play the same weight in all have the same sums, value and optimality.
+pub fn joining_keeps()
+    ensures { JoiningKeeps }
 {}
