@@ -45,3 +45,7 @@ pub record IsValue (g : Game) (k : List Ticket) (num den : ℤ) : Type 0 where
 -- the weights of the plays that cover target t
 abbrev pub cover_count : Game → List Ticket → ℕ → ℤ
 cover_count g k t = total (λ (x : Ticket). if covers g x.play.code t then x.weight else pos 0) k
+
+-- the same plays, each with c times its weight
+abbrev pub scaled : ℤ → List Ticket → List Ticket
+scaled c k = map (λ (x : Ticket). record x { weight = c *ℤ x.weight }) k

@@ -7,4 +7,7 @@ pub mod Optimality
 pub mod Origami
 pub mod Names
 pub mod Limits
-pub mod Laws
+pub mod GameLaws
+pub mod PlayLaws
+pub mod OptimalityLaws
+pub mod OrigamiLaws

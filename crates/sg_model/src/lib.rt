@@ -1,17 +1,25 @@
 //! What the product's words mean: games, commitments, best responses, optimal, upper bounds and water levels.
 //!
 //! The definitions stand in `specs/`, one module a subject, and every other crate cites them. The functions below
-//! carry laws about the definitions: each has an empty body, and its contract is a statement of `specs/Laws.antt`.
+//! carry laws about the definitions: each has an empty body, and its contract is a statement of `specs/PlayLaws.antt` or `specs/OrigamiLaws.antt`.
 #![tactic(auto)]
 
 mod fault;
+mod game_laws;
 mod kind;
-mod laws;
 mod level;
+mod optimality_laws;
+mod origami_laws;
+mod play_laws;
 mod ticket;
 
 pub use fault::{GameFault, Place};
+pub use game_laws::{game_is_peopled, game_is_small, payoffs_are_in_range, scale_means_origami};
 pub use kind::Kind;
-pub use laws::{covers_are_few, level_is_reached, water_bounds};
 pub use level::Level;
+pub use optimality_laws::{bound_is_above, optimal_is_bound, optimal_is_least_bound, optimal_value_is_one, scaling_keeps};
+pub use origami_laws::{
+    level_is_best, level_is_least, level_is_reached, level_tickets_are_optimal, water_bounds,
+};
+pub use play_laws::{covers_are_few, covers_where_held, held_pays_covered, patrols_cover_choices, same_cover_pays_same};
 pub use ticket::{Play, Ticket};
