@@ -1,7 +1,14 @@
 //! Games, which contracts see as the plain data of the definitions in `sg_model`.
 #![tactic(auto)]
 
+mod counts;
+mod game;
+mod lists;
+mod names;
 mod parts;
+mod play;
 
+pub use game::Game;
 pub use parts::{ListParts, Parts, TypeParts};
+pub use play::{covers, is_origami, legal, pay_a, pay_d, prior_total};
 pub use sg_model::{GameFault, Kind, Level, Place, Play};
