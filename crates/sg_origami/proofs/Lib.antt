@@ -1,0 +1,10 @@
+pub mod Divided
+pub mod Reasons
+pub mod Lowest
+pub mod Bounds
+pub mod Rest
+pub mod Rise
+pub mod Lags
+pub mod Reachable
+pub mod Counts
+pub mod Reduced

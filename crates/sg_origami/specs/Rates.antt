@@ -1,0 +1,44 @@
+-- What the level of a game of identical patrols is made of.
+use Rattle.std.specs.Prelude.{◌≡◌, ℕ, ◌≤◌, ◌^◌, length, ℤ, pos, ◌-ℤ◌, ◌*ℤ◌, ◌≤ℤ◌, ◌<ℤ◌, ◌<◌, int_div, unsigned_abs}
+use Rattle.std.specs.Int.{◌∣◌}
+use Rattle.sg_model.specs.Sums.{total}
+use Rattle.sg_model.specs.Games.{Game, payoff, resource_count}
+use Rattle.sg_model.specs.Limits.{IsPayoff}
+use Rattle.sg_model.specs.Origami.{IsOrigami, gap, share, at_level, count_at}
+
+-- a game that declares a scale, within the limits
+pub record IsFillable (g : Game) : Type 0 where
+  pub origami : IsOrigami g (resource_count g)
+  pub few_patrols : resource_count g ≤ 200
+  pub scale_small : g.scale ≤ℤ pos (2 ^ 32)
+  pub some : 1 ≤ length g.goals
+  pub few : length g.goals ≤ 10000
+  pub small : (t : ℕ) → IsPayoff (payoff g 1 t)
+
+-- how often a target's gap goes into the scale
+abbrev pub multiple : Game → ℕ → ℤ
+multiple g t = int_div g.scale (gap (payoff g 1 t))
+
+-- the multiple times the uncovered payoff
+abbrev pub weighted : Game → ℕ → ℤ
+weighted g t = multiple g t *ℤ (payoff g 1 t).au
+
+-- of targets 1 to m, t is the first of those that pay the attacker most where they are covered
+pub record IsFirstMost (g : Game) (m : ℕ) (t : ℕ) (pay : ℤ) : Type 0 where
+  pub from_one : 1 ≤ t
+  pub in_range : t ≤ m
+  pub pays : pay ≡ (payoff g 1 t).ac
+  pub most : (j : ℕ) → 1 ≤ j → j ≤ m → (payoff g 1 j).ac ≤ℤ pay
+  pub first : (j : ℕ) → 1 ≤ j → j < t → (payoff g 1 j).ac <ℤ pay
+
+-- the patrols can bring each target down to the level: none pays more where it is covered, and the patrols suffice
+pub record IsReachable (g : Game) (patrols : ℕ) (num den : ℤ) : Type 0 where
+  pub positive : pos 1 ≤ℤ den
+  pub over : (j : ℕ) → 1 ≤ j → j ≤ length g.goals → ((payoff g 1 j).ac *ℤ den) ≤ℤ num
+  pub enough : total (share g num den) (at_level g num den) ≤ℤ ((pos patrols *ℤ den) *ℤ g.scale)
+
+-- d is the greatest common divisor of a number and of the counts of targets 1 to m at a level
+pub record IsCountDivisor (g : Game) (num den : ℤ) (whole m d : ℕ) : Type 0 where
+  pub of_whole : d ∣ whole
+  pub of_each : (t : ℕ) → 1 ≤ t → t ≤ m → d ∣ unsigned_abs (count_at g num den t)
+  pub greatest : (e : ℕ) → e ∣ whole → ((t : ℕ) → 1 ≤ t → t ≤ m → e ∣ unsigned_abs (count_at g num den t)) → e ∣ d

@@ -1,0 +1,77 @@
+ghost use Rattle.std.specs.Prelude.{◌≡◌, ◌^◌, true, pos, ◌-ℤ◌, ◌≤ℤ◌, IfOk};
+ghost use Rattle.sg_model.specs.Limits.{is_scaled};
+ghost use Rattle.sg_num.specs.Fractions.{IsReducedForm};
+ghost use Rattle.sg_origami.specs.Fillings.{IsFilling};
+ghost use Rattle.sg_origami.specs.Rates.{IsFillable};
+
+use crate::count::coverage_of;
+use crate::floor::level_of;
+use crate::level::Height;
+use sg_game::Game;
+use sg_model::Level;
+use sg_num::Frac;
+use sqlite_items::Items;
+use std::alloc::{AllocError, Global};
+
+/// The least level of a game, why it is the least, and the coverage that reaches it.
+#[derive(Drop)]
+pub struct Filling {
+    /// The least that the attacker's best payoff can be made, in the attacker's payoff.
+    pub level: Frac,
+    /// Why it can't be less.
+    pub reason: Level,
+    /// How many out of `total` tickets cover each target, in the order of the targets: from 0 to `total`.
+    pub counts: Items<i128>,
+    /// How many tickets there are, from 1 to 2^78.
+    pub total: i128,
+}
+
+/// A level in lowest terms.
+fn lowest_terms(level: &Height) -> Frac
+    requires den_low { pos 1 ≤ℤ level.now.den }
+    requires den_high { level.now.den ≤ℤ pos (2 ^ 46) }
+    requires num_low { (pos 0 -ℤ pos (2 ^ 77)) ≤ℤ level.now.num }
+    requires num_high { level.now.num ≤ℤ pos (2 ^ 77) }
+    ensures { IsReducedForm level.now.num level.now.den result }
+{
+    match Frac::of(level.num, level.den) {
+        Some(level) => level,
+        None => unreachable!(),
+    }
+}
+
+/// The filling of a game within the limits.
+fn filling_of(alloc: Global, game: &Game) -> Result<Filling, AllocError>
+    requires { IsFillable game.now }
+    ensures { IfOk result (IsFilling game.now) }
+{
+    let patrols = game.resources();
+    let found = level_of(game, patrols);
+    let level = lowest_terms(&found.level);
+    let height = Height {
+        num: level.num(),
+        den: level.den(),
+    };
+    let coverage = coverage_of(alloc, game, patrols, &height)?;
+    Ok(Filling {
+        level,
+        reason: found.reason,
+        counts: coverage.counts,
+        total: coverage.total,
+    })
+}
+
+/// Fills a game that declares a scale: brings the attacker's best payoff down to the least level that its patrols can.
+///
+/// Any number of patrols serves, none and more than targets too. The time is about that of some passes over the targets.
+///
+/// # Errors
+///
+/// Want of memory, and nothing else.
+pub fn water(alloc: Global, game: &Game) -> Result<Filling, AllocError>
+    requires { is_scaled game.now ≡ true }
+    ensures { IfOk result (IsFilling game.now) }
+{
+    game.promises();
+    filling_of(alloc, game)
+}
