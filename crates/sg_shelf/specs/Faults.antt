@@ -7,8 +7,8 @@ raised count = min (count + 1) (2 ^ 64 - 1)
 
 -- The count rose, or stands at its last value.
 abbrev pub HasRisen : ℕ → ℕ → Type 0
-HasRisen before after = min (before + 1) (2 ^ 64 - 1) ≤ after
+HasRisen before after = raised before ≤ after
 
 -- It didn't rise, and doesn't stand there.
 abbrev pub HasNotRisen : ℕ → ℕ → Type 0
-HasNotRisen before after = after < min (before + 1) (2 ^ 64 - 1)
+HasNotRisen before after = after < raised before

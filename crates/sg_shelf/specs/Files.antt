@@ -1,6 +1,7 @@
 -- The files of a shelf, which it may tell or not: names and bytes. Of two files with one name the first counts.
 use Rattle.std.specs.Prelude.{◌≡◌, ℕ, ◌<◌, ◌≤◌, List, [], ◌∷◌, length, Option, Some, None, IsSomeAnd, bytes_eq, if◌then◌else◌}
 
+-- names, each with its bytes
 abbrev pub Files : Type 0
 Files = List (List ℕ × List ℕ)
 

@@ -7,5 +7,6 @@ use Rattle.sg_shelf.specs.Files.{Files}
 abbrev pub named : NamedBytes → List ℕ × List ℕ
 named file = (string_bytes file.name, file.bytes.items)
 
+-- the names and bytes of all, in order
 abbrev pub files_of : List NamedBytes → Files
 files_of files = map named files

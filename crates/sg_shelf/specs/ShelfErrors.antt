@@ -10,7 +10,7 @@ IsTooLongOrMemory Failed = ⊥
 IsTooLongOrMemory (TooLong seen) = Unit {0}
 IsTooLongOrMemory Memory = Unit {0}
 
--- a refusal, or want of memory
+-- a failure, or want of memory
 abbrev pub IsFailedOrMemory : ShelfError → Type 0
 IsFailedOrMemory Failed = Unit {0}
 IsFailedOrMemory (TooLong seen) = ⊥

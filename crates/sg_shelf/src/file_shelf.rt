@@ -64,7 +64,7 @@ fn read_file<R: Files>(
 ) -> Result<Vec<u8>, ShelfError>
     requires { limit ≤ 536870912 }
     ensures within { IfOk result (λ bytes. vec_len bytes ≤ limit) }
-    ensures long { (seen : ℕ) → IsErrOf result (TooLong seen) → limit < seen }
+    ensures long { (seen : ℕ) → IsErrOf result (TooLong seen) → seen ≡ limit + 1 }
 {
     match File::open(files, name) {
         Ok(mut file) => whole_file(alloc, &mut file, limit),
@@ -78,7 +78,7 @@ fn whole_file<F: Read>(alloc: Global, file: &mut F, limit: usize) -> Result<Vec<
     ensures within { IfOk result (λ bytes. vec_len bytes ≤ limit) }
     ensures bytes { IfOk result (λ bytes. Consumes (F.remaining file.old) (F.remaining file.new) bytes.items) }
     ensures end { OnOk result (IsAtEnd (F.remaining file.new)) }
-    ensures long { (seen : ℕ) → IsErrOf result (TooLong seen) → limit < seen }
+    ensures long { (seen : ℕ) → IsErrOf result (TooLong seen) → seen ≡ limit + 1 }
 {
     let bytes = first_bytes(alloc, file, limit + 1)?;
     if bytes.len() > limit {
@@ -145,4 +145,81 @@ fn make_room(bytes: &mut Vec<u8>, needed: usize, most: usize) -> Result<(), Allo
     }
     let wanted = bytes.capacity().saturating_mul(2).max(needed).min(most);
     bytes.reserve_exact(wanted - bytes.len())
+}
+
+#[cfg(test)]
+mod tests {
+    use super::*;
+    use crate::shelf::Shelf;
+    use std::test::Fail;
+    use std::{env, fs, process};
+
+    // Gives its bytes in pieces of at most three, and then ends or fails.
+    #[derive(Drop)]
+    struct Pieces<'a> {
+        left: &'a [u8],
+        fails: bool,
+    }
+
+    impl Read for Pieces<'_> {
+        fn read(&mut self, buf: &mut [u8]) -> io::Result<usize> {
+            if self.left.is_empty() && self.fails {
+                return Err(io::Error::from(io::ErrorKind::Other));
+            }
+            let count = self.left.len().min(buf.len()).min(3);
+            buf[..count].copy_from_slice(&self.left[..count]);
+            self.left = &self.left[count..];
+            Ok(count)
+        }
+    }
+
+    fn seven_bytes(fails: bool) -> Pieces<'static> {
+        Pieces {
+            left: b"seven c",
+            fails,
+        }
+    }
+
+    #[test]
+    fn a_reader_is_read_to_its_end(rt: HostRuntime) -> Result<(), Fail> {
+        let alloc = rt.alloc();
+        let bytes = whole_file(alloc, &mut seven_bytes(false), 7)?;
+        assert_eq!(rt; bytes.as_slice(), b"seven c".as_slice());
+        let long = whole_file(alloc, &mut seven_bytes(false), 6);
+        assert!(rt; matches!(long, Err(ShelfError::TooLong { seen: 7 })));
+        let failed = whole_file(alloc, &mut seven_bytes(true), 9);
+        assert!(rt; matches!(failed, Err(ShelfError::Failed)));
+        Ok(())
+    }
+
+    #[test]
+    fn files_are_read(rt: HostRuntime) -> Result<(), Fail> {
+        let alloc = rt.alloc();
+        let mut shelf = FileShelf::new(&rt);
+
+        let path = format!(in alloc;
+            "{}/sg_shelf-{}",
+            env::temp_dir(&rt)?.display(),
+            process::id(rt.process())
+        )?;
+        let written = vec![in alloc; 7u8; 200_001]?;
+        fs::write(&rt, path.as_str(), written.as_slice())?;
+        let whole = shelf.read(alloc, &path, 200_001)?;
+        let long = shelf.read(alloc, &path, 200_000);
+        fs::remove_file(&rt, path.as_str())?;
+        assert!(rt; whole == written);
+        assert!(rt; matches!(long, Err(ShelfError::TooLong { seen: 200_001 })));
+
+        assert!(rt; shelf.read(alloc, "/dev/null", 0)?.is_empty());
+        let endless = shelf.read(alloc, "/dev/zero", 10);
+        assert!(rt; matches!(endless, Err(ShelfError::TooLong { seen: 11 })));
+        assert_eq!(rt; shelf.faults, 0);
+
+        for (name, faults) in [("/no/such/file", 1), ("/", 2)] {
+            let failed = shelf.read(alloc, name, 10);
+            assert!(rt; matches!(failed, Err(ShelfError::Failed)), "{name}");
+            assert_eq!(rt; shelf.faults, faults, "{name}");
+        }
+        Ok(())
+    }
 }

@@ -109,3 +109,83 @@ impl Shelf for MemShelf {
         }
     }
 }
+
+#[cfg(test)]
+mod tests {
+    use super::*;
+    use std::alloc::AllocError;
+    use std::test::Fail;
+
+    fn file(alloc: Global, name: &str, bytes: &[u8]) -> Result<NamedBytes, AllocError> {
+        Ok(NamedBytes {
+            name: String::from_str(alloc, name)?,
+            bytes: Vec::from_slice(alloc, bytes)?,
+        })
+    }
+
+    // Two files are called a.
+    fn files(alloc: Global) -> Result<Vec<NamedBytes>, AllocError> {
+        let mut files = Vec::new(alloc);
+        files.push(file(alloc, "a", &[1, 2, 3])?)?;
+        files.push(file(alloc, "b", &[])?)?;
+        files.push(file(alloc, "a", &[9])?)?;
+        Ok(files)
+    }
+
+    #[test]
+    fn reads_in_turn(rt: HostRuntime) -> Result<(), Fail> {
+        let alloc = rt.alloc();
+        let mut shelf = MemShelf::new(files(alloc)?, vec![in alloc; 5, 2]?);
+        let three: &[u8] = &[1, 2, 3];
+        let none: &[u8] = &[];
+        let failed = ShelfError::Failed;
+        for (name, limit, answer, faults) in [
+            ("a", 3u8, Ok(three), 0),
+            ("a", 3, Err(failed), 1),
+            ("a", 2, Err(ShelfError::TooLong { seen: 3 }), 1),
+            ("c", 9, Err(failed), 1),
+            ("c", 9, Err(failed), 2),
+            ("b", 0, Ok(none), 2),
+        ] {
+            let read = shelf.read(alloc, name, usize::from(limit));
+            let read = match &read {
+                Ok(bytes) => Ok(bytes.as_slice()),
+                Err(error) => Err(*error),
+            };
+            assert!(rt; read == answer, "{name} up to {limit}");
+            assert_eq!(rt; shelf.faults, faults, "{name} up to {limit}");
+        }
+        assert_eq!(rt; shelf.calls, 6);
+        Ok(())
+    }
+
+    #[test]
+    fn a_count_at_its_last_value_stays_there(rt: HostRuntime) -> Result<(), Fail> {
+        let alloc = rt.alloc();
+        const LAST: u64 = u64::MAX;
+        for (calls, faults, fails) in [
+            (LAST - 1, LAST - 1, false),
+            (LAST, 0, true),
+            (0, LAST, true),
+        ] {
+            let mut shelf = MemShelf {
+                files: files(alloc)?,
+                fails: Vec::new(alloc),
+                calls,
+                faults,
+            };
+            let read = shelf.read(alloc, "a", 3);
+            assert_eq!(rt; matches!(read, Err(ShelfError::Failed)), fails);
+            assert_eq!(rt; shelf.calls, calls.saturating_add(1));
+            assert_eq!(rt;
+                shelf.faults,
+                if fails {
+                    faults.saturating_add(1)
+                } else {
+                    faults
+                }
+            );
+        }
+        Ok(())
+    }
+}

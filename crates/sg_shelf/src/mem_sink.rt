@@ -102,3 +102,74 @@ impl Sink for MemSink {
         Ok(())
     }
 }
+
+#[cfg(test)]
+mod tests {
+    use super::*;
+    use std::test::Fail;
+
+    #[test]
+    fn a_put_that_fails_keeps_a_front(rt: HostRuntime) -> Result<(), Fail> {
+        let alloc = rt.alloc();
+        for (keep, taken) in [(0, "oneend"), (2, "onetwend"), (9, "onetwo!end")] {
+            let mut sink = MemSink::new(alloc, vec![in alloc; 2]?, keep)?;
+            sink.put(b"one")?;
+            assert!(rt; sink.put(b"two!").is_err(), "{keep}");
+            sink.put(b"end")?;
+            assert_eq!(rt; sink.bytes(), taken.as_bytes(), "{keep}");
+            assert_eq!(rt; sink.faults, 1, "{keep}");
+        }
+        Ok(())
+    }
+
+    #[test]
+    fn the_reserve_is_16_mib(rt: HostRuntime) -> Result<(), Fail> {
+        let alloc = rt.alloc();
+        let long = vec![in alloc; 7u8; 16_777_217]?;
+        let mut sink = MemSink::new(alloc, vec![in alloc; 4]?, 1)?;
+        assert!(rt; sink.put(&long).is_err());
+        assert!(rt; sink.bytes().is_empty());
+        sink.put(&long[2..])?;
+        assert!(rt; sink.put(b"ab").is_err());
+        assert_eq!(rt; sink.bytes().len(), 16_777_215);
+
+        // This one is to fail, and the one byte due fits.
+        assert!(rt; sink.put(b"ab").is_err());
+        assert_eq!(rt; sink.bytes().len(), 16_777_216);
+        sink.put(b"")?;
+        assert!(rt; sink.put(b"c").is_err());
+        assert_eq!(rt; sink.faults, 4);
+
+        let mut sink = MemSink::new(alloc, Vec::new(alloc), 0)?;
+        sink.put(&long[1..])?;
+        assert_eq!(rt; sink.bytes().len(), 16_777_216);
+        Ok(())
+    }
+
+    #[test]
+    fn a_count_at_its_last_value_stays_there(rt: HostRuntime) -> Result<(), Fail> {
+        let alloc = rt.alloc();
+        const LAST: u64 = u64::MAX;
+        for (calls, faults, fails) in [
+            (LAST - 1, LAST - 1, false),
+            (LAST, 0, true),
+            (0, LAST, true),
+        ] {
+            let mut sink = MemSink::new(alloc, Vec::new(alloc), 0)?;
+            sink.calls = calls;
+            sink.faults = faults;
+            assert_eq!(rt; sink.put(b"one").is_err(), fails);
+            assert_eq!(rt; sink.bytes().is_empty(), fails);
+            assert_eq!(rt; sink.calls, calls.saturating_add(1));
+            assert_eq!(rt;
+                sink.faults,
+                if fails {
+                    faults.saturating_add(1)
+                } else {
+                    faults
+                }
+            );
+        }
+        Ok(())
+    }
+}

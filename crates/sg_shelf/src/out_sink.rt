@@ -77,3 +77,81 @@ fn write_whole<W: Write>(writer: &mut W, piece: &[u8]) -> bool
     }
     true
 }
+
+#[cfg(test)]
+mod tests {
+    use super::*;
+    use std::io;
+    use std::test::Fail;
+
+    // What a writer does once it has no room left.
+    #[derive(Clone, Copy)]
+    enum AtEnd {
+        TakesNothing,
+        Fails,
+    }
+
+    // Takes at most two bytes a write, up to its room.
+    #[derive(Drop)]
+    struct Limited {
+        taken: Vec<u8>,
+        room: usize,
+        at_end: AtEnd,
+        flush_fails: bool,
+    }
+
+    impl Write for Limited {
+        fn write(&mut self, buf: &[u8]) -> io::Result<usize> {
+            if self.room == 0 {
+                return match self.at_end {
+                    AtEnd::TakesNothing => Ok(0),
+                    AtEnd::Fails => Err(io::Error::from(io::ErrorKind::Other)),
+                };
+            }
+            let count = buf.len().min(self.room).min(2);
+            self.taken.extend_from_slice(&buf[..count])?;
+            self.room -= count;
+            Ok(count)
+        }
+
+        fn flush(&mut self) -> io::Result<()> {
+            if self.flush_fails {
+                return Err(io::Error::from(io::ErrorKind::Other));
+            }
+            Ok(())
+        }
+    }
+
+    #[test]
+    fn a_writer_takes_the_pieces(rt: HostRuntime) -> Result<(), Fail> {
+        let mut written = Vec::new(rt.alloc());
+        let mut sink = OutSink::new(&mut written);
+        sink.put(b"three")?;
+        sink.put(b"")?;
+        sink.put(b" pieces")?;
+        assert_eq!(rt; sink.faults, 0);
+        assert_eq!(rt; written.as_slice(), b"three pieces".as_slice());
+        Ok(())
+    }
+
+    #[test]
+    fn failures_are_counted(rt: HostRuntime) -> Result<(), Fail> {
+        for (room, at_end, flush_fails, faults, taken) in [
+            (3, AtEnd::TakesNothing, false, 1, "fiv"),
+            (3, AtEnd::Fails, false, 1, "fiv"),
+            (3, AtEnd::Fails, true, 2, "fiv"),
+            (9, AtEnd::Fails, true, 1, "five!"),
+        ] {
+            let mut sink = OutSink::new(Limited {
+                taken: Vec::new(rt.alloc()),
+                room,
+                at_end,
+                flush_fails,
+            });
+            assert!(rt; sink.put(b"five!").is_err());
+            assert_eq!(rt; sink.faults, faults);
+            assert_eq!(rt; sink.writer.taken.as_slice(), taken.as_bytes());
+        }
+        Ok(())
+    }
+}
