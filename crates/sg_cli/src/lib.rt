@@ -6,10 +6,7 @@
 
 mod refusal;
 mod report;
-mod run;
-mod solving;
 mod tickets;
 mod value;
 
 pub use refusal::Refusal;
-pub use run::run;
