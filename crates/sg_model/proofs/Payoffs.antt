@@ -1,23 +1,22 @@
 -- The greatest payoff and the shift bound what plays and commitments give the defender.
-use Rattle.std.proofs.Common.{◌≡◌, ◌≢◌, ℕ, zero, suc, ◌+◌, ◌-◌, ◌<◌, ◌≤◌, Bool, true, false, cond, List, [], ◌∷◌, ◌++◌, map, length, ℤ, pos, ◌+ℤ◌, ◌-ℤ◌, ◌*ℤ◌, ◌≤ℤ◌, ap, subst, sym, ◌∙◌, refl, arith, MatchBool, flat_map, slice_index, slice_index_or, inl, inr}
+use Rattle.std.proofs.Common.{◌≡◌, ℕ, zero, suc, ◌+◌, ◌<◌, ◌≤◌, Bool, true, false, cond, List, [], ◌∷◌, map, length, ℤ, pos, ◌+ℤ◌, ◌*ℤ◌, ◌≤ℤ◌, ap, subst, sym, refl, arith, MatchBool, flat_map, slice_index, slice_index_or, inl, inr}
 use Rattle.std.specs.List.{All, Contains, fold}
 use Rattle.std.specs.Int.{int_min}
 use Rattle.std.proofs.lemmas.Bool.{cases_eq}
 use Rattle.std.proofs.lemmas.Int.{ints, fold-int_min_bounds}
-use Rattle.std.proofs.lemmas.List.Elements.{All-nil, All-cons, All-contains, All-weaker, Contains-append_left, Contains-append_right}
+use Rattle.std.proofs.lemmas.List.Elements.{All-nil, All-cons, All-contains, Contains-append_left, Contains-append_right}
 use Rattle.sg_model.specs.declared.ticket.Ticket.{Ticket}
 use Rattle.sg_model.specs.Sums.{greatest, least, nth, numbers, numbers_from, total}
 use Rattle.sg_model.specs.Games.{Game, action_count, attacker, is_matrix, payoff, prior_total}
 use Rattle.sg_model.specs.Plays.{IsLegal, IsLegalJoint, IsRow, covers, pay_d}
 use Rattle.sg_model.specs.Payoffs.{IsPeopled, greatest_of, payoffs_at, payoffs_of, shift_of}
-use Rattle.sg_model.specs.Commitments.{IsCommitment, sum_d, take_of, weight_total, worth}
+use Rattle.sg_model.specs.Commitments.{IsCommitment, take_of, weight_total, worth}
 use Rattle.sg_model.specs.Optimality.{IsUpperBound}
-use Rattle.sg_model.proofs.Ints.{v, n, times, same_by, mul-le}
+use Rattle.sg_model.proofs.Ints.{v, times, same_by, mul-le}
 use Rattle.sg_model.proofs.Sums.{total-le, total-scaled}
 use Rattle.sg_model.proofs.Numbers.{All-numbers}
 use Rattle.sg_model.proofs.Greatest.{Contains-head, Contains-tail}
 use Rattle.sg_model.proofs.Best.{greatest-bounds, take_of-reached}
-use Rattle.sg_model.proofs.Covers.{weight_total-positive}
 use Rattle.sg_model.proofs.Values.{prior_total-positive}
 
 Contains-map : {X Y : Type 0} (f : X → Y) (xs : List X) (x : X) → Contains xs x → Contains (map f xs) (f x)

@@ -1,5 +1,5 @@
 -- What the greatest payoff and the shift say of every play and commitment.
-use Rattle.std.specs.Prelude.{◌≡◌, ℕ, ◌≤◌, List, length, ℤ, pos, ◌+ℤ◌, ◌*ℤ◌, ◌≤ℤ◌, Contains}
+use Rattle.std.specs.Prelude.{ℕ, ◌≤◌, List, length, pos, ◌+ℤ◌, ◌*ℤ◌, ◌≤ℤ◌, Contains}
 use Rattle.sg_model.specs.declared.ticket.Ticket.{Ticket}
 use Rattle.sg_model.specs.Sums.{total, numbers}
 use Rattle.sg_model.specs.Games.{Game, action_count, attacker, prior_total}

@@ -23,12 +23,15 @@ pub use game_laws::{game_is_peopled, game_is_small, payoffs_are_in_range, scale_
 pub use kind::Kind;
 pub use level::Level;
 pub use optimality_laws::{
-    bound_is_above, joining_keeps, optimal_is_bound, optimal_is_least_bound, optimal_value_is_one, scaling_keeps,
+    bound_is_above, optimal_is_bound, optimal_is_least_bound, optimal_value_is_one,
+    order_and_joining_keep_mix, same_mix_keeps, scaling_keeps,
 };
 pub use origami_laws::{
     level_is_best, level_is_least, level_is_reached, level_tickets_are_optimal, water_bounds,
 };
-pub use payoff_laws::{greatest_is_bound, payoffs_are_bounded, payoffs_are_listed, take_is_bounded};
+pub use payoff_laws::{
+    greatest_is_bound, payoffs_are_bounded, payoffs_are_listed, take_is_bounded,
+};
 pub use play_laws::{
     covers_are_few, covers_where_held, held_pays_covered, patrols_cover_choices,
     same_cover_pays_same,

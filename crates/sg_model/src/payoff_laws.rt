@@ -1,7 +1,10 @@
 //! Laws about the greatest payoff and the shift, each as the contract of a function that does nothing.
 
 ghost use Rattle.sg_model.specs.PayoffLaws.{
-    GreatestIsBound, PayoffsAreBounded, PayoffsAreListed, TakeIsBounded,
+  GreatestIsBound,
+  PayoffsAreBounded,
+  PayoffsAreListed,
+  TakeIsBounded,
 };
 
 /// What the defender gets of a legal play is one of the payoffs that it may get.
