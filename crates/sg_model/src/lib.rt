@@ -27,7 +27,8 @@ pub use optimality_laws::{
     order_and_joining_keep_mix, same_mix_keeps, scaling_keeps,
 };
 pub use origami_laws::{
-    level_is_best, level_is_least, level_is_reached, level_tickets_are_optimal, water_bounds,
+    level_is_best, level_is_least, level_is_reached, level_tickets_are_optimal, no_level_is_above,
+    water_bounds,
 };
 pub use payoff_laws::{
     greatest_is_bound, payoffs_are_bounded, payoffs_are_listed, take_is_bounded,
