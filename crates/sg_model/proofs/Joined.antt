@@ -1,6 +1,6 @@
 -- Sums over tickets depend only on the weight of each play.
-use Rattle.std.proofs.Common.{◌≡◌, ℕ, Bool, true, false, cond, ◌||◌, List, [], ◌∷◌, ◌++◌, map, length, ℤ, pos, ◌+ℤ◌, ◌*ℤ◌, ◌≤ℤ◌, ap, subst, sym, ◌∙◌, refl, arith, bytes_eq, int_le, true≢false}
-use Rattle.std.specs.List.{All, filter, list_all, list_any}
+use Rattle.std.proofs.Common.{◌≡◌, ℕ, Bool, true, false, cond, ◌||◌, List, [], ◌∷◌, ◌++◌, map, length, ℤ, pos, ◌+ℤ◌, ◌*ℤ◌, ◌≤ℤ◌, ap, subst, sym, ◌∙◌, refl, arith, bytes_eq, int_le, IsPermutation}
+use Rattle.std.specs.List.{filter, list_all, list_any}
 use Rattle.std.proofs.lemmas.Int.{ints}
 use Rattle.std.proofs.lemmas.List.Folds.{list_any-append}
 use Rattle.std.proofs.lemmas.Slice.Eq.{bytes_eq-Decides}
@@ -8,11 +8,11 @@ use Rattle.sg_model.specs.declared.ticket.Ticket.{Ticket}
 use Rattle.sg_model.specs.Sums.{total, greatest, numbers}
 use Rattle.sg_model.specs.Games.{Game, action_count, attacker, prior_total}
 use Rattle.sg_model.specs.Plays.{covers, pay_a, pay_d}
-use Rattle.sg_model.specs.Commitments.{IsValue, cover_count, is_best, sum_a, sum_d, take_of, weight_on, weight_total, worth}
+use Rattle.sg_model.specs.Commitments.{IsValue, cover_count, sum_a, sum_d, take_of, weight_on, weight_total, worth}
 use Rattle.sg_model.specs.Optimality.{IsOptimal}
 use Rattle.sg_model.specs.OptimalityLaws.{AreOneMix}
 use Rattle.sg_model.proofs.Ints.{v, n, plus, times, same_by}
-use Rattle.sg_model.proofs.Sums.{total-exchange}
+use Rattle.sg_model.proofs.Sums.{total-exchange, total-IsPermutation}
 use Rattle.sg_model.proofs.Greatest.{or-left, or-right}
 
 -- the plays of a list, each once
@@ -31,22 +31,22 @@ counted h q (p ∷ ps) =
     let part = λ (r : List ℕ). cond (bytes_eq q r) (h r) (pos 0) in
     let rest = counted h q ps in
     elim (list_any (λ r. bytes_eq p r) ps) as (λ (b : Bool). list_any (λ r. bytes_eq p r) ps ≡ b
-        → total part (cond b (once_each ps) (p ∷ once_each ps)) ≡ cond (bytes_eq q p || list_any (λ r. bytes_eq q r) ps) (h q) (pos 0)) [
+    → total part (cond b (once_each ps) (p ∷ once_each ps)) ≡ cond (bytes_eq q p || list_any (λ r. bytes_eq q r) ps) (h q) (pos 0)) [
       | true ↦ (λ again. elim (bytes_eq q p) as (λ (c : Bool). bytes_eq q p ≡ c → total part (once_each ps) ≡ cond (c || list_any (λ r. bytes_eq q r) ps) (h q) (pos 0)) [
-            | true ↦ (λ same.
-                  let e : q ≡ p = same-is q p same in
-                  let there : list_any (λ r. bytes_eq q r) ps ≡ true = subst (λ (s : List ℕ). list_any (λ r. bytes_eq s r) ps ≡ true) (sym e) again in
-                  rest ∙ ap (λ (b : Bool). cond b (h q) (pos 0)) there)
-            | false ↦ (λ _. rest)
-          ] refl)
+        | true ↦ (λ same.
+            let e : q ≡ p = same-is q p same in
+            let there : list_any (λ r. bytes_eq q r) ps ≡ true = subst (λ (s : List ℕ). list_any (λ r. bytes_eq s r) ps ≡ true) (sym e) again in
+            rest ∙ ap (λ (b : Bool). cond b (h q) (pos 0)) there)
+        | false ↦ (λ _. rest)
+      ] refl)
       | false ↦ (λ first. elim (bytes_eq q p) as (λ (c : Bool). bytes_eq q p ≡ c
-            → (cond c (h p) (pos 0) +ℤ total part (once_each ps)) ≡ cond (c || list_any (λ r. bytes_eq q r) ps) (h q) (pos 0)) [
+          → (cond c (h p) (pos 0) +ℤ total part (once_each ps)) ≡ cond (c || list_any (λ r. bytes_eq q r) ps) (h q) (pos 0)) [
             | true ↦ (λ same.
-                  let e : q ≡ p = same-is q p same in
-                  let gone : list_any (λ r. bytes_eq q r) ps ≡ false = subst (λ (s : List ℕ). list_any (λ r. bytes_eq s r) ps ≡ false) (sym e) first in
-                  let none : total part (once_each ps) ≡ pos 0 = rest ∙ ap (λ (b : Bool). cond b (h q) (pos 0)) gone in
-                  let here : h p ≡ h q = ap h (sym e) in
-                  omega (arith, ints, none, here))
+                let e : q ≡ p = same-is q p same in
+                let gone : list_any (λ r. bytes_eq q r) ps ≡ false = subst (λ (s : List ℕ). list_any (λ r. bytes_eq s r) ps ≡ false) (sym e) first in
+                let none : total part (once_each ps) ≡ pos 0 = rest ∙ ap (λ (b : Bool). cond b (h q) (pos 0)) gone in
+                let here : h p ≡ h q = ap h (sym e) in
+                omega (arith, ints, none, here))
             | false ↦ (λ _. omega (arith, ints, rest))
           ] refl)
     ] refl
@@ -165,3 +165,13 @@ module _ (g : Game) (k other : List Ticket) (same : AreOneMix k other) where
   same_optimal best = λ rival is_rival.
       subst (λ (w : ℤ). (worth g rival *ℤ weight_total other) ≤ℤ (w *ℤ weight_total rival)) same_worth
       (subst (λ (d : ℤ). (worth g rival *ℤ d) ≤ℤ (worth g k *ℤ weight_total rival)) same_weight_total (best rival is_rival))
+
+pub mix-permuted : (k other : List Ticket) → IsPermutation k other → AreOneMix k other
+mix-permuted k other h = λ play. sym (total-IsPermutation (λ (x : Ticket). cond (bytes_eq x.play.code play) x.weight (pos 0)) k other h)
+
+pub mix-joined : (x y : Ticket) (k : List Ticket) → x.play.code ≡ y.play.code → AreOneMix (x ∷ y ∷ k) (record x { weight = x.weight +ℤ y.weight } ∷ k)
+mix-joined x y k e = λ play.
+    let w : ℤ = weight_on k play in
+    let step : (b : Bool) → (cond b x.weight (pos 0) +ℤ (cond b y.weight (pos 0) +ℤ w)) ≡ (cond b (x.weight +ℤ y.weight) (pos 0) +ℤ w) =
+    λ b. elim b as (λ b. (cond b x.weight (pos 0) +ℤ (cond b y.weight (pos 0) +ℤ w)) ≡ (cond b (x.weight +ℤ y.weight) (pos 0) +ℤ w)) [ true ↦ omega (arith, ints) | false ↦ omega (arith, ints) ] in
+    ap (λ (p : List ℕ). cond (bytes_eq x.play.code play) x.weight (pos 0) +ℤ (cond (bytes_eq p play) y.weight (pos 0) +ℤ w)) (sym e) ∙ step (bytes_eq x.play.code play)

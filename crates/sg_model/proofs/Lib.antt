@@ -17,3 +17,4 @@ pub mod Sizes
 pub mod Deciding
 pub mod Worked
 pub mod Joined
+pub mod Payoffs

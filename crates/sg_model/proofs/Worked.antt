@@ -1,5 +1,5 @@
 -- The worked examples, by computing.
-use Rattle.std.proofs.Common.{◌≡◌, ℕ, zero, suc, ◌+◌, ◌≤◌, ◌^◌, Bool, true, false, cond, List, [], ◌∷◌, length, map, ℤ, pos, ◌*ℤ◌, ◌≤ℤ◌, refl, arith, nat_le, int_le, codes}
+use Rattle.std.proofs.Common.{◌≡◌, ℕ, zero, suc, ◌+◌, ◌≤◌, ◌^◌, Bool, true, false, cond, List, [], ◌∷◌, length, map, ℤ, pos, ◌-ℤ◌, ◌*ℤ◌, ◌≤ℤ◌, refl, arith, nat_le, int_le, codes}
 use Rattle.std.specs.List.{All, list_all}
 use Rattle.std.proofs.lemmas.Int.{ints}
 use Rattle.std.proofs.lemmas.List.{length-map}
@@ -9,11 +9,13 @@ use Rattle.sg_model.specs.declared.level.Level.TheVariants.{Resources, Target}
 use Rattle.sg_model.specs.declared.ticket.Ticket.{Ticket}
 use Rattle.sg_model.specs.Sums.{numbers}
 use Rattle.sg_model.specs.Games.{Attacker, Game, Payoff, nothing}
+use Rattle.sg_model.specs.Plays.{IsLegalJoint}
+use Rattle.sg_model.specs.Optimality.{IsOptimal}
 use Rattle.sg_model.specs.Commitments.{IsValue, cover_count, weight_total}
 use Rattle.sg_model.specs.Origami.{AreLevelTickets, IsOrigami, IsScaled, IsWater, count_at}
 use Rattle.sg_model.specs.Names.{is_name}
 use Rattle.sg_model.specs.Limits.{IsGame, IsMatrixType, IsPayoff, IsSecurityType, is_scaled, program_rows}
-use Rattle.sg_model.specs.Examples.{IsSolved, IsWorth, WorkedExamples, four_targets, four_tickets, guarded, held_down, idle, in_a_row, leads, letters, minus, named_from, neighbour_tickets, neighbours, one_player, pairs, patrolled, pays, plain, player, row_mix, row_tickets, tabled, thief, three_targets, two_payoffs, two_players, two_targets, two_tickets, unpatrolled, well_patrolled}
+use Rattle.sg_model.specs.Examples.{AreRefused, IsSolved, IsWorth, WorkedExamples, always_first, four_targets, four_tickets, guarded, held_down, idle, in_a_row, leads, letters, minus, named_from, neighbour_tickets, neighbours, one_player, pairs, patrolled, pays, plain, player, row_mix, row_tickets, tabled, thief, three_targets, ticket, two_payoffs, two_players, two_targets, two_tickets, unpatrolled, well_patrolled}
 use Rattle.sg_model.proofs.Deciding.{all_pass, at_most, at_most_z, commitment_by, commitment_test, count_by, count_test, lists_by, lists_test, names_by, names_test, payoff_by, payoff_test, range_by, scaled_by, scaled_test, table_by, table_test}
 use Rattle.sg_model.proofs.Numbers.{length-numbers_from}
 use Rattle.sg_model.proofs.Promises.{nth-all}
@@ -254,6 +256,22 @@ two_types = record {
   value = record { positive = at_most_z refl; same = refl };
 }
 
+refused : AreRefused
+refused = record {
+  empty = λ is. is.some refl;
+  weightless = λ is. let h : pos 1 ≤ℤ pos 0 = is.positive 0 (ticket 0 []) (at_most refl) in omega (arith, ints, h);
+  repeated = λ is. is.distinct 0 1 (ticket 0 []) (at_most refl) (at_most refl) refl;
+  past_the_list = λ is. let h : IsLegalJoint two_targets (3 ∷ []) = is.legal 0 (ticket 0 []) (at_most refl) in let low : 3 ≤ 2 = h.in_list 0 (at_most refl) in omega (arith, low);
+  too_many = λ is. let h : IsLegalJoint two_targets (1 ∷ 2 ∷ []) = is.legal 0 (ticket 0 []) (at_most refl) in let e : 2 ≡ 1 = h.one_each in omega (arith, e);
+}
+
+poor : IsWorth two_targets always_first (minus 1) (pos 1)
+poor = record { game = one_patrol.worth.game; commitment = commitment_by two_targets always_first refl; value = record { positive = at_most_z refl; same = refl } }
+
+-- worth 2 on three tickets is more than worth -1 on one
+not_optimal : IsOptimal two_targets always_first → ⊥
+not_optimal best = let h : pos 2 ≤ℤ (pos 0 -ℤ pos 3) = best two_tickets one_patrol.worth.commitment in omega (arith, ints, h)
+
 pub worked : WorkedExamples
 worked = record {
   one_patrol = one_patrol;
@@ -267,4 +285,10 @@ worked = record {
   one_type = one_type;
   tie = record { first = refl; second = refl; less = refl; more = refl };
   two_types = two_types;
+  more_than_once = refl;
+  bound = refl;
+  two_worth = refl;
+  refused = refused;
+  poor = poor;
+  not_optimal = not_optimal;
 }

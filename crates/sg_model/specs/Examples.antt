@@ -6,9 +6,9 @@ use Rattle.sg_model.specs.declared.level.Level.TheVariants.{Resources, Target}
 use Rattle.sg_model.specs.declared.ticket.Ticket.{Ticket}
 use Rattle.sg_model.specs.Sums.{numbers}
 use Rattle.sg_model.specs.Games.{Attacker, Game, Named, Payoff}
-use Rattle.sg_model.specs.Commitments.{IsCommitment, IsValue, cover_count, is_best, sum_d}
+use Rattle.sg_model.specs.Commitments.{IsCommitment, IsValue, cover_count, is_best, sum_d, worth}
 use Rattle.sg_model.specs.Optimality.{IsOptimal}
-use Rattle.sg_model.specs.Origami.{AreLevelTickets, IsOrigami, IsWater}
+use Rattle.sg_model.specs.Origami.{AreLevelTickets, IsOrigami, IsWater, water_bound}
 use Rattle.sg_model.specs.Limits.{IsGame}
 
 -- minus n
@@ -169,6 +169,18 @@ pub record IsTie (g : Game) (k : List Ticket) (l : ℕ) : Type 0 where
   pub less : sum_d g k l 1 ≡ pos 5
   pub more : sum_d g k l 2 ≡ pos 11
 
+-- lists of tickets for the two targets that are no commitments: none at all, no weight, a play twice, a choice that isn't there, a patrol too many
+pub record AreRefused : Type 0 where
+  pub empty : IsCommitment two_targets [] → ⊥
+  pub weightless : IsCommitment two_targets (ticket 0 (1 ∷ []) ∷ []) → ⊥
+  pub repeated : IsCommitment two_targets (ticket 1 (1 ∷ []) ∷ ticket 2 (1 ∷ []) ∷ []) → ⊥
+  pub past_the_list : IsCommitment two_targets (ticket 1 (3 ∷ []) ∷ []) → ⊥
+  pub too_many : IsCommitment two_targets (ticket 1 (1 ∷ 2 ∷ []) ∷ []) → ⊥
+
+-- the first target always: a commitment, but no optimal one
+abbrev pub always_first : List Ticket
+always_first = ticket 1 (1 ∷ []) ∷ []
+
 -- the answers, as worked out by hand
 pub record WorkedExamples : Type 0 where
   pub one_patrol : IsSolved two_targets 1 (pos 4) (pos 3) Resources two_tickets (pos 2) (pos 3)
@@ -182,3 +194,9 @@ pub record WorkedExamples : Type 0 where
   pub one_type : IsWorth one_player row_mix (pos 11) (pos 3)
   pub tie : IsTie one_player row_mix 1
   pub two_types : IsWorth two_players row_mix (pos 11) (pos 3)
+  pub more_than_once : cover_count three_targets pairs 3 ≡ pos 2
+  pub bound : water_bound two_targets (pos 4) (pos 3) ≡ pos 8
+  pub two_worth : worth two_players row_mix ≡ pos 22
+  pub refused : AreRefused
+  pub poor : IsWorth two_targets always_first (minus 1) (pos 1)
+  pub not_optimal : IsOptimal two_targets always_first → ⊥

@@ -10,6 +10,7 @@ pub mod Limits
 pub mod ReportText
 pub mod GameLaws
 pub mod PlayLaws
+pub mod PayoffLaws
 pub mod OptimalityLaws
 pub mod OrigamiLaws
 pub mod Examples

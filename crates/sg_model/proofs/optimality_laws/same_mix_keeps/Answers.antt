@@ -1,6 +1,6 @@
 use Rattle.std.proofs.Common.{sym}
 use Rattle.sg_model.proofs.Joined.{same_cover_count, same_optimal, same_sum_a, same_sum_d, same_value, same_weight_total, same_worth}
-use Rattle.sg_model.proofs.optimality_laws.joining_keeps.Goals as goal
+use Rattle.sg_model.proofs.optimality_laws.same_mix_keeps.Goals as goal
 
 pub returns : goal.returns
 returns c = λ g k other same. (
