@@ -1,3 +1,5 @@
+pub mod Filled
+pub mod Coverages
 pub mod Divided
 pub mod Reasons
 pub mod Lowest
