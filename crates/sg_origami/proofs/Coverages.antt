@@ -1,6 +1,6 @@
 -- The counts of a level, over their greatest common divisor, are the coverage that it asks.
 use Rattle.std.proofs.Common.{◌≡◌, ℕ, zero, suc, ◌-◌, ◌*◌, ◌/◌, ◌<◌, ◌≤◌, ◌^◌, Bool, true, false, cond, List, [], ◌∷◌, length, map, sym, ◌∙◌, ap, subst, refl, arith, get_or}
-use Rattle.std.specs.Prelude.{ℤ, pos, negsuc, ◌+ℤ◌, ◌-ℤ◌, ◌*ℤ◌, ◌≤ℤ◌, ◌<ℤ◌, int_div, int_le, unsigned_abs}
+use Rattle.std.specs.Prelude.{ℤ, pos, negsuc, ◌-ℤ◌, ◌*ℤ◌, ◌≤ℤ◌, int_div, int_le, unsigned_abs}
 use Rattle.std.specs.Int.{◌∣◌}
 use Rattle.std.specs.List.{All}
 use Rattle.std.proofs.lemmas.Int.{ints, unsigned_abs-mul}
@@ -12,7 +12,7 @@ use Rattle.sg_model.specs.Sums.{total, numbers, nth}
 use Rattle.sg_model.specs.Games.{Game, payoff}
 use Rattle.sg_model.specs.Limits.{IsWithin}
 use Rattle.sg_model.specs.Origami.{gap, share, count_at}
-use Rattle.sg_model.proofs.Ints.{v, n, plus, less, times, same_by, le_by, le_from, mul-le, product_nonneg, cancel-le, factor_positive}
+use Rattle.sg_model.proofs.Ints.{v, n, less, times, same_by, le_by, le_from, mul-le, product_nonneg, cancel-le, factor_positive}
 use Rattle.sg_model.proofs.Levels.{multiple_is}
 use Rattle.sg_model.proofs.Numbers.{All-numbers, All-numbers-at, length-numbers_from, nth-map, nth-numbers_from}
 use Rattle.sg_model.proofs.Best.{All-from_map}
@@ -90,13 +90,13 @@ counts_few_over g patrols num den r d tickets count o =
     let few = counts_few g patrols num den r in
     let scaled = total-scaled count (pos d) xs in
     let each : All (λ t. (pos d *ℤ count t) ≡ count_at g num den t) xs =
-        All-numbers (λ t. (pos d *ℤ count t) ≡ count_at g num den t) (length g.goals) (λ t low high. same_by (times (n d) (v (count t))) (times (v (count t)) (n d)) (omega arith) ∙ o.each t low high) in
+    All-numbers (λ t. (pos d *ℤ count t) ≡ count_at g num den t) (length g.goals) (λ t low high. same_by (times (n d) (v (count t))) (times (v (count t)) (n d)) (omega arith) ∙ o.each t low high) in
     let same = total-same (λ t. pos d *ℤ count t) (count_at g num den) xs each in
     let x : ℤ = total count xs in
     let turn : pos d *ℤ x ≡ x *ℤ pos d = same_by (times (n d) (v x)) (times (v x) (n d)) (omega arith) in
     let whole : (pos patrols *ℤ tickets) *ℤ pos d ≡ (pos patrols *ℤ den) *ℤ g.scale =
-        same_by (times (times (n patrols) (v tickets)) (n d)) (times (n patrols) (times (v tickets) (n d))) (omega arith)
-        ∙ (ap (λ (z : ℤ). pos patrols *ℤ z) o.whole ∙ same_by (times (n patrols) (times (v g.scale) (v den))) (times (times (n patrols) (v den)) (v g.scale)) (omega arith)) in
+    same_by (times (times (n patrols) (v tickets)) (n d)) (times (n patrols) (times (v tickets) (n d))) (omega arith)
+    ∙ (ap (λ (z : ℤ). pos patrols *ℤ z) o.whole ∙ same_by (times (n patrols) (times (v g.scale) (v den))) (times (times (n patrols) (v den)) (v g.scale)) (omega arith)) in
     let s = o.some in
     cancel-le x (pos patrols *ℤ tickets) (pos d) (omega (arith, ints, few, scaled, same, turn, whole)) (omega (arith, ints, s))
 
@@ -114,11 +114,11 @@ enough_high au gap num den scale m c tickets e share some =
     let a = v au in let g = v gap in let x = v num in let y = v den in let s = v scale in let k = v m in let q = v c in let t = v tickets in
     let paid : ℤ = ((au *ℤ tickets) *ℤ den) *ℤ scale in
     let same : ((au *ℤ tickets -ℤ gap *ℤ c) *ℤ den) *ℤ scale ≡ (num *ℤ tickets) *ℤ scale =
-        same_by (times (times (less (times a t) (times g q)) y) s) (less (times (times (times a t) y) s) (times g (times q (times y s)))) (omega arith)
-        ∙ (ap (λ (z : ℤ). paid -ℤ gap *ℤ z) share
-        ∙ (same_by (less (times (times (times a t) y) s) (times g (times (times k (less (times a y) x)) t))) (less (times (times (times a t) y) s) (times (times k g) (times (less (times a y) x) t))) (omega arith)
-        ∙ (ap (λ (z : ℤ). paid -ℤ z *ℤ ((au *ℤ den -ℤ num) *ℤ tickets)) e
-        ∙ same_by (less (times (times (times a t) y) s) (times s (times (less (times a y) x) t))) (times (times x t) s) (omega arith)))) in
+    same_by (times (times (less (times a t) (times g q)) y) s) (less (times (times (times a t) y) s) (times g (times q (times y s)))) (omega arith)
+    ∙ (ap (λ (z : ℤ). paid -ℤ gap *ℤ z) share
+    ∙ (same_by (less (times (times (times a t) y) s) (times g (times (times k (less (times a y) x)) t))) (less (times (times (times a t) y) s) (times (times k g) (times (less (times a y) x) t))) (omega arith)
+    ∙ (ap (λ (z : ℤ). paid -ℤ z *ℤ ((au *ℤ den -ℤ num) *ℤ tickets)) e
+    ∙ same_by (less (times (times (times a t) y) s) (times s (times (less (times a y) x) t))) (times (times x t) s) (omega arith)))) in
     cancel-le ((au *ℤ tickets -ℤ gap *ℤ c) *ℤ den) (num *ℤ tickets) scale (omega (arith, ints, same)) some
 
 -- any other pays less than the level, covered or not
@@ -174,7 +174,7 @@ coverage_over g patrols num den f r high d i tickets count o =
     let m : ℕ = length g.goals in
     let xs : List ℕ = numbers m in
     record {
-      some = tickets_some g f num den r.positive high d tickets count o;
+      ticket_range = tickets_some g f num den r.positive high d tickets count o;
       one_each = length-map xs count ∙ length-numbers_from 1 m;
       within = All-map (IsWithin (pos 0) tickets) count xs (All-numbers (λ t. IsWithin (pos 0) tickets (count t)) m (count_within g patrols num den f r d tickets count o));
       few = subst (λ (z : ℤ). z ≤ℤ (pos patrols *ℤ tickets)) (sym (total-map (λ (z : ℤ). z) count xs)) (counts_few_over g patrols num den r d tickets count o);

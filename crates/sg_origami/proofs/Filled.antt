@@ -1,18 +1,15 @@
 -- The level of a filling, in lowest terms, and the filling put together.
-use Rattle.std.proofs.Common.{◌≡◌, ℕ, ◌≤◌, ◌^◌, List, length, ℤ, pos, ◌-ℤ◌, ◌*ℤ◌, ◌≤ℤ◌, sym, ◌∙◌, ap, subst, refl, arith, Some}
+use Rattle.std.proofs.Common.{◌≡◌, ℕ, ◌^◌, ℤ, pos, ◌-ℤ◌, ◌≤ℤ◌, subst, arith}
 use Rattle.std.proofs.lemmas.Int.{ints}
 use Rattle.sg_model.specs.declared.level.Level.{Level}
-use Rattle.sg_model.specs.declared.ticket.Ticket.{Ticket}
 use Rattle.sg_model.specs.Games.{Game, resource_count}
-use Rattle.sg_model.specs.Commitments.{IsCommitment, weight_total, sum_a}
 use Rattle.sg_model.specs.Limits.{IsWithin}
-use Rattle.sg_model.specs.Origami.{IsOrigami, IsWater}
+use Rattle.sg_model.specs.Origami.{IsWater}
 use Rattle.sg_model.proofs.Levels.{level_reached}
 use Rattle.sg_num.specs.Fractions.{Fraction, IsReduced, IsReducedForm}
 use Rattle.sg_origami.specs.declared.filling.Filling.{Filling}
 use Rattle.sg_origami.specs.Fillings.{IsCoverage, IsFilling}
-use Rattle.sg_origami.specs.Rates.{IsFillable, IsReachable}
-use Rattle.sg_origami.proofs.Bounds.{Within}
+use Rattle.sg_origami.specs.Rates.{IsFillable}
 use Rattle.sg_origami.proofs.Lowest.{lowers, within_factor}
 use Rattle.sg_origami.proofs.Reduced.{IsFound, found-lowest}
 

@@ -1,3 +1,4 @@
+pub mod Promised
 pub mod Filled
 pub mod Coverages
 pub mod Divided

@@ -1,5 +1,5 @@
 -- A level in lower terms is the same level.
-use Rattle.std.proofs.Common.{◌≡◌, ◌≢◌, slice_index_or, ℕ, ◌≤◌, Bool, true, false, cond, List, [], ◌∷◌, length, ℤ, pos, ◌-ℤ◌, ◌*ℤ◌, ◌≤ℤ◌, sym, ◌∙◌, ap, subst, refl, arith}
+use Rattle.std.proofs.Common.{◌≡◌, ◌≢◌, slice_index_or, ℕ, Bool, true, false, cond, List, [], ◌∷◌, length, ℤ, pos, ◌-ℤ◌, ◌*ℤ◌, ◌≤ℤ◌, sym, ◌∙◌, ap, subst, refl, arith}
 use Rattle.std.specs.List.{filter}
 use Rattle.std.specs.Prelude.{int_le}
 use Rattle.std.proofs.lemmas.Int.{ints, by_lt_z}
@@ -81,7 +81,7 @@ reachable-reduced g patrols num den c h low r = record {
   over = λ j from_one in_range. cancel-le ((payoff g 1 j).ac *ℤ den) num c (subst (λ (z : ℤ). z ≤ℤ (num *ℤ c)) (times_in (payoff g 1 j).ac den c) (r.over j from_one in_range)) h;
   enough = cancel-le (total (share g num den) (at_level g num den)) ((pos patrols *ℤ den) *ℤ g.scale) c
       (subst (λ (z : ℤ). z ≤ℤ (((pos patrols *ℤ den) *ℤ g.scale) *ℤ c)) (total_share-reduced g num den c h)
-        (subst (λ (z : ℤ). total (share g (num *ℤ c) (den *ℤ c)) (at_level g (num *ℤ c) (den *ℤ c)) ≤ℤ z) (whole-reduced patrols den g.scale c) r.enough)) h;
+      (subst (λ (z : ℤ). total (share g (num *ℤ c) (den *ℤ c)) (at_level g (num *ℤ c) (den *ℤ c)) ≤ℤ z) (whole-reduced patrols den g.scale c) r.enough)) h;
 }
 
 -- all that is known of a level

@@ -1,4 +1,4 @@
-use Rattle.std.proofs.Common.{◌≡◌, ◌∙◌, ℤ, to_z, of_z, arith}
+use Rattle.std.proofs.Common.{◌≡◌, ◌∙◌, to_z, of_z, arith}
 use Rattle.std.specs.Int.{w128}
 use Rattle.std.proofs.lemmas.Int.{ints}
 use Rattle.sg_origami.proofs.Filled.{lowest_is, filling_is}
@@ -53,6 +53,6 @@ returns c =
     let num : to_z w128 (of_z w128 c.num.result) ≡ level.num = omega (arith, ints, c.num.type_inv) ∙ c.num.ensures in
     let den : to_z w128 (of_z w128 c.den.result) ≡ level.den = omega (arith, ints, c.den.type_inv) ∙ c.den.ensures.value in
     let k = rw (num, den) at c.in_ok-coverage.ensures in
-    let some = k.some in
+    let some = k.ticket_range in
     let total : to_z w128 (of_z w128 c.in_ok-coverage.coverage.total) ≡ c.in_ok-coverage.coverage.total = omega (arith, ints, some.at_least, some.at_most) in
     rw total (filling_is g c.requires c.resources-patrols.result c.resources-patrols.ensures.count (record { level = level; reason = c.level_of-found.result.reason; counts = c.in_ok-coverage.coverage.counts; total = c.in_ok-coverage.coverage.total }) h k)
