@@ -1,13 +1,13 @@
 -- How much of the scale each target is covered at a level that is held.
-use Rattle.std.proofs.Common.{◌≡◌, ℕ, ◌≤◌, Bool, true, false, cond, List, [], ◌∷◌, length, ℤ, pos, ◌+ℤ◌, ◌-ℤ◌, ◌*ℤ◌, ◌≤ℤ◌, ◌<ℤ◌, ◌^◌, sym, ◌∙◌, ap, subst, refl, arith}
+use Rattle.std.proofs.Common.{◌≡◌, ℕ, ◌≤◌, Bool, true, false, cond, List, [], ◌∷◌, length, ℤ, pos, ◌+ℤ◌, ◌-ℤ◌, ◌*ℤ◌, ◌≤ℤ◌, ◌^◌, subst, refl, arith}
 use Rattle.std.specs.List.{filter}
 use Rattle.std.specs.Prelude.{int_le}
 use Rattle.std.proofs.lemmas.Int.{ints}
 use Rattle.sg_model.specs.Sums.{total, numbers}
 use Rattle.sg_model.specs.Games.{Game, payoff}
-use Rattle.sg_model.specs.Origami.{share, at_level, gap, count_at}
+use Rattle.sg_model.specs.Origami.{share, gap, count_at}
 use Rattle.sg_model.proofs.Levels.{multiple_is}
-use Rattle.sg_model.proofs.Ints.{v, n, plus, less, times, same_by, le_by, le_from, mul-le, product_nonneg}
+use Rattle.sg_model.proofs.Ints.{v, n, less, times, le_by, le_from, product_nonneg}
 use Rattle.sg_origami.specs.Rates.{IsFillable, IsReachable, multiple}
 use Rattle.sg_origami.proofs.Bounds.{multiple_bounds}
 
@@ -27,9 +27,11 @@ counts_few g patrols num den h =
 need_bounds : (m au ac num den scale : ℤ) → pos 1 ≤ℤ m → m *ℤ (au -ℤ ac) ≡ scale → (ac *ℤ den) ≤ℤ num → num ≤ℤ (au *ℤ den) → (pos 0 ≤ℤ (m *ℤ (au *ℤ den -ℤ num))) × ((m *ℤ (au *ℤ den -ℤ num)) ≤ℤ (scale *ℤ den))
 need_bounds m au ac num den scale h e low high =
     let p = product_nonneg m (au *ℤ den -ℤ num) (omega (arith, ints)) (omega (arith, ints)) in
-    let q = product_nonneg m (num -ℤ ac *ℤ den) (omega (arith, ints)) (omega (arith, ints)) in
-    (p, subst (λ (z : ℤ). (m *ℤ (au *ℤ den -ℤ num)) ≤ℤ (z *ℤ den)) e
-      (le_by (times (v m) (less (times (v au) (v den)) (v num))) (times (times (v m) (less (v au) (v ac))) (v den)) (omega (arith, le_from (n 0) (times (v m) (less (v num) (times (v ac) (v den)))) q))))
+    let q = product_nonneg m (num -ℤ ac *ℤ den) (omega (arith, ints)) (omega (arith, ints)) in (
+      p,
+      subst (λ (z : ℤ). (m *ℤ (au *ℤ den -ℤ num)) ≤ℤ (z *ℤ den)) e
+          (le_by (times (v m) (less (times (v au) (v den)) (v num))) (times (times (v m) (less (v au) (v ac))) (v den)) (omega (arith, le_from (n 0) (times (v m) (less (v num) (times (v ac) (v den)))) q))),
+    )
 
 pub count_bounds : (g : Game) (patrols : ℕ) (num den : ℤ) → IsFillable g → IsReachable g patrols num den → (t : ℕ) → 1 ≤ t → t ≤ length g.goals → (pos 0 ≤ℤ count_at g num den t) × (count_at g num den t ≤ℤ (g.scale *ℤ den))
 count_bounds g patrols num den f h t low high =

@@ -1,5 +1,5 @@
 -- Counts over their greatest common divisor with the whole.
-use Rattle.std.proofs.Common.{◌≡◌, ℕ, ◌+◌, ◌≤◌, sym, ◌∙◌, subst, arith, inl, inr}
+use Rattle.std.proofs.Common.{◌≡◌, ℕ, ◌+◌, sym, subst, arith, inl, inr}
 use Rattle.std.specs.Prelude.{ℤ, unsigned_abs}
 use Rattle.std.specs.Int.{◌∣◌, IsGcd}
 use Rattle.std.proofs.lemmas.Bool.{cases_eq}
@@ -17,8 +17,8 @@ pub one_more_count : (g : Game) (num den : ℤ) (whole m d k r : ℕ) → IsCoun
 one_more_count g num den whole m d k r i e h = record {
   of_whole = dvd_trans r h.0 i.of_whole;
   of_each = λ t low high. elim (cases_eq t (m + 1)) [
-      | inl same ↦ subst (λ (t : ℕ). r ∣ unsigned_abs (count_at g num den t)) (sym same) (subst (λ (k : ℕ). r ∣ k) e h.1)
-      | inr other ↦ dvd_trans r h.0 (i.of_each t low (omega arith))
-    ];
+    | inl same ↦ subst (λ (t : ℕ). r ∣ unsigned_abs (count_at g num den t)) (sym same) (subst (λ (k : ℕ). r ∣ k) e h.1)
+    | inr other ↦ dvd_trans r h.0 (i.of_each t low (omega arith))
+  ];
   greatest = λ x p q. h.2 x (i.greatest x p (λ t low high. q t low (omega arith))) (subst (λ (k : ℕ). x ∣ k) (sym e) (q (m + 1) (omega arith) (omega arith)));
 }

@@ -1,7 +1,6 @@
 -- Sums of the targets of a level that the patrols can't hold the attacker down to.
-use Rattle.std.proofs.Common.{◌≡◌, ℕ, ◌+◌, ◌≤◌, ◌^◌, List, length, ℤ, pos, ◌+ℤ◌, ◌-ℤ◌, ◌*ℤ◌, ◌≤ℤ◌, sym, ◌∙◌, ap, subst, arith}
+use Rattle.std.proofs.Common.{◌≡◌, ℕ, ◌^◌, List, length, ℤ, pos, ◌-ℤ◌, ◌*ℤ◌, ◌≤ℤ◌, sym, ◌∙◌, ap, subst, arith}
 use Rattle.std.specs.List.{All}
-use Rattle.std.specs.Prelude.{int_le}
 use Rattle.std.proofs.lemmas.Int.{ints}
 use Rattle.sg_model.specs.Sums.{total, numbers}
 use Rattle.sg_model.specs.Games.{Game, payoff}
@@ -25,8 +24,8 @@ pub record Lags (g : Game) (have multiples weights : ℤ) : Type 0 where
 
 pub heavy : (g : Game) → IsFillable g → All (Heavy (multiple g) (au g)) (numbers (length g.goals))
 heavy g f = All-numbers (Heavy (multiple g) (au g)) (length g.goals) (λ t low high.
-  let s = f.origami.targets t low high in
-  (multiple_bounds (multiple g t) (gap (payoff g 1 t)) g.scale (2 ^ 32) (multiple_is g t s) (omega (arith, ints, s.attacker_loses)) f.origami.scaled f.scale_small).0)
+    let s = f.origami.targets t low high in
+    (multiple_bounds (multiple g t) (gap (payoff g 1 t)) g.scale (2 ^ 32) (multiple_is g t s) (omega (arith, ints, s.attacker_loses)) f.origami.scaled f.scale_small).0)
 
 pub lags_start : (g : Game) → IsFillable g → (have num multiples weights : ℤ) → pos 0 ≤ℤ have → num ≡ (pos 0 -ℤ pos (2 ^ 30)) -ℤ have
     → multiples ≡ total (multiple g) (at_level g num (pos 1)) → weights ≡ total (weighted g) (at_level g num (pos 1)) → Lags g have multiples weights
@@ -35,7 +34,7 @@ lags_start g f have num multiples weights some e a b = record {
   den = pos 1;
   short = subst (λ (z : ℤ). Short (multiple g) (au g) (numbers (length g.goals)) have z (pos 1)) (sym e)
       (short_below_all (multiple g) (au g) (pos 0 -ℤ pos (2 ^ 30)) have (numbers (length g.goals)) (numbers-some (length g.goals) f.some) (heavy g f)
-        (All-numbers (λ t. (pos 0 -ℤ pos (2 ^ 30)) ≤ℤ au g t) (length g.goals) (λ t low high. (f.small t).au.at_least)) some);
+      (All-numbers (λ t. (pos 0 -ℤ pos (2 ^ 30)) ≤ℤ au g t) (length g.goals) (λ t low high. (f.small t).au.at_least)) some);
   multiples_is = a;
   weights_is = b;
 }
@@ -52,7 +51,7 @@ lags_next g f have multiples weights more heavier some l a b =
       den = multiples;
       short = subst (λ (z : ℤ). Short m (au g) (numbers (length g.goals)) have z multiples) (sym num_is)
           (subst (λ (z : ℤ). Short m (au g) (numbers (length g.goals)) have (next_num m (au g) have ys) z) (sym l.multiples_is)
-            (still_short m (au g) (numbers (length g.goals)) have l.num l.den (heavy g f) some l.short));
+          (still_short m (au g) (numbers (length g.goals)) have l.num l.den (heavy g f) some l.short));
       multiples_is = a;
       weights_is = b;
     }
@@ -65,10 +64,10 @@ lags_done g patrols f have multiples weights more some is l a kept =
     let num_is : (weights -ℤ have) ≡ next_num m (au g) have ys = ap (λ (z : ℤ). z -ℤ have) l.weights_is in
     let next = still_short m (au g) (numbers (length g.goals)) have l.num l.den (heavy g f) some l.short in
     let more_is : more ≡ total m (at_level g (next_num m (au g) have ys) (slopes m (au g) ys)) =
-        a ∙ (ap (λ (z : ℤ). total m (at_level g z multiples)) num_is ∙ ap (λ (z : ℤ). total m (at_level g (next_num m (au g) have ys) z)) l.multiples_is) in
+    a ∙ (ap (λ (z : ℤ). total m (at_level g z multiples)) num_is ∙ ap (λ (z : ℤ). total m (at_level g (next_num m (au g) have ys) z)) l.multiples_is) in
     let enough = just_enough m (au g) (numbers (length g.goals)) have l.num l.den (heavy g f) l.short (omega (arith, ints, kept, more_is, l.multiples_is)) in
     let turned : have *ℤ slopes m (au g) ys ≡ (pos patrols *ℤ slopes m (au g) ys) *ℤ g.scale =
-        ap (λ (z : ℤ). z *ℤ slopes m (au g) ys) is ∙ same_by (times (times (n patrols) (v g.scale)) (v (slopes m (au g) ys))) (times (times (n patrols) (v (slopes m (au g) ys))) (v g.scale)) (omega arith) in
+    ap (λ (z : ℤ). z *ℤ slopes m (au g) ys) is ∙ same_by (times (times (n patrols) (v g.scale)) (v (slopes m (au g) ys))) (times (times (n patrols) (v (slopes m (au g) ys))) (v g.scale)) (omega arith) in
     subst (λ (z : ℤ). SpendsAll g patrols z multiples) (sym num_is)
     (subst (λ (z : ℤ). SpendsAll g patrols (next_num m (au g) have ys) z) (sym l.multiples_is)
-      (record { some = none_no_slopes m (au g) (at_level g (next_num m (au g) have ys) (slopes m (au g) ys)) next.some; sum = enough ∙ turned }))
+    (record { some = none_no_slopes m (au g) (at_level g (next_num m (au g) have ys) (slopes m (au g) ys)) next.some; sum = enough ∙ turned }))

@@ -1,3 +1,6 @@
+pub mod Promised
+pub mod Filled
+pub mod Coverages
 pub mod Divided
 pub mod Reasons
 pub mod Lowest

@@ -1,14 +1,13 @@
 -- Levels that no covered target exceeds, and that the patrols suffice for.
-use Rattle.std.proofs.Common.{◌≡◌, ℕ, ◌+◌, ◌≤◌, ◌<◌, ◌^◌, Bool, List, length, ℤ, pos, ◌+ℤ◌, ◌-ℤ◌, ◌*ℤ◌, ◌≤ℤ◌, ◌<ℤ◌, sym, ◌∙◌, ap, subst, arith, slice_index_or, inl, inr}
+use Rattle.std.proofs.Common.{◌≡◌, ℕ, ◌+◌, Bool, List, length, ℤ, pos, ◌-ℤ◌, ◌*ℤ◌, ◌≤ℤ◌, ◌<ℤ◌, sym, ◌∙◌, ap, subst, arith, slice_index_or, inl, inr}
 use Rattle.std.specs.List.{All, filter}
-use Rattle.std.specs.Prelude.{int_le}
 use Rattle.std.proofs.lemmas.Int.{ints}
 use Rattle.std.proofs.lemmas.Bool.{cases_eq}
 use Rattle.std.proofs.lemmas.List.Elements.{All-filter}
 use Rattle.sg_model.specs.Sums.{total, numbers}
 use Rattle.sg_model.specs.Games.{Game, payoff}
 use Rattle.sg_model.specs.Origami.{at_level, SpendsAll, share}
-use Rattle.sg_model.proofs.Ints.{v, n, plus, less, times, same_by, le_by, le_from, mul-le, product_nonneg, cancel-le}
+use Rattle.sg_model.proofs.Ints.{v, n, less, times, same_by, le_by, le_from, mul-le, product_nonneg, cancel-le}
 use Rattle.sg_model.proofs.Sums.{total-le, total-scaled}
 use Rattle.sg_origami.specs.Rates.{IsFillable, IsFirstMost, IsReachable, multiple}
 use Rattle.sg_origami.proofs.Rise.{Heavy, high, need, most_needed}
@@ -35,7 +34,7 @@ reachable_floor g patrols f num den spends positive t pay floor above =
     let xs : List ℕ = numbers (length g.goals) in
     let p : ℕ → Bool = high m u pay (pos 1) in
     let each : All (λ t. (den *ℤ need m u pay (pos 1) t) ≤ℤ need m u num den t) (filter p xs) =
-        λ i d lt. needs_less (m (slice_index_or (filter p xs) i d)) (u (slice_index_or (filter p xs) i d)) num den pay (All-filter p (Heavy m u) xs (heavy g f) i d lt) above in
+    λ i d lt. needs_less (m (slice_index_or (filter p xs) i d)) (u (slice_index_or (filter p xs) i d)) num den pay (All-filter p (Heavy m u) xs (heavy g f) i d lt) above in
     let a = total-le (λ t. den *ℤ need m u pay (pos 1) t) (need m u num den) (filter p xs) each in
     let b = total-scaled (need m u pay (pos 1)) den (filter p xs) in
     let c = most_needed m u num den p xs (heavy g f) in
@@ -55,9 +54,9 @@ floor_higher g m t t' pay pay' next f is lt et ep = record {
   in_range = omega (arith, et);
   pays = ep ∙ (is ∙ ap (λ (k : ℕ). (payoff g 1 k).ac) (sym et));
   most = λ j low high. elim (cases_eq j (m + 1)) [
-      | inl e ↦ subst (λ (k : ℕ). (payoff g 1 k).ac ≤ℤ pay') (sym e) (omega (arith, ints, is, ep))
-      | inr ne ↦ omega (arith, ints, f.most j low (omega arith), lt, ep)
-    ];
+    | inl e ↦ subst (λ (k : ℕ). (payoff g 1 k).ac ≤ℤ pay') (sym e) (omega (arith, ints, is, ep))
+    | inr ne ↦ omega (arith, ints, f.most j low (omega arith), lt, ep)
+  ];
   first = λ j low high. omega (arith, ints, f.most j low (omega (arith, et)), lt, ep);
 }
 
@@ -67,8 +66,8 @@ floor_stays g m t t' pay pay' next f is le et ep = record {
   in_range = omega (arith, et, f.in_range);
   pays = ep ∙ (f.pays ∙ ap (λ (k : ℕ). (payoff g 1 k).ac) (sym et));
   most = λ j low high. elim (cases_eq j (m + 1)) [
-      | inl e ↦ subst (λ (k : ℕ). (payoff g 1 k).ac ≤ℤ pay') (sym e) (omega (arith, ints, is, ep, le))
-      | inr ne ↦ omega (arith, ints, f.most j low (omega arith), ep)
-    ];
+    | inl e ↦ subst (λ (k : ℕ). (payoff g 1 k).ac ≤ℤ pay') (sym e) (omega (arith, ints, is, ep, le))
+    | inr ne ↦ omega (arith, ints, f.most j low (omega arith), ep)
+  ];
   first = λ j low high. omega (arith, ints, f.first j low (omega (arith, et)), ep);
 }

@@ -1,12 +1,10 @@
 -- The reason of a level: the first target that pays it where it is covered, or the patrols.
-use Rattle.std.proofs.Common.{◌≡◌, ℕ, ◌<◌, length, ℤ, pos, ◌*ℤ◌, ◌≤ℤ◌, ◌<ℤ◌, sym, ◌∙◌, arith}
+use Rattle.std.proofs.Common.{◌≡◌, ℕ, length, ℤ, pos, ◌*ℤ◌, ◌≤ℤ◌, ◌<ℤ◌, sym, ◌∙◌, arith}
 use Rattle.std.proofs.lemmas.Int.{ints}
-use Rattle.sg_model.specs.declared.level.Level.{Level}
-use Rattle.sg_model.specs.declared.level.Level.TheVariants.{Resources, Target}
 use Rattle.sg_model.specs.Games.{Game, payoff}
 use Rattle.sg_model.specs.Origami.{IsFloor}
 use Rattle.sg_model.proofs.Ints.{v, n, times, same_by, mul-le}
-use Rattle.sg_origami.specs.Fillings.{IsFirstFloor, IsReasonOf}
+use Rattle.sg_origami.specs.Fillings.{IsFirstFloor}
 use Rattle.sg_origami.specs.Rates.{IsFirstMost}
 
 -- above what each covered target pays, none of them pays the level

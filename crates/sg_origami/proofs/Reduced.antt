@@ -1,14 +1,18 @@
 -- A level in lower terms is the same level.
-use Rattle.std.proofs.Common.{◌≡◌, ◌≢◌, slice_index_or, ℕ, ◌≤◌, Bool, true, false, cond, List, [], ◌∷◌, length, ℤ, pos, ◌-ℤ◌, ◌*ℤ◌, ◌≤ℤ◌, sym, ◌∙◌, ap, subst, refl, arith}
+use Rattle.std.proofs.Common.{◌≡◌, ◌≢◌, slice_index_or, ℕ, Bool, true, false, cond, List, [], ◌∷◌, length, ℤ, pos, ◌-ℤ◌, ◌*ℤ◌, ◌≤ℤ◌, sym, ◌∙◌, ap, subst, refl, arith}
 use Rattle.std.specs.List.{filter}
 use Rattle.std.specs.Prelude.{int_le}
 use Rattle.std.proofs.lemmas.Int.{ints, by_lt_z}
 use Rattle.sg_model.specs.Sums.{total, numbers}
 use Rattle.sg_model.specs.Games.{Game, payoff}
-use Rattle.sg_model.specs.Origami.{share, at_level, SpendsAll}
-use Rattle.sg_model.proofs.Ints.{v, n, less, times, same_by, mul-le, mul-lt, cancel-le}
+use Rattle.sg_model.specs.declared.level.Level.{Level}
+use Rattle.sg_model.specs.declared.level.Level.TheVariants.{Resources, Target}
+use Rattle.sg_model.specs.Origami.{share, at_level, IsFloor, IsLevelFor, IsWater, SpendsAll}
+use Rattle.sg_model.proofs.Ints.{v, n, less, times, same_by, mul-le, mul-lt, cancel, cancel-le}
 use Rattle.sg_model.proofs.Sums.{total-scaled, total-same}
-use Rattle.sg_origami.specs.Rates.{multiple}
+use Rattle.sg_origami.specs.Fillings.{IsReasonOf}
+use Rattle.sg_origami.specs.Rates.{IsReachable, multiple}
+use Rattle.sg_origami.proofs.Lowest.{Lowers}
 
 filter-same : {X : Type 0} (p q : X → Bool) → ((x : X) → p x ≡ q x) → (xs : List X) → filter p xs ≡ filter q xs
 filter-same p q h [] = refl
@@ -28,17 +32,73 @@ at_level-reduced g num den c h =
 same_share : (m a num den c : ℤ) → m *ℤ (a *ℤ (den *ℤ c) -ℤ (num *ℤ c)) ≡ c *ℤ (m *ℤ (a *ℤ den -ℤ num))
 same_share m a num den c = same_by (times (v m) (less (times (v a) (times (v den) (v c))) (times (v num) (v c)))) (times (v c) (times (v m) (less (times (v a) (v den)) (v num)))) (omega arith)
 
-pub spends-reduced : (g : Game) (patrols : ℕ) (num den c : ℤ) → pos 1 ≤ℤ c → SpendsAll g patrols (num *ℤ c) (den *ℤ c) → SpendsAll g patrols num den
-spends-reduced g patrols num den c h s =
-    let same = at_level-reduced g num den c h in
+-- what the targets of a level need, in higher terms
+total_share-reduced : (g : Game) (num den c : ℤ) → pos 1 ≤ℤ c → total (share g (num *ℤ c) (den *ℤ c)) (at_level g (num *ℤ c) (den *ℤ c)) ≡ total (share g num den) (at_level g num den) *ℤ c
+total_share-reduced g num den c h =
     let ys : List ℕ = at_level g num den in
-    let a : total (share g (num *ℤ c) (den *ℤ c)) (at_level g (num *ℤ c) (den *ℤ c)) ≡ total (share g (num *ℤ c) (den *ℤ c)) ys = ap (total (share g (num *ℤ c) (den *ℤ c))) same in
-    let b : total (share g (num *ℤ c) (den *ℤ c)) ys ≡ total (λ t. c *ℤ share g num den t) ys = total-same (share g (num *ℤ c) (den *ℤ c)) (λ t. c *ℤ share g num den t) ys (λ i d lt. same_share (multiple g (slice_index_or ys i d)) (payoff g 1 (slice_index_or ys i d)).au num den c) in
-    let e = total-scaled (share g num den) c ys in
     let x : ℤ = total (share g num den) ys in
-    let whole : (pos patrols *ℤ (den *ℤ c)) *ℤ g.scale ≡ ((pos patrols *ℤ den) *ℤ g.scale) *ℤ c = same_by (times (times (n patrols) (times (v den) (v c))) (v g.scale)) (times (times (times (n patrols) (v den)) (v g.scale)) (v c)) (omega arith) in
-    let turn : c *ℤ x ≡ x *ℤ c = same_by (times (v c) (v x)) (times (v x) (v c)) (omega arith) in
-    let y : ℤ = (pos patrols *ℤ den) *ℤ g.scale in
-    let up = cancel-le x y c (omega (arith, ints, a, b, e, s.sum, whole, turn)) h in
-    let down = cancel-le y x c (omega (arith, ints, a, b, e, s.sum, whole, turn)) h in
-    record { some = subst (λ (zs : List ℕ). zs ≢ []) same s.some; sum = omega (arith, ints, up, down) }
+    ap (total (share g (num *ℤ c) (den *ℤ c))) (at_level-reduced g num den c h)
+    ∙ (total-same (share g (num *ℤ c) (den *ℤ c)) (λ t. c *ℤ share g num den t) ys (λ i d lt. same_share (multiple g (slice_index_or ys i d)) (payoff g 1 (slice_index_or ys i d)).au num den c)
+    ∙ (total-scaled (share g num den) c ys ∙ same_by (times (v c) (v x)) (times (v x) (v c)) (omega arith)))
+
+whole-reduced : (patrols : ℕ) (den scale c : ℤ) → (pos patrols *ℤ (den *ℤ c)) *ℤ scale ≡ ((pos patrols *ℤ den) *ℤ scale) *ℤ c
+whole-reduced patrols den scale c = same_by (times (times (n patrols) (times (v den) (v c))) (v scale)) (times (times (times (n patrols) (v den)) (v scale)) (v c)) (omega arith)
+
+spends-reduced : (g : Game) (patrols : ℕ) (num den c : ℤ) → pos 1 ≤ℤ c → SpendsAll g patrols (num *ℤ c) (den *ℤ c) → SpendsAll g patrols num den
+spends-reduced g patrols num den c h s = record {
+  some = subst (λ (zs : List ℕ). zs ≢ []) (at_level-reduced g num den c h) s.some;
+  sum = cancel (total (share g num den) (at_level g num den)) ((pos patrols *ℤ den) *ℤ g.scale) c (sym (total_share-reduced g num den c h) ∙ (s.sum ∙ whole-reduced patrols den g.scale c)) h;
+}
+
+times_in : (a den c : ℤ) → a *ℤ (den *ℤ c) ≡ (a *ℤ den) *ℤ c
+times_in a den c = same_by (times (v a) (times (v den) (v c))) (times (times (v a) (v den)) (v c)) (omega arith)
+
+floor-reduced : (g : Game) (num den c : ℤ) → pos 1 ≤ℤ c → (j : ℕ) → IsFloor g (num *ℤ c) (den *ℤ c) j → IsFloor g num den j
+floor-reduced g num den c h j f = record {
+  from_one = f.from_one;
+  in_range = f.in_range;
+  pays = cancel ((payoff g 1 j).ac *ℤ den) num c (sym (times_in (payoff g 1 j).ac den c) ∙ f.pays) h;
+}
+
+floor-raised : (g : Game) (num den c : ℤ) (j : ℕ) → IsFloor g num den j → IsFloor g (num *ℤ c) (den *ℤ c) j
+floor-raised g num den c j f = record {
+  from_one = f.from_one;
+  in_range = f.in_range;
+  pays = times_in (payoff g 1 j).ac den c ∙ ap (λ (z : ℤ). z *ℤ c) f.pays;
+}
+
+level-reduced : (g : Game) (patrols : ℕ) (num den c : ℤ) → pos 1 ≤ℤ c → (why : Level) → IsLevelFor g patrols (num *ℤ c) (den *ℤ c) why → IsLevelFor g patrols num den why
+level-reduced g patrols num den c h Resources s = spends-reduced g patrols num den c h s
+level-reduced g patrols num den c h (Target j) f = floor-reduced g num den c h j f
+
+reason-reduced : (g : Game) (num den c : ℤ) → pos 1 ≤ℤ c → (why : Level) → IsReasonOf g (num *ℤ c) (den *ℤ c) why → IsReasonOf g num den why
+reason-reduced g num den c h Resources none = λ j f. none j (floor-raised g num den c j f)
+reason-reduced g num den c h (Target j) r = record { floor = floor-reduced g num den c h j r.floor; first = λ i lt f. r.first i lt (floor-raised g num den c i f) }
+
+reachable-reduced : (g : Game) (patrols : ℕ) (num den c : ℤ) → pos 1 ≤ℤ c → pos 1 ≤ℤ den → IsReachable g patrols (num *ℤ c) (den *ℤ c) → IsReachable g patrols num den
+reachable-reduced g patrols num den c h low r = record {
+  positive = low;
+  over = λ j from_one in_range. cancel-le ((payoff g 1 j).ac *ℤ den) num c (subst (λ (z : ℤ). z ≤ℤ (num *ℤ c)) (times_in (payoff g 1 j).ac den c) (r.over j from_one in_range)) h;
+  enough = cancel-le (total (share g num den) (at_level g num den)) ((pos patrols *ℤ den) *ℤ g.scale) c
+      (subst (λ (z : ℤ). z ≤ℤ (((pos patrols *ℤ den) *ℤ g.scale) *ℤ c)) (total_share-reduced g num den c h)
+      (subst (λ (z : ℤ). total (share g (num *ℤ c) (den *ℤ c)) (at_level g (num *ℤ c) (den *ℤ c)) ≤ℤ z) (whole-reduced patrols den g.scale c) r.enough)) h;
+}
+
+-- all that is known of a level
+pub record IsFound (g : Game) (patrols : ℕ) (num den : ℤ) (why : Level) : Type 0 where
+  pub water : IsWater g patrols num den why
+  pub reason : IsReasonOf g num den why
+  pub reachable : IsReachable g patrols num den
+
+found-reduced : (g : Game) (patrols : ℕ) (num den c : ℤ) (why : Level) → pos 1 ≤ℤ c → pos 1 ≤ℤ den → IsFound g patrols (num *ℤ c) (den *ℤ c) why → IsFound g patrols num den why
+found-reduced g patrols num den c why h low f = record {
+  water = record { positive = low; level = level-reduced g patrols num den c h why f.water.level };
+  reason = reason-reduced g num den c h why f.reason;
+  reachable = reachable-reduced g patrols num den c h low f.reachable;
+}
+
+-- is known of it in lowest terms
+pub found-lowest : (g : Game) (patrols : ℕ) (num den low_num low_den : ℤ) (why : Level) → Lowers num den low_num low_den → pos 1 ≤ℤ low_den → IsFound g patrols num den why → IsFound g patrols low_num low_den why
+found-lowest g patrols num den low_num low_den why l low f =
+    found-reduced g patrols low_num low_den l.by why l.positive low
+    (subst (λ (z : ℤ). IsFound g patrols z (low_den *ℤ l.by) why) l.num_is (subst (λ (z : ℤ). IsFound g patrols num z why) l.den_is f))

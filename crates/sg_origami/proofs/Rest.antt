@@ -1,5 +1,5 @@
 -- Sums over what passes a test among the numbers in a row, taken from the front.
-use Rattle.std.proofs.Common.{◌≡◌, ℕ, zero, suc, ◌+◌, ◌-◌, ◌<◌, Bool, cond, true, false, List, ◌∷◌, ℤ, pos, ◌+ℤ◌, refl, arith, sym, ◌∙◌, map, [], ◌++◌, append_assoc, append-nil}
+use Rattle.std.proofs.Common.{◌≡◌, ℕ, suc, ◌+◌, ◌-◌, ◌<◌, Bool, cond, true, false, List, ◌∷◌, ℤ, pos, ◌+ℤ◌, refl, arith, sym, ◌∙◌, map, [], ◌++◌, append_assoc, append-nil}
 use Rattle.std.specs.List.{filter}
 use Rattle.std.proofs.lemmas.Int.{ints}
 use Rattle.sg_model.specs.Sums.{total, numbers, numbers_from}

@@ -1,11 +1,11 @@
 -- From one level to the next: a level too low for the patrols rises to where the patrols suffice for its targets.
-use Rattle.std.proofs.Common.{◌≡◌, ◌≢◌, ℕ, ◌≤◌, Bool, true, false, cond, List, [], ◌∷◌, ℤ, pos, ◌+ℤ◌, ◌-ℤ◌, ◌*ℤ◌, ◌≤ℤ◌, ◌<ℤ◌, sym, ◌∙◌, ap, subst, refl, arith, inl, inr, slice_index_or}
-use Rattle.std.specs.List.{All, filter, Contains}
+use Rattle.std.proofs.Common.{◌≡◌, ◌≢◌, Bool, true, false, cond, List, [], ◌∷◌, ℤ, pos, ◌+ℤ◌, ◌-ℤ◌, ◌*ℤ◌, ◌≤ℤ◌, ◌<ℤ◌, sym, ◌∙◌, ap, subst, refl, arith}
+use Rattle.std.specs.List.{All, filter}
 use Rattle.std.specs.Prelude.{int_le}
 use Rattle.std.proofs.lemmas.Int.{ints, by_lt_z}
-use Rattle.std.proofs.lemmas.List.Elements.{All-nil, All-cons, All-head, All-tail}
+use Rattle.std.proofs.lemmas.List.Elements.{All-head, All-tail}
 use Rattle.sg_model.specs.Sums.{total}
-use Rattle.sg_model.proofs.Ints.{v, n, plus, less, times, same_by, le_by, le_from, same_from, mul-le, product_nonneg, cancel-le}
+use Rattle.sg_model.proofs.Ints.{v, n, plus, less, times, same_by, le_by, le_from, mul-le, product_nonneg, cancel-le}
 
 module _ {X : Type 0} (m u : X → ℤ) where
   -- the targets of a level

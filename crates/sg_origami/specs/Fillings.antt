@@ -25,7 +25,7 @@ IsReasonOf g num den Resources = (j : ℕ) → ¬ (IsFloor g num den j)
 -- out of so many tickets, counts of those that cover each target, as the level num / den asks
 pub record IsCoverage (g : Game) (patrols : ℕ) (num den : ℤ) (counts : List ℤ) (tickets : ℤ) : Type 0 where
   -- there is a ticket, and there are at most 2^78
-  pub some : IsWithin (pos 1) (pos (2 ^ 78)) tickets
+  pub ticket_range : IsWithin (pos 1) (pos (2 ^ 78)) tickets
   -- one count for each target
   pub one_each : length counts ≡ length g.goals
   -- none is below 0 or above the tickets

@@ -64,7 +64,12 @@ fn divisor_of(game: &Game, level: &Height, whole: u128) -> u128
 }
 
 /// The counts of all targets over a number above 0.
-fn counts_of(alloc: Global, game: &Game, level: &Height, divisor: i128) -> Result<Items<i128>, AllocError>
+fn counts_of(
+    alloc: Global,
+    game: &Game,
+    level: &Height,
+    divisor: i128,
+) -> Result<Items<i128>, AllocError>
     requires fillable { IsFillable game.now }
     requires den_low { pos 1 ≤ℤ level.now.den }
     requires den_high { level.now.den ≤ℤ pos (2 ^ 46) }
@@ -88,7 +93,12 @@ pub struct Coverage {
 }
 
 /// The coverage that brings each target down to the level, in lowest terms.
-pub fn coverage_of(alloc: Global, game: &Game, patrols: u16, level: &Height) -> Result<Coverage, AllocError>
+pub fn coverage_of(
+    alloc: Global,
+    game: &Game,
+    patrols: u16,
+    level: &Height,
+) -> Result<Coverage, AllocError>
     requires fillable { IsFillable game.now }
     requires reachable { IsReachable game.now patrols level.now.num level.now.den }
     requires den_high { level.now.den ≤ℤ pos (2 ^ 46) }

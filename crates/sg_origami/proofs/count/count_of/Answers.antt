@@ -1,11 +1,11 @@
-use Rattle.std.proofs.Common.{arith, sym, true, ap, ◌∙◌, ℤ, ◌+ℤ◌, ◌-ℤ◌, ◌≡◌, to_z, of_z, ◌^◌, ◌*◌, ◌+◌}
+use Rattle.std.proofs.Common.{arith, sym, true, ap, ◌∙◌, ℤ, ◌≡◌, ◌^◌, ◌*◌}
 use Rattle.std.specs.Int.{w128}
-use Rattle.std.specs.Prelude.{pos, ◌≤ℤ◌, ◌*ℤ◌, int_le, FitsSigned}
+use Rattle.std.specs.Prelude.{◌*ℤ◌, int_le, FitsSigned}
 use Rattle.std.proofs.lemmas.Int.{ints, to_z-of_z}
 use Rattle.sg_model.specs.Games.{payoff}
 use Rattle.sg_model.specs.Origami.{share}
 use Rattle.sg_origami.specs.Rates.{multiple}
-use Rattle.sg_origami.proofs.Bounds.{Within, within_product, fits_within, within_less}
+use Rattle.sg_origami.proofs.Bounds.{Within, within_product, fits_within}
 use Rattle.sg_origami.proofs.count.count_of.Goals as goal
 
 pub product-requires : goal.product-requires

@@ -1,8 +1,7 @@
-use Rattle.std.proofs.Common.{◌≡◌, ◌+◌, ◌∙◌, ap, ℕ, ℤ}
+use Rattle.std.proofs.Common.{◌≡◌, ◌∙◌, ap, ℤ}
 use Rattle.std.specs.Int.{w128}
 use Rattle.std.specs.Prelude.{FitsSigned, unsigned_abs}
 use Rattle.std.proofs.lemmas.Int.{to_z-of_z}
-use Rattle.sg_model.specs.Origami.{count_at}
 use Rattle.sg_origami.proofs.Divided.{no_counts, one_more_count}
 use Rattle.sg_origami.proofs.count.divisor_of.Goals as goal
 

@@ -1,10 +1,9 @@
-use Rattle.std.proofs.Common.{arith, ap, ◌∙◌, ℤ, ◌+ℤ◌, ◌-ℤ◌, ◌≡◌, to_z, of_z, ◌^◌, ◌*◌, ◌+◌}
+use Rattle.std.proofs.Common.{arith, ap, ℤ, ◌≡◌, ◌^◌, ◌*◌}
 use Rattle.std.specs.Int.{w128}
-use Rattle.std.specs.Prelude.{pos, ◌≤ℤ◌, ◌*ℤ◌, FitsSigned}
+use Rattle.std.specs.Prelude.{◌*ℤ◌, FitsSigned}
 use Rattle.std.proofs.lemmas.Int.{ints, to_z-of_z}
 use Rattle.sg_model.specs.Games.{payoff}
-use Rattle.sg_origami.specs.Rates.{multiple}
-use Rattle.sg_origami.proofs.Bounds.{Within, within_product, fits_within, within_less}
+use Rattle.sg_origami.proofs.Bounds.{Within, within_product, fits_within}
 use Rattle.sg_origami.proofs.count.excess_of.Goals as goal
 
 pub product-requires : goal.product-requires

@@ -1,8 +1,7 @@
-use Rattle.std.proofs.Common.{◌≡◌, ◌^◌, ℤ, pos, ◌⊎◌, inl, inr, refl, arith}
+use Rattle.std.proofs.Common.{ℤ, inl, inr, refl, arith}
 use Rattle.std.specs.Int.{w128}
 use Rattle.std.specs.Prelude.{FitsSigned}
 use Rattle.std.proofs.lemmas.Int.{ints, to_z-of_z}
-use Rattle.sg_num.specs.Fractions.{IsReducedFormWide}
 use Rattle.sg_origami.proofs.Lowest.{not_wide}
 use Rattle.sg_origami.proofs.filling.lowest_terms.Goals as goal
 

@@ -12,13 +12,13 @@ loop-t-preserved c =
     let e = c.covered-next.ensures in
     elim c.if-pay-next.branch [
       | then-pay-next w ↦ record {
-          floor = floor_higher g c.loop-t.t c.loop-t.target c.if-pay-next.target (to_z w128 c.loop-t.pay-bits) (to_z w128 c.if-pay-next.pay-bits) c.covered-next.result i.floor e.value (omega (arith, ints, w.if-pay-next.true, e.low, e.high)) w.target-is (omega (arith, ints, w.pay-is, e.low, e.high));
-          low = omega (arith, ints, w.pay-is, e.low, e.high);
-          high = omega (arith, ints, w.pay-is, e.low, e.high);
-        }
+        floor = floor_higher g c.loop-t.t c.loop-t.target c.if-pay-next.target (to_z w128 c.loop-t.pay-bits) (to_z w128 c.if-pay-next.pay-bits) c.covered-next.result i.floor e.value (omega (arith, ints, w.if-pay-next.true, e.low, e.high)) w.target-is (omega (arith, ints, w.pay-is, e.low, e.high));
+        low = omega (arith, ints, w.pay-is, e.low, e.high);
+        high = omega (arith, ints, w.pay-is, e.low, e.high);
+      }
       | else-pay-next w ↦ record {
-          floor = floor_stays g c.loop-t.t c.loop-t.target c.if-pay-next.target (to_z w128 c.loop-t.pay-bits) (to_z w128 c.if-pay-next.pay-bits) c.covered-next.result i.floor e.value (omega (arith, ints, w.if-pay-next.false, e.low, e.high)) w.target-is w.pay-is;
-          low = omega (arith, ints, w.pay-is, i.low);
-          high = omega (arith, ints, w.pay-is, i.high);
-        }
+        floor = floor_stays g c.loop-t.t c.loop-t.target c.if-pay-next.target (to_z w128 c.loop-t.pay-bits) (to_z w128 c.if-pay-next.pay-bits) c.covered-next.result i.floor e.value (omega (arith, ints, w.if-pay-next.false, e.low, e.high)) w.target-is w.pay-is;
+        low = omega (arith, ints, w.pay-is, i.low);
+        high = omega (arith, ints, w.pay-is, i.high);
+      }
     ]

@@ -6,5 +6,5 @@ abbrev pub invariant-loop-t : goal.invariant-loop-t
 invariant-loop-t l = record {
   floor : IsFirstMost l.game l.t l.target l.pay;
   low : (pos 0 -ℤ pos (2 ^ 30)) ≤ℤ l.pay;
-  high : l.pay ≤ℤ pos (2 ^ 30)
+  high : l.pay ≤ℤ pos (2 ^ 30);
 }

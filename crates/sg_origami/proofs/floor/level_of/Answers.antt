@@ -1,8 +1,8 @@
-use Rattle.std.proofs.Common.{arith, sym, ◌∙◌, ◌≡◌, ◌^◌, ◌*◌, ℤ, pos, ◌*ℤ◌, ◌-ℤ◌, ◌≤ℤ◌, ◌<ℤ◌}
+use Rattle.std.proofs.Common.{arith, sym, ◌∙◌, ◌≡◌, ◌^◌, ◌*◌, pos, ◌*ℤ◌}
 use Rattle.std.specs.Int.{w128}
 use Rattle.std.specs.Prelude.{FitsSigned}
 use Rattle.std.proofs.lemmas.Int.{ints, to_z-of_z}
-use Rattle.sg_origami.proofs.Bounds.{Within, within_product, fits_within}
+use Rattle.sg_origami.proofs.Bounds.{within_product, fits_within}
 use Rattle.sg_origami.proofs.Reachable.{reachable_spent, reachable_floor}
 use Rattle.sg_origami.proofs.Reasons.{no_floor, first_floor}
 use Rattle.sg_model.specs.Games.{payoff}

@@ -1,6 +1,6 @@
-use Rattle.std.proofs.Common.{arith, ℤ, ◌-ℤ◌, ◌≡◌, to_z, of_z, ◌^◌, ◌*◌}
+use Rattle.std.proofs.Common.{arith, ◌^◌, ◌*◌}
 use Rattle.std.specs.Int.{w128}
-use Rattle.std.specs.Prelude.{pos, ◌≤ℤ◌, ◌*ℤ◌, FitsSigned}
+use Rattle.std.specs.Prelude.{◌*ℤ◌, FitsSigned}
 use Rattle.std.proofs.lemmas.Int.{ints, to_z-of_z}
 use Rattle.sg_origami.proofs.Bounds.{Within, within_product, fits_within}
 use Rattle.sg_origami.proofs.level.is_high.Goals as goal

@@ -1,4 +1,4 @@
-use Rattle.std.proofs.Common.{arith, sym, ◌≡◌, ◌∙◌, ◌^◌, ℕ, ◌<◌, ◌+◌, ap, ℤ, subst, to_z, of_z, ◌+ℤ◌, ◌-ℤ◌, ◌*ℤ◌, ◌≤ℤ◌, pos}
+use Rattle.std.proofs.Common.{arith, sym, ◌≡◌, ◌∙◌, ◌^◌, ℕ, ◌<◌, ap, ℤ, subst, to_z, of_z, ◌-ℤ◌, ◌*ℤ◌, ◌≤ℤ◌, pos}
 use Rattle.std.specs.Int.{w128}
 use Rattle.std.specs.Prelude.{FitsSigned}
 use Rattle.std.proofs.lemmas.Int.{ints, to_z-of_z}

@@ -1,10 +1,7 @@
-use Rattle.std.proofs.Common.{arith, ◌≡◌, ◌∙◌, length, ℕ, ◌<◌, ◌+◌, ap, ℤ, subst}
-use Rattle.std.specs.Int.{w128}
-use Rattle.std.specs.Prelude.{int_le, pos, ◌*ℤ◌, FitsSigned}
-use Rattle.std.proofs.lemmas.Int.{ints, to_z-of_z}
+use Rattle.std.proofs.Common.{arith, ◌≡◌, length, ℕ, ◌<◌}
+use Rattle.std.specs.Prelude.{int_le, ◌*ℤ◌}
+use Rattle.std.proofs.lemmas.Int.{ints}
 use Rattle.sg_model.specs.Games.{payoff}
-use Rattle.sg_model.specs.Sums.{total}
-use Rattle.sg_model.specs.Origami.{at_level}
 use Rattle.sg_origami.specs.Rates.{multiple, weighted}
 use Rattle.sg_origami.proofs.Rest.{rest_more, rest_none}
 use Rattle.sg_origami.proofs.level.sums_at.Goals as goal

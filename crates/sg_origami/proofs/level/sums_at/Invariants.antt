@@ -13,5 +13,5 @@ invariant-loop-t l = record {
   low : pos 0 ≤ℤ l.multiples;
   high : l.multiples ≤ℤ pos (2 ^ 32 * l.t);
   below : (pos 0 -ℤ pos (2 ^ 62 * l.t)) ≤ℤ l.weights;
-  above : l.weights ≤ℤ pos (2 ^ 62 * l.t)
+  above : l.weights ≤ℤ pos (2 ^ 62 * l.t);
 }

@@ -1,6 +1,6 @@
 use Rattle.std.proofs.Common.{arith, ◌∙◌, ap, ℤ, ◌-ℤ◌, ◌≡◌, to_z, of_z, ◌^◌}
 use Rattle.std.specs.Int.{w128}
-use Rattle.std.specs.Prelude.{int_div, pos, ◌≤ℤ◌, FitsSigned}
+use Rattle.std.specs.Prelude.{int_div, FitsSigned}
 use Rattle.std.proofs.lemmas.Int.{ints, to_z-of_z}
 use Rattle.sg_model.specs.Games.{payoff}
 use Rattle.sg_model.specs.Origami.{gap}

@@ -1,6 +1,6 @@
-use Rattle.std.proofs.Common.{arith, ap, ◌∙◌, ℤ, ◌-ℤ◌, ◌≡◌, to_z, of_z, ◌^◌}
+use Rattle.std.proofs.Common.{arith, ap, ◌∙◌, ℤ, ◌≡◌, ◌^◌}
 use Rattle.std.specs.Int.{w128}
-use Rattle.std.specs.Prelude.{pos, ◌≤ℤ◌, ◌*ℤ◌, FitsSigned}
+use Rattle.std.specs.Prelude.{◌*ℤ◌, FitsSigned}
 use Rattle.std.proofs.lemmas.Int.{ints, to_z-of_z}
 use Rattle.sg_origami.proofs.Bounds.{Within, within_product}
 use Rattle.sg_origami.specs.Rates.{multiple, weighted}
