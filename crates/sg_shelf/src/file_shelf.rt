@@ -1,7 +1,7 @@
 //! A shelf over the files of std.
 
-ghost use Rattle.std.specs.Prelude.{◌≡◌, ◌+◌, ◌*◌, ◌-◌, ◌^◌, ◌<◌, ◌≤◌, ◌++◌, [], min, max, length, take, ℕ, None, IfOk, IfErr, OnOk, IsErrOf, vec_len, vec_capacity};
-ghost use Rattle.std.specs.Io.KnownBytes.{Consumes, IsAtEnd};
+ghost use Rattle.std.specs.Prelude.{◌≡◌, ◌+◌, ◌*◌, ◌-◌, ◌^◌, ◌<◌, ◌≤◌, ◌++◌, [], min, max, length, take, ℕ, None, IfOk, IfErr, OnOk, OnErr, IsErrOf, vec_len, vec_capacity};
+ghost use Rattle.std.specs.Io.KnownBytes.{Consumes, IsAtEnd, Keeps};
 ghost use Rattle.sg_shelf.specs.ShelfErrors.{IsFailedOrMemory, count_after};
 ghost use Rattle.sg_shelf.specs.declared.shelf.ShelfError.TheVariants.{TooLong};
 
@@ -47,7 +47,18 @@ impl<R: Files> Shelf for FileShelf<R> {
 
     ghost faults = { λ shelf. shelf };
 
-    fn read(&mut self, alloc: Global, name: &str, limit: usize) -> Result<Vec<u8>, ShelfError> {
+    fn read(&mut self, alloc: Global, name: &str, limit: usize) -> Result<Vec<u8>, ShelfError>
+        requires { limit ≤ 536870912 }
+
+        ensures count { self.old ≤ self.new }
+        ensures last_count { self.new ≤ 2 ^ 64 - 1 }
+        ensures within { IfOk result (λ bytes. vec_len bytes ≤ limit) }
+        ensures long { (seen : ℕ) → IsErrOf result (TooLong seen) → seen ≡ limit + 1 }
+
+        // It counts a fault exactly where it answers that it failed.
+        ensures no_fault { OnOk result (self.new ≡ self.old) }
+        ensures fault { IfErr result (λ error. self.new ≡ count_after error self.old) }
+    {
         let answer = read_file(alloc, &self.files, name, limit);
         let is_fine = !matches!(answer, Err(ShelfError::Failed));
         self.faults = raised_unless(is_fine, self.faults);
@@ -119,6 +130,7 @@ fn read_front<F: Read>(file: &mut F, chunk: &mut [u8], room: usize) -> io::Resul
     ensures within { IfOk result (λ count. count ≤ room) }
     ensures bytes { IfOk result (λ count. Consumes (F.remaining file.old) (F.remaining file.new) (take count chunk.new)) }
     ensures end { IfOk result (λ count. count ≡ 0 → 0 < room → IsAtEnd (F.remaining file.new)) }
+    ensures err { OnErr result (Keeps (F.remaining file.old) (F.remaining file.new)) }
 {
     file.read(&mut chunk[..room])
 }
