@@ -1,5 +1,5 @@
 -- What a parse found, as the command in its rows.
-use Rattle.std.proofs.Common.{◌≡◌, ◌∙◌, Bool, true, false, not, List, Option, Some, None, option_map, codes, refl, sym, ap}
+use Rattle.std.proofs.Common.{◌≡◌, ◌∙◌, Bool, true, false, not, List, Option, Some, None, option_map, codes, refl, ap}
 use Rattle.std.specs.Prelude.{◌&&◌, Box}
 use Rattle.std.specs.Box.{box_value}
 use Rattle.std.proofs.lemmas.Bool.{false≢true}

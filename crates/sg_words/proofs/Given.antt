@@ -1,22 +1,19 @@
 -- clap and the definition agree on the command of the words.
-use Rattle.std.proofs.Common.{◌≡◌, ◌≢◌, ◌∙◌, Bool, true, false, cond, List, [], ◌∷◌, ◌++◌, All, Option, Some, None, codes, refl, sym, ap, subst, inl, inr, arith}
-use Rattle.std.specs.Prelude.{◌⊎◌, ◌↔◌, ◌||◌, bytes_eq, if◌then◌else◌, option_map, IsNone}
-use Rattle.std.specs.List.{before_first}
-use Rattle.std.proofs.lemmas.Bool.{cases_Bool, true≢false, false≢true}
-use Rattle.std.proofs.lemmas.List.Folds.{list_any_none}
+use Rattle.std.proofs.Common.{◌≡◌, ◌∙◌, Bool, true, false, List, [], ◌∷◌, Option, Some, None, codes, refl, sym, ap, subst, inl, inr}
+use Rattle.std.specs.Prelude.{◌⊎◌, ◌||◌, bytes_eq, if◌then◌else◌}
+use Rattle.std.proofs.lemmas.Bool.{cases_Bool, false≢true}
 use Rattle.std.proofs.lemmas.Slice.Eq.{bytes_eq-Decides}
-use Rattle.clap.specs.Walk.{Row, walk_from, nothing_held, idle, subcommand_met}
-use Rattle.clap.specs.Simple.{App, built, is_simple, entered, subcommand_of}
-use Rattle.clap.specs.Kinds.{Kinds, IsAmong, or_else}
+use Rattle.clap.specs.Walk.{Row, idle, subcommand_met}
+use Rattle.clap.specs.Simple.{App, is_simple, subcommand_of}
+use Rattle.clap.specs.Kinds.{Kinds, IsAmong}
 use Rattle.clap.specs.Faults.{fault_of, is_simple_and_free}
 use Rattle.clap.specs.declared.error.kind.ErrorKind.{ErrorKind}
 use Rattle.clap.specs.declared.error.kind.ErrorKind.TheVariants.{UnknownArgument, InvalidSubcommand, OutOfMemory}
 use Rattle.clap.proofs.OnLiterals.{clap_on_literals}
 use Rattle.sg_words.specs.Words.{Text, is_end_of_options, begins_with_hyphen, has_stray, positional_words}
-use Rattle.sg_words.specs.Commands.{Asked, solve, Gives, WordsGive, name_of, positionals_of, with_one, asked_by, command_given, asked_of}
-use Rattle.sg_words.specs.declared.command.Command.{Command}
+use Rattle.sg_words.specs.Commands.{Asked, asked_by, command_given}
 use Rattle.sg_words.specs.Line.{line, command_found}
-use Rattle.sg_words.proofs.Marks.{has_stray-mark, has_stray-word, stray_parts, All-unhyphened}
+use Rattle.sg_words.proofs.Marks.{has_stray-mark, has_stray-word, stray_parts}
 use Rattle.sg_words.proofs.Solve.{solve_agrees}
 use Rattle.sg_words.proofs.Top.{Agrees, agrees_as, agrees_none, command_names, line_is_simple, line_is_free, fault_of-no_name, fault_of-no_words, fault_of-mark}
 

@@ -1,7 +1,7 @@
 -- Words before and after the first `--`, word by word.
-use Rattle.std.proofs.Common.{◌≡◌, ◌∙◌, ℕ, ◌<◌, Bool, true, false, cond, not, List, [], ◌∷◌, ◌++◌, length, map, slice_index_or, All, Option, Some, None, refl, sym, ap, take, drop, drop-cons, add-one, arith}
+use Rattle.std.proofs.Common.{◌≡◌, ◌∙◌, ℕ, ◌<◌, Bool, true, false, List, [], ◌∷◌, length, map, slice_index_or, All, None, refl, sym, ap, drop, drop-cons, add-one, arith}
 use Rattle.std.specs.Prelude.{◌||◌, ◌+◌}
-use Rattle.std.specs.List.{list_any, before_first, after_first, position_or_len, prefix_len}
+use Rattle.std.specs.List.{list_any, before_first, after_first}
 use Rattle.std.proofs.lemmas.Bool.{true≢false}
 use Rattle.std.proofs.lemmas.List.Elements.{All-nil, All-cons}
 use Rattle.clap.specs.Lexer.{long_of, short_of}

@@ -1,13 +1,13 @@
 -- clap and the definition agree on `solve GAME`, which takes one positional word.
-use Rattle.std.proofs.Common.{◌≡◌, ◌∙◌, ◌<◌, ◌≤◌, ℕ, Bool, true, false, List, [], ◌∷◌, ◌++◌, length, Option, Some, None, codes, refl, arith}
+use Rattle.std.proofs.Common.{◌≡◌, ◌∙◌, ◌<◌, ◌≤◌, Bool, true, false, List, [], ◌∷◌, ◌++◌, length, Some, None, codes, refl, arith}
 use Rattle.std.specs.Prelude.{bytes_eq}
-use Rattle.clap.specs.Walk.{Row, Walk, idle, subcommand_met, walked, finished, settled, nothing_held, walk_from}
+use Rattle.clap.specs.Walk.{Row, Walk, idle, subcommand_met, finished, nothing_held, walk_from}
 use Rattle.clap.specs.Simple.{Shape, built, built_leaf, entered, inherited, subcommand_of}
 use Rattle.clap.specs.Kinds.{Kinds, or_else}
 use Rattle.clap.specs.Faults.{fault_of, turn_fault}
 use Rattle.clap.specs.declared.error.kind.ErrorKind.TheVariants.{UnknownArgument}
 use Rattle.clap.proofs.OnLiterals.{clap_on_literals}
-use Rattle.sg_words.specs.Words.{Text, is_end_of_options, begins_with_hyphen, has_stray, positional_words}
+use Rattle.sg_words.specs.Words.{Text, is_end_of_options, has_stray, positional_words}
 use Rattle.sg_words.specs.Commands.{solve, with_one, asked_by}
 use Rattle.sg_words.specs.Line.{line, solve_line}
 use Rattle.sg_words.proofs.Leaf.{Takes, Moves, IsPositional, Finds, finds, end_fault, rest_fault, rest_rows}

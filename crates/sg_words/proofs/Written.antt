@@ -1,5 +1,5 @@
 -- Reading words is writing a command turned round.
-use Rattle.std.proofs.Common.{◌≡◌, ◌∙◌, Bool, true, false, List, [], ◌∷◌, ◌++◌, Option, Some, None, codes, refl, sym, ap, inl, inr}
+use Rattle.std.proofs.Common.{◌≡◌, ◌∙◌, true, false, List, [], ◌∷◌, Option, Some, None, codes, refl, sym, ap, inl, inr}
 use Rattle.std.specs.Prelude.{◌⊎◌, ◌↔◌, bytes_eq, option_map, IsNone}
 use Rattle.std.specs.List.{before_first}
 use Rattle.std.proofs.lemmas.Bool.{cases_Bool, true≢false}

@@ -1,4 +1,4 @@
-use Rattle.std.proofs.Common.{◌≡◌, ◌∙◌, ap, codes, sym, option_map}
+use Rattle.std.proofs.Common.{◌∙◌, ap, codes, sym, option_map}
 use Rattle.clap.specs.Words.{found_of, rows_of}
 use Rattle.clap.proofs.WalkLemmas.{first_value-rows}
 use Rattle.sg_words.specs.Commands.{solve}

@@ -1,7 +1,6 @@
-use Rattle.std.proofs.Common.{◌≡◌, ◌∙◌, sym, map, string_bytes, false, Some, None}
+use Rattle.std.proofs.Common.{◌∙◌, sym, map, string_bytes, None}
 use Rattle.std.proofs.lemmas.Bool.{iff_false}
 use Rattle.clap.specs.Words.{app_of, kind_of, subcommand_rows_of}
-use Rattle.sg_words.specs.Commands.{asked_of}
 use Rattle.sg_words.proofs.Given.{command_given-stray, command_found-parsed, none-failed}
 use Rattle.sg_words.proofs.Written.{given_exactly, none_exactly}
 use Rattle.sg_words.proofs.reading.command_of.Goals as goal
