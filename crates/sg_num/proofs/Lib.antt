@@ -1,5 +1,4 @@
 pub mod Divisors
-pub mod Ints
 pub mod Laws
 pub mod Reduced
 pub mod Ring
