@@ -33,6 +33,10 @@ one_patrol g is s =
 one_resource : (g : Game) → IsSolved g → resource_count g ≡ 1
 one_resource g s = rw s.one_patrol refl
 
+-- the level of its filling is one for one patrol
+pub one_water : (g : Game) → IsSolved g → (f : Filling) → IsFilling g f → IsWater g 1 f.level.num f.level.den f.reason
+one_water g s f h = subst (λ n. IsWater g n f.level.num f.level.den f.reason) (one_resource g s) h.water
+
 -- the counts of a filling are such as one patrol can serve
 pub is_spread : (g : Game) → IsSolved g → (f : Filling) → IsFilling g f → length g.goals < 2 ^ 16 → IsSpread f.counts f.total
 is_spread g s f h few =
@@ -40,8 +44,8 @@ is_spread g s f h few =
     let one : pos (resource_count g) *ℤ f.total ≡ f.total = rw (one_resource g s) (omega (arith, ints)) in
     record {
       few = omega (arith, few, c.one_each);
-      positive = c.some.at_least;
-      fits = omega (arith, ints, c.some.at_most);
+      positive = c.ticket_range.at_least;
+      fits = omega (arith, ints, c.ticket_range.at_most);
       nonneg = All-weaker (IsWithin (pos 0) f.total) (λ z. pos 0 ≤ℤ z) (λ z w. w.at_least) f.counts c.within;
       within = omega (arith, ints, c.few, one);
     }
@@ -65,7 +69,7 @@ right_report g is s f h few value is_value =
     λ t low high.
     let here = cover_count-spread g s.one_patrol f.counts f.total fits c.one_each t low high in
     ap (λ (z : ℤ). z *ℤ ds) here ∙ (c.shares t low high ∙ ap (λ (z : ℤ). count_at g num den t *ℤ z) (sym sum)) in
-    let one : IsWater g 1 num den f.reason = subst (λ n. IsWater g n num den f.reason) (one_resource g s) w in
+    let one = one_water g s f h in
     record {
       tickets = is_k;
       rising = rising-spread f.counts f.total;

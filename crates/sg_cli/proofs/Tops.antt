@@ -64,7 +64,7 @@ module _ (g : Game) (patrols : ℕ) (f : Filling) (c : IsCoverage g patrols f.le
       let a = mul-le (gain_at g f r.0) top ds most (omega (arith, ints, positive)) in
       let b = gain-bound r.0 range.0 range.1 high in
       let d : part r.0 *ℤ f.total ≡ w *ℤ f.total = ap (λ (z : ℤ). z *ℤ f.total) r.2 in
-      let e = mul-le (part t) w f.total below (omega (arith, ints, c.some.at_least)) in
+      let e = mul-le (part t) w f.total below (omega (arith, ints, c.ticket_range.at_least)) in
       let h = gain-bound t is_top.from_one is_top.in_range is_top.of_level in
       let i : top *ℤ ds ≡ gain_at g f t *ℤ ds = ap (λ (z : ℤ). z *ℤ ds) is_top.gives in
       omega (arith, ints, a, b, d, e, h, i)

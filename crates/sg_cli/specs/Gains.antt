@@ -1,7 +1,8 @@
 -- What the defender gets where a target is attacked, over all tickets of a filling.
-use Rattle.std.specs.Prelude.{◌≡◌, ℕ, ◌≤◌, Bool, true, false, ℤ, pos, ◌+ℤ◌, ◌-ℤ◌, ◌*ℤ◌, ◌≤ℤ◌, int_le, length, Option, Some, None}
+use Rattle.std.specs.Prelude.{◌≡◌, ℕ, ◌^◌, ◌≤◌, Bool, true, false, ℤ, pos, ◌+ℤ◌, ◌-ℤ◌, ◌*ℤ◌, ◌≤ℤ◌, int_le, length, Option, Some, None}
 use Rattle.sg_model.specs.Sums.{nth}
 use Rattle.sg_model.specs.Games.{Payoff, Game, payoff}
+use Rattle.sg_model.specs.Limits.{IsWithin}
 use Rattle.sg_num.specs.Fractions.{Fraction, IsReducedForm}
 use Rattle.sg_origami.specs.declared.filling.Filling.{Filling}
 
@@ -24,6 +25,7 @@ pub record IsTopGain (g : Game) (f : Filling) (m : ℕ) (v : ℤ) : Type 0 where
   pub in_range : target ≤ m
   pub of_level : is_of_level g f target ≡ true
   pub gives : v ≡ gain_at g f target
+  pub small : IsWithin (pos 0 -ℤ pos (2 ^ 110)) (pos (2 ^ 110)) v
   pub most : (t : ℕ) → 1 ≤ t → t ≤ m → is_of_level g f t ≡ true → gain_at g f t ≤ℤ v
 
 -- the greatest so far, or none where no target is of the level

@@ -1,6 +1,6 @@
 //! The defender value of the tickets of a filling.
 
-ghost use Rattle.std.specs.Prelude.{◌≡◌, ◌≤◌, ◌+◌, ◌<◌, ◌^◌, true, length, pos, ◌-ℤ◌, ◌*ℤ◌, ◌≤ℤ◌, FitsSigned, slice_index_or};
+ghost use Rattle.std.specs.Prelude.{◌≡◌, ◌≤◌, ◌+◌, ◌-◌, ◌<◌, ◌^◌, true, length, pos, ◌-ℤ◌, ◌*ℤ◌, ◌≤ℤ◌, FitsSigned, slice_index_or};
 ghost use Rattle.std.specs.Int.{w128};
 ghost use Rattle.sg_model.specs.Games.{payoff};
 ghost use Rattle.sg_num.specs.Fractions.{IsReducedForm};
@@ -44,31 +44,30 @@ fn is_of_level(game: &Game, filling: &Filling, t: u16) -> bool
     filling.level.num() <= product(uncovered(game, t), filling.level.den())
 }
 
-/// What covering target `t` gives the defender, and what it gets there without.
-struct Stakes {
-    more: i128,
-    least: i128,
-}
-
-/// The stakes of the defender at target `t`.
-fn stakes_at(game: &Game, t: u16) -> Stakes
+/// What the defender gets where target `t` is attacked and covered.
+fn with_cover(game: &Game, t: u16) -> i128
     requires defended { IsSolved game.now }
     requires from_one { 1 ≤ t }
     requires in_range { t ≤ length game.now.goals }
-    ensures more { result.more ≡ (payoff game.now 1 t).dc -ℤ (payoff game.now 1 t).du }
-    ensures least { result.least ≡ (payoff game.now 1 t).du }
-    ensures more_low { (pos 0 -ℤ pos (2 ^ 31)) ≤ℤ result.more }
-    ensures more_high { result.more ≤ℤ pos (2 ^ 31) }
-    ensures least_low { (pos 0 -ℤ pos (2 ^ 30)) ≤ℤ result.least }
-    ensures least_high { result.least ≤ℤ pos (2 ^ 30) }
+    ensures value { result ≡ (payoff game.now 1 t).dc }
+    ensures low { (pos 0 -ℤ pos (2 ^ 30)) ≤ℤ result }
+    ensures high { result ≤ℤ pos (2 ^ 30) }
 {
     game.promises();
-    let payoffs = game.payoffs(1, t);
-    let least = i128::from(payoffs[1]);
-    Stakes {
-        more: i128::from(payoffs[0]) - least,
-        least,
-    }
+    i128::from(game.payoffs(1, t)[0])
+}
+
+/// What the defender gets where target `t` is attacked and uncovered.
+fn without_cover(game: &Game, t: u16) -> i128
+    requires defended { IsSolved game.now }
+    requires from_one { 1 ≤ t }
+    requires in_range { t ≤ length game.now.goals }
+    ensures value { result ≡ (payoff game.now 1 t).du }
+    ensures low { (pos 0 -ℤ pos (2 ^ 30)) ≤ℤ result }
+    ensures high { result ≤ℤ pos (2 ^ 30) }
+{
+    game.promises();
+    i128::from(game.payoffs(1, t)[1])
 }
 
 /// The count at a place.
@@ -89,9 +88,10 @@ fn gain_at(game: &Game, filling: &Filling, t: u16) -> i128
     ensures low { (pos 0 -ℤ pos (2 ^ 110)) ≤ℤ result }
     ensures high { result ≤ℤ pos (2 ^ 110) }
 {
-    let stakes = stakes_at(game, t);
+    let least = without_cover(game, t);
+    let more = with_cover(game, t) - least;
     let count = count_at(filling.counts.as_slice(), usize::from(t) - 1);
-    product(stakes.least, filling.total) + product(stakes.more, count)
+    product(least, filling.total) + product(more, count)
 }
 
 /// The greatest gain at the targets of the level up to `t`, from that up to the one before.
@@ -108,8 +108,14 @@ fn top_with(game: &Game, filling: &Filling, t: u16, best: Option<i128>) -> Optio
     }
     let here = gain_at(game, filling, t);
     match best {
-        Some(gain) if gain >= here => Some(gain),
-        _ => Some(here),
+        None => Some(here),
+        Some(gain) => {
+            if gain < here {
+                Some(here)
+            } else {
+                Some(gain)
+            }
+        }
     }
 }
 
@@ -119,6 +125,7 @@ fn top_gain(game: &Game, filling: &Filling) -> i128
     requires filling { IsFilling game.now filling.now }
     ensures { IsTopGain game.now filling.now (length game.now.goals) result }
 {
+    game.promises();
     let mut best = None;
     for i in 0..game.targets() {
         best = top_with(game, filling, i + 1, best);
