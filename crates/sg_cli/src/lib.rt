@@ -6,6 +6,7 @@
 
 mod refusal;
 mod report;
+mod solution;
 mod tickets;
 mod value;
 
