@@ -4,3 +4,4 @@ pub mod Stored
 pub mod Faults
 pub mod Building
 pub mod Entries
+pub mod Converting
