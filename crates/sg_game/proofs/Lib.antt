@@ -1,4 +1,6 @@
 pub mod Promises
 pub mod Patrols
 pub mod Plays
-pub mod Among
+pub mod Fresh
+pub mod Steps
+pub mod Entered
