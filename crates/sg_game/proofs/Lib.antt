@@ -4,3 +4,5 @@ pub mod Plays
 pub mod Fresh
 pub mod Steps
 pub mod Entered
+pub mod Listed
+pub mod Fielded
