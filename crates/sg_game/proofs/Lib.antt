@@ -6,3 +6,4 @@ pub mod Steps
 pub mod Entered
 pub mod Listed
 pub mod Fielded
+pub mod Told
