@@ -7,3 +7,4 @@ pub mod Entered
 pub mod Listed
 pub mod Fielded
 pub mod Told
+pub mod Sound
