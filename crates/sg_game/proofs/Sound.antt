@@ -1,5 +1,5 @@
 -- Parts have no fault exactly where they make a game.
-use Rattle.std.proofs.Common.{◌≡◌, ◌≢◌, ◌∙◌, ℕ, zero, suc, ◌+◌, ◌<◌, ◌≤◌, ◌^◌, Bool, true, false, cond, ◌&&◌, ◌||◌, List, [], ◌∷◌, length, map, get_or, ℤ, pos, ◌≤ℤ◌, Option, Some, None, String, Global, string_bytes, refl, ap, subst, sym, arith}
+use Rattle.std.proofs.Common.{◌↔◌, ◌≡◌, ◌≢◌, ◌∙◌, ℕ, zero, suc, ◌+◌, ◌<◌, ◌≤◌, ◌^◌, Bool, true, false, cond, ◌&&◌, ◌||◌, List, [], ◌∷◌, length, map, get_or, ℤ, pos, ◌≤ℤ◌, Option, Some, None, String, Global, string_bytes, refl, ap, subst, sym, arith}
 use Rattle.std.specs.Prelude.{int_lt, int_rem, nat_le, is_some, is_none, unwrap_or, option_map, Vec}
 use Rattle.std.specs.Ordering.{int_eq}
 use Rattle.std.specs.List.{All, list_all}
@@ -221,3 +221,85 @@ module _ (p : Parts) where
       by_bool : (b : Bool) → is_some p.scale ≡ b → All (λ (x : TypeParts). x.prior ≤ℤ prior_limit b) p.types.items
       by_bool true e = λ i d lt. omega (arith, ints, All-unmap (λ (x : model.Attacker). x.prior ≡ pos 1) attacker_of p.types.items (one (some_scale p.scale low e)) i d lt)
       by_bool false e = λ i d lt. (All-unmap (λ (x : model.Attacker). IsWithin (pos 1) (pos (2 ^ 20)) x.prior) attacker_of p.types.items each i d lt).at_most
+
+  -- from one type to the limit
+  few_types : IsAtLeast (pos 1) p.scale → IsCount 1 8 (length (map attacker_of p.types.items)) → (pos 1 ≤ℤ (game_of p).scale → length (map attacker_of p.types.items) ≡ 1) → IsCount 1 (type_limit (is_some p.scale)) (length p.types.items)
+  few_types low count one = by_bool (is_some p.scale) refl
+    where
+      by_bool : (b : Bool) → is_some p.scale ≡ b → IsCount 1 (type_limit b) (length p.types.items)
+      by_bool true e = let n = length-map p.types.items attacker_of in record { at_least = omega (arith, n, count.at_least); at_most = omega (arith, n, one (some_scale p.scale low e)) }
+      by_bool false e = let n = length-map p.types.items attacker_of in record { at_least = omega (arith, n, count.at_least); at_most = omega (arith, n, count.at_most) }
+
+  -- the parts of a game in security form break no rule
+  security_fields : p.kind ≡ Security → IsTold p → IsSecurityGame (game_of p) → AreFielded p
+  security_fields e t s =
+      let b : Bool = is_some p.scale in
+      let same : is_scaled (game_of p) ≡ b = scaled_is p.scale t.scale in
+      let n = length-map p.goals.items string_bytes in
+      let m = length-map p.schedules.items named_of in
+      let limit : few_targets (is_scaled (game_of p)) ≡ goal_limit p.kind b = ap few_targets same ∙ sym (ap (λ (k : Kind). goal_limit k b) e) in
+      let priors = prior_high same (λ some. (s.scaled some).prior_one) t.scale (λ i d lt. (s.each_type i d lt).prior) in
+      let each = All-unmap (IsSecurityType (length (game_of p).goals)) attacker_of p.types.items s.each_type in
+      record {
+        patrolled = patrolled_from p.scale p.patrols (λ some. (s.scaled (some_scale p.scale t.scale some)).identical);
+        goal_count = record { at_least = omega (arith, n, s.target_count.at_least); at_most = omega (arith, n, limit, s.target_count.at_most) };
+        goals = s.targets;
+        scale = scale_within p.scale t.scale s.scale_range;
+        patrols = defended_within (game_of p) b same p.patrols t.patrols s.defended;
+        schedules = rw n at (defended_schedules (game_of p) b same p.patrols s.defended);
+        resources = rw m at (defended_resources (game_of p) b same p.patrols s.defended);
+        type_count = few_types t.scale s.types.count (λ some. (s.scaled some).one_type);
+        type_names = types_to s.types;
+        types = λ i d lt.
+            subst (λ (k : Kind). IsTyped k (prior_limit b) (length p.goals.items) (get_or p.types.items i d)) (sym e)
+            (security_to (length p.goals.items) (prior_limit b) (get_or p.types.items i d) (priors i d lt) (t.payoffs i d lt) (rw n at (each i d lt)));
+      }
+
+  -- the parts of a game in matrix form break no rule
+  matrix_fields : p.kind ≡ Matrix → HasOwnFields p → IsTold p → IsMatrixGame (game_of p) → AreFielded p
+  matrix_fields e own t s =
+      let mine = own.matrix e in
+      let b : Bool = is_some p.scale in
+      let off : b ≡ false = ap (λ (o : Option ℤ). is_some o) mine.scale in
+      let same : is_scaled (game_of p) ≡ b = scaled_is p.scale t.scale in
+      let n = length-map p.goals.items string_bytes in
+      let limit : goal_limit p.kind b ≡ 4096 = ap (λ (k : Kind). goal_limit k b) e in
+      let never : (pos 1 ≤ℤ (game_of p).scale) → ⊥ = (λ some. omega (arith, ints, some, s.no_scale)) in
+      let priors = prior_high same (λ some. absurd (never some)) t.scale (λ i d lt. (s.each_type i d lt).prior) in
+      let each = All-unmap (IsMatrixType (length (game_of p).goals)) attacker_of p.types.items s.each_type in
+      record {
+        patrolled = patrolled_from p.scale p.patrols (λ some. absurd (let q : true ≡ false = sym some ∙ off in cc));
+        goal_count = record { at_least = omega (arith, n, s.row_count.at_least); at_most = omega (arith, n, limit, s.row_count.at_most) };
+        goals = s.rows;
+        scale = subst (IsOptionWithin (pos 1) (pos (2 ^ 32))) (sym mine.scale) tt;
+        patrols = subst (IsOptionWithin (pos 0) (patrol_limit b)) (sym mine.patrols) tt;
+        schedules = rw mine.schedules (no_lists (length p.goals.items) 500 200);
+        resources = rw mine.resources (no_lists (length p.schedules.items) 32 500);
+        type_count = few_types t.scale s.types.count (λ some. absurd (never some));
+        type_names = types_to s.types;
+        types = λ i d lt.
+            subst (λ (k : Kind). IsTyped k (prior_limit b) (length p.goals.items) (get_or p.types.items i d)) (sym e)
+            (matrix_to (length p.goals.items) (prior_limit b) (get_or p.types.items i d) (priors i d lt) (rw n at (each i d lt)));
+      }
+
+  -- a game as a whole breaks no rule
+  whole_from : (b : Bool) → (b ≡ true → All (AllScaled (game_of p).scale) (game_of p).types) → (b ≡ false → program_rows (game_of p) ≤ 1536) → whole_fault b (game_of p) ≡ None
+  whole_from true scaled few = fine (is_scaled_game (game_of p)) 11 (Attacker 1) (is-all_scaled (game_of p) (scaled refl))
+  whole_from false scaled few = fine (nat_le (program_rows (game_of p)) 1536) 10 Document (le-leb (program_rows (game_of p)) 1536 (few refl))
+
+  no_fault : HasOwnFields p → IsTold p → IsGame (game_of p) → fault_of p ≡ None
+  unfolding fault_of
+  no_fault own t h =
+      by_form (game_of p) ((fields_fault p orelse whole_fault (is_some p.scale) (game_of p)) ≡ None) h
+      (λ e s. both (fields_fault p) (whole_fault (is_some p.scale) (game_of p)) (are-fielded p (security_fields e t s))
+        (whole_from (is_some p.scale) (λ on. (s.scaled (some_scale p.scale t.scale on)).targets) (λ off. s.few_rows (none_scale p.scale off))))
+      (λ e m. both (fields_fault p) (whole_fault (is_some p.scale) (game_of p)) (are-fielded p (matrix_fields e own t m))
+        (whole_from (is_some p.scale) (λ on. absurd (let q : is_some p.scale ≡ false = ap (λ (o : Option ℤ). is_some o) (own.matrix e).scale in let r : true ≡ false = sym on ∙ q in cc)) (λ off. m.few_rows)))
+
+  -- a game that says all that its parts say, exactly where they have no fault
+  pub fault_of-none : HasOwnFields p → (fault_of p ≡ None) ↔ (IsTold p × IsGame (game_of p))
+  unfolding fault_of
+  fault_of-none own = (
+    (λ h. let q = neither (fields_fault p) (whole_fault (is_some p.scale) (game_of p)) h in let f = fielded p q.0 in (told own f, makes_game own f q.1)),
+    (λ h. no_fault own h.0 h.1),
+  )

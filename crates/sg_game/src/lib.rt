@@ -7,6 +7,7 @@ mod entries;
 mod fault;
 mod fields;
 mod game;
+mod laws;
 mod lists;
 mod names;
 mod parts;
@@ -14,6 +15,7 @@ mod play;
 
 pub use fault::BuildFault;
 pub use game::Game;
+pub use laws::no_fault_is_a_game;
 pub use parts::{ListParts, Parts, TypeParts};
 pub use play::{covers, is_origami, legal, pay_a, pay_d, prior_total};
 pub use sg_model::{GameFault, Kind, Level, Place, Play};
