@@ -5,3 +5,4 @@ pub mod Faults
 pub mod Building
 pub mod Entries
 pub mod Converting
+pub mod Drafts

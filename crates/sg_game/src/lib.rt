@@ -3,6 +3,7 @@
 
 mod convert;
 mod counts;
+mod draft;
 mod entries;
 mod fault;
 mod fields;
