@@ -8,3 +8,4 @@ pub mod Listed
 pub mod Fielded
 pub mod Told
 pub mod Sound
+pub mod Drawn

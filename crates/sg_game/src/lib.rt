@@ -1,6 +1,7 @@
 //! Games, which contracts see as the plain data of the definitions in `sg_model`.
 #![tactic(auto)]
 
+mod build;
 mod convert;
 mod counts;
 mod draft;
