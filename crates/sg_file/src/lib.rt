@@ -6,8 +6,13 @@
 
 mod document;
 mod fault;
+mod game;
 mod keys;
+mod limits;
+mod lists;
 mod names;
+mod types;
 mod value;
 
 pub use fault::GameError;
+pub use game::read_parts;

@@ -63,13 +63,14 @@ abbrev pub count_of : ℤ → ℕ
 count_of (pos n) = n
 count_of (negsuc n) = 0
 
+-- the number is 0
+abbrev pub is_zero : ℤ → Bool
+is_zero (pos n) = n == 0
+is_zero (negsuc n) = false
+
 -- covering the target helps the defender and hurts the attacker, and the attacker's gap divides the scale
 abbrev pub fits_scale : ℤ → Payoff → Bool
 fits_scale scale p = int_lt p.du p.dc && int_lt p.ac p.au && is_zero (int_rem scale (gap p))
-  where
-    is_zero : ℤ → Bool
-    is_zero (pos n) = n == 0
-    is_zero (negsuc n) = false
 
 -- with a scale, the payoffs fit it; without one, the game's linear program isn't too large
 unfoldable pub limits_of : Game → Bool → Result (Unit {0}) GameFault
