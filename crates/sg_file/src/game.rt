@@ -3,7 +3,7 @@
 ghost use Rattle.std.specs.Prelude.{◌≡◌, option_map, pos, if◌then◌else◌, codes, ◌<◌, ◌^◌, ◌-◌};
 ghost use Rattle.toml.specs.View.{view as data_of, table_view};
 ghost use Rattle.sg_game.specs.Seen.{game_of};
-ghost use Rattle.sg_format.specs.GameFiles.{version_of, form_of, kind_of, scale_at, patrols_game, resources_game, matrix_game, game_of_form, game_of_table, game_of_bytes};
+ghost use Rattle.sg_format.specs.GameFiles.{version_of, form_of, kind_of, scale_at, patrols_game, listed_game, resources_game, matrix_game, game_of_form, game_of_table, game_of_bytes};
 ghost use Rattle.sg_file.specs.Answers.{Gives, Tells};
 ghost use Rattle.toml.specs.Data.{get_member};
 
@@ -126,17 +126,17 @@ fn patrols_game(alloc: Global, given: &Value, table: &Table) -> Result<Parts, Ga
     Ok(parts)
 }
 
-/// A game of listed schedules and resources.
-#[tactic(auto, unfolding(sg_format::specs::GameFiles::resources_game))]
-fn resources_game(alloc: Global, table: &Table) -> Result<Parts, GameError>
-    ensures { Gives game_of result (resources_game (table_view table.now)) }
+/// A game of listed schedules and resources, from the values of its targets, schedules, resources and types.
+#[tactic(auto, unfolding(sg_format::specs::GameFiles::listed_game))]
+fn listed_game(
+    alloc: Global,
+    listed: &Value,
+    given: &Value,
+    manned: &Value,
+    attackers: &Value,
+) -> Result<Parts, GameError>
+    ensures { Gives game_of result (listed_game (data_of listed.now) (data_of given.now) (data_of manned.now) (data_of attackers.now)) }
 {
-    known_keys(Place::Document, Section::Resources, table)?;
-    let listed = needed(Place::Document, "targets", table)?;
-    check(!has_key(table, "scale"), MISSING_KEY, Place::Document)?;
-    let given = needed(Place::Document, "schedule", table)?;
-    let manned = needed(Place::Document, "resource", table)?;
-    let attackers = needed(Place::Document, "type", table)?;
     let targets = names(alloc, Listing::Targets, 200, listed)?;
     let schedules = lists(alloc, Group::Schedules, &targets.index, given)?;
     let resources = lists(alloc, Group::Resources, &schedules.index, manned)?;
@@ -152,6 +152,20 @@ fn resources_game(alloc: Global, table: &Table) -> Result<Parts, GameError>
     };
     within_limits(&parts, false)?;
     Ok(parts)
+}
+
+/// A game of listed schedules and resources.
+#[tactic(auto, unfolding(sg_format::specs::GameFiles::resources_game))]
+fn resources_game(alloc: Global, table: &Table) -> Result<Parts, GameError>
+    ensures { Gives game_of result (resources_game (table_view table.now)) }
+{
+    known_keys(Place::Document, Section::Resources, table)?;
+    let listed = needed(Place::Document, "targets", table)?;
+    check(!has_key(table, "scale"), MISSING_KEY, Place::Document)?;
+    let given = needed(Place::Document, "schedule", table)?;
+    let manned = needed(Place::Document, "resource", table)?;
+    let attackers = needed(Place::Document, "type", table)?;
+    listed_game(alloc, listed, given, manned, attackers)
 }
 
 /// A game in matrix form.

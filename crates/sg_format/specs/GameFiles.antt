@@ -102,15 +102,9 @@ patrols_game given table = do
   within ← limits_of g scaled
   Ok g
 
--- a game of listed schedules and resources
-unfoldable pub resources_game : Members → Result Game GameFault
-resources_game table = do
-  keys ← passed (has_only is_resources_key table) unknown_key place_of.Document
-  listed ← needed_at place_of.Document (codes "targets") table
-  unscaled ← passed (not (is_some (get_member (codes "scale") table))) missing_key place_of.Document
-  given ← needed_at place_of.Document (codes "schedule") table
-  manned ← needed_at place_of.Document (codes "resource") table
-  attackers ← needed_at place_of.Document (codes "type") table
+-- a game of listed schedules and resources, from the values of its targets, schedules, resources and types
+unfoldable pub listed_game : Data → Data → Data → Data → Result Game GameFault
+listed_game listed given manned attackers = do
   targets ← names_at place_of.Document place_of.Target 200 listed
   schedules ← schedules_at targets given
   resources ← resources_at schedules manned
@@ -126,6 +120,17 @@ resources_game table = do
   }
   within ← limits_of g false
   Ok g
+
+-- a game of listed schedules and resources
+unfoldable pub resources_game : Members → Result Game GameFault
+resources_game table = do
+  keys ← passed (has_only is_resources_key table) unknown_key place_of.Document
+  listed ← needed_at place_of.Document (codes "targets") table
+  unscaled ← passed (not (is_some (get_member (codes "scale") table))) missing_key place_of.Document
+  given ← needed_at place_of.Document (codes "schedule") table
+  manned ← needed_at place_of.Document (codes "resource") table
+  attackers ← needed_at place_of.Document (codes "type") table
+  listed_game listed given manned attackers
 
 -- a game in security form: of identical patrols where their number is given
 abbrev pub security_game : Option Data → Members → Result Game GameFault
