@@ -88,3 +88,28 @@ take_of-reached g k l some =
 pub All-from_map : {X Y : Type 0} (f : X → Y) (P : Y → Type 0) (xs : List X) → All P (map f xs) → All (λ x. P (f x)) xs
 All-from_map f P [] h = All-nil (λ x. P (f x))
 All-from_map f P (x ∷ xs) h = All-cons (λ x. P (f x)) x xs (All-head P (f x) (map f xs) h) (All-from_map f P xs (All-tail P (f x) (map f xs) h))
+
+pub is_best-from : (g : Game) (k : List Ticket) (l a : ℕ) → ((b : ℕ) → 1 ≤ b → b ≤ action_count g l → sum_a g k l b ≤ℤ sum_a g k l a) → is_best g k l a ≡ true
+is_best-from g k l a best =
+    list_all-from_AllPass (λ b. int_le (sum_a g k l b) (sum_a g k l a)) (numbers (action_count g l))
+    (All-numbers (λ b. int_le (sum_a g k l b) (sum_a g k l a) ≡ true) (action_count g l) (λ b from_one in_range. sym (omega (arith, ints, best b from_one in_range))))
+
+pub is_best-out : (g : Game) (k : List Ticket) (l a : ℕ) → is_best g k l a ≡ true → (b : ℕ) → 1 ≤ b → b ≤ action_count g l → sum_a g k l b ≤ℤ sum_a g k l a
+is_best-out g k l a e b low high =
+    let each = AllPass-from_list_all (λ b. int_le (sum_a g k l b) (sum_a g k l a)) (numbers (action_count g l)) e in
+    let q : int_le (sum_a g k l b) (sum_a g k l a) ≡ true = All-numbers-at (λ b. int_le (sum_a g k l b) (sum_a g k l a) ≡ true) (action_count g l) each b low high in
+    omega (arith, ints, q)
+
+pub is_best-not : (g : Game) (k : List Ticket) (l a : ℕ) → (((b : ℕ) → 1 ≤ b → b ≤ action_count g l → sum_a g k l b ≤ℤ sum_a g k l a) → ⊥) → is_best g k l a ≡ false
+is_best-not g k l a none =
+    elim (is_best g k l a) as (λ b. is_best g k l a ≡ b → is_best g k l a ≡ false) [ true ↦ (λ e. absurd (none (is_best-out g k l a e))) | false ↦ (λ e. e) ] refl
+
+-- no best action gives the defender more than `take_of` says
+pub take_of-bounds : (g : Game) (k : List Ticket) (l a : ℕ) → 1 ≤ a → a ≤ action_count g l
+    → ((b : ℕ) → 1 ≤ b → b ≤ action_count g l → sum_a g k l b ≤ℤ sum_a g k l a) → sum_d g k l a ≤ℤ take_of g k l
+take_of-bounds g k l a low high best =
+    let m : ℕ = action_count g l in
+    let test = is_best g k l in
+    let Below : ℕ → Type 0 = λ (b : ℕ). sum_d g k l b ≤ℤ take_of g k l in
+    let below : All Below (filter test (numbers m)) = All-from_map (sum_d g k l) (λ z. z ≤ℤ take_of g k l) (filter test (numbers m)) (greatest-bounds (map (sum_d g k l) (filter test (numbers m)))) in
+    All-numbers-at (λ b. test b ≡ true → Below b) m (passes_have test Below (numbers m) below) a low high (is_best-from g k l a best)

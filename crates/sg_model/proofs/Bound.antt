@@ -19,7 +19,7 @@ use Rattle.sg_model.proofs.Covers.{cover_count-bounds, weight_total-positive, to
 use Rattle.sg_model.proofs.Best.{take_of-reached, passes_have, greatest-bounds, All-from_map}
 use Rattle.sg_model.proofs.Levels.{level_reached, sum_a_is, multiple_is}
 
-sum_d_is : (g : Game) → is_matrix g ≡ false → (k : List Ticket) (t : ℕ)
+pub sum_d_is : (g : Game) → is_matrix g ≡ false → (k : List Ticket) (t : ℕ)
     → sum_d g k 1 t ≡ ((payoff g 1 t).du *ℤ weight_total k) +ℤ (((payoff g 1 t).dc -ℤ (payoff g 1 t).du) *ℤ cover_count g k t)
 sum_d_is g s k t =
     let du : ℤ = (payoff g 1 t).du in let dc : ℤ = (payoff g 1 t).dc in
@@ -59,13 +59,13 @@ one_item [] h = absurd (omega (arith, h))
 one_item (x ∷ []) h = refl
 one_item (x ∷ y ∷ ys) h = absurd (omega (arith, h))
 
-worth_is : (g : Game) (patrols : ℕ) → IsOrigami g patrols → (k : List Ticket) → worth g k ≡ take_of g k 1
+pub worth_is : (g : Game) (patrols : ℕ) → IsOrigami g patrols → (k : List Ticket) → worth g k ≡ take_of g k 1
 worth_is g patrols o k =
     let f = λ (l : ℕ). (attacker g l).prior *ℤ take_of g k l in
     let a : worth g k ≡ total f (numbers 1) = ap (λ (m : ℕ). total f (numbers m)) o.one_type in
     a ∙ (ap (λ (z : ℤ). (z *ℤ take_of g k 1) +ℤ pos 0) o.prior_one ∙ same_by (plus (times (n 1) (v (take_of g k 1))) (n 0)) (v (take_of g k 1)) (omega arith))
 
-prior_is : (g : Game) (patrols : ℕ) → IsOrigami g patrols → prior_total g ≡ pos 1
+pub prior_is : (g : Game) (patrols : ℕ) → IsOrigami g patrols → prior_total g ≡ pos 1
 prior_is g patrols o =
     let a : prior_total g ≡ (attacker g 1).prior +ℤ pos 0 = ap (total (λ (x : Attacker). x.prior)) (one_item g.types o.one_type) in
     omega (arith, ints, a, o.prior_one)

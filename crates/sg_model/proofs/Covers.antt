@@ -14,7 +14,7 @@ use Rattle.sg_model.proofs.Sums.{total-add, total-le, total-scaled, total-exchan
 use Rattle.sg_model.proofs.Numbers.{All-numbers, once, nth-numbers, nth-is, length-numbers_from}
 
 -- with patrols, schedule s holds target s alone
-holds-patrols : (g : Game) (patrols : ℕ) → g.patrols ≡ Some patrols → (s t : ℕ) → 1 ≤ t → list_any (λ x. eqb x t) (schedule_targets g s) ≡ eqb s t
+pub holds-patrols : (g : Game) (patrols : ℕ) → g.patrols ≡ Some patrols → (s t : ℕ) → 1 ≤ t → list_any (λ x. eqb x t) (schedule_targets g s) ≡ eqb s t
 holds-patrols g patrols e zero t h = rw e (grind (arith, nat_tests))
 holds-patrols g patrols e (suc s) t h = rw e (grind (arith, nat_tests))
 

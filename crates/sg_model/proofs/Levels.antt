@@ -47,15 +47,15 @@ short_case au gap d c den num s m scale h e f lt =
     (omega (arith, lt_from (times (times (less (times a x) (times g y)) z) k) (times (times w x) k) r)))
 
 -- what a target of the level is
-record IsAtLevel (g : Game) (num den : ℤ) (t : ℕ) : Type 0 where
-  from_one : 1 ≤ t
-  in_range : t ≤ length g.goals
-  high : num ≤ℤ ((payoff g 1 t).au *ℤ den)
+pub record IsAtLevel (g : Game) (num den : ℤ) (t : ℕ) : Type 0 where
+  pub from_one : 1 ≤ t
+  pub in_range : t ≤ length g.goals
+  pub high : num ≤ℤ ((payoff g 1 t).au *ℤ den)
 
 InRange : Game → ℕ → Type 0
 InRange g t = (1 ≤ t) × (t ≤ length g.goals)
 
-at_level_each : (g : Game) (num den : ℤ) → All (IsAtLevel g num den) (at_level g num den)
+pub at_level_each : (g : Game) (num den : ℤ) → All (IsAtLevel g num den) (at_level g num den)
 unfolding InRange
 at_level_each g num den = λ i d lt.
     let p = λ (t : ℕ). int_le num ((payoff g 1 t).au *ℤ den) in

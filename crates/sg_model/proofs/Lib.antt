@@ -8,3 +8,13 @@ pub mod Forms
 pub mod Best
 pub mod Bound
 pub mod Optimal
+pub mod Tickets
+pub mod Values
+pub mod Scaled
+pub mod Held
+pub mod Promises
+pub mod Sizes
+pub mod Deciding
+pub mod Worked
+pub mod Joined
+pub mod Payoffs

@@ -7,4 +7,9 @@ pub mod Optimality
 pub mod Origami
 pub mod Names
 pub mod Limits
-pub mod Laws
+pub mod GameLaws
+pub mod PlayLaws
+pub mod PayoffLaws
+pub mod OptimalityLaws
+pub mod OrigamiLaws
+pub mod Examples

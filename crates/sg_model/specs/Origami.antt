@@ -1,10 +1,12 @@
 -- Games of identical patrols with one attacker, the level that the attacker's best payoff can't fall below, and the bound that a level proves.
-use Rattle.std.specs.Prelude.{◌≡◌, ◌≢◌, ℕ, ◌≤◌, List, [], map, length, ℤ, pos, ◌-ℤ◌, ◌+ℤ◌, ◌*ℤ◌, ◌≤ℤ◌, ◌<ℤ◌, filter, int_le, int_div, int_rem, Some}
+use Rattle.std.specs.Prelude.{◌≡◌, ◌≢◌, ℕ, ◌≤◌, if◌then◌else◌, List, [], map, length, ℤ, pos, ◌-ℤ◌, ◌+ℤ◌, ◌*ℤ◌, ◌≤ℤ◌, ◌<ℤ◌, filter, int_le, int_div, int_rem, Some}
 use Rattle.sg_model.specs.declared.kind.Kind.TheVariants.{Security}
 use Rattle.sg_model.specs.declared.level.Level.{Level}
 use Rattle.sg_model.specs.declared.level.Level.TheVariants.{Resources, Target}
 use Rattle.sg_model.specs.Sums.{total, greatest, numbers}
+use Rattle.sg_model.specs.declared.ticket.Ticket.{Ticket}
 use Rattle.sg_model.specs.Games.{Game, Payoff, attacker, payoff}
+use Rattle.sg_model.specs.Commitments.{weight_total, cover_count}
 
 -- what the attacker loses where a target is covered
 abbrev pub gap : Payoff → ℤ
@@ -58,3 +60,12 @@ pub record IsWater (g : Game) (patrols : ℕ) (num den : ℤ) (why : Level) : Ty
 abbrev pub water_bound : Game → ℤ → ℤ → ℤ
 water_bound g num den =
     greatest (map (λ t. (payoff g 1 t).du *ℤ (den *ℤ g.scale) +ℤ ((payoff g 1 t).dc -ℤ (payoff g 1 t).du) *ℤ share g num den t) (at_level g num den))
+
+-- how many of den times the scale tickets cover target t: its share, or none where it isn't of the level
+abbrev pub count_at : Game → ℤ → ℤ → ℕ → ℤ
+count_at g num den t = if int_le num ((payoff g 1 t).au *ℤ den) then share g num den t else pos 0
+
+-- every target is covered in just that proportion of the tickets
+abbrev pub AreLevelTickets : Game → ℤ → ℤ → List Ticket → Type 0
+AreLevelTickets g num den k = (t : ℕ) → 1 ≤ t → t ≤ length g.goals
+    → cover_count g k t *ℤ (den *ℤ g.scale) ≡ count_at g num den t *ℤ weight_total k

@@ -40,3 +40,7 @@ abbrev pub pay_a : Game → ℕ → List ℕ → ℕ → ℤ
 pay_a g l play a =
     if is_matrix g then nth (nth (attacker g l).follower (slice_index play 0) []) a (pos 0)
     else (if covers g play a then (payoff g l a).ac else (payoff g l a).au)
+
+-- the targets of the schedule that resource r, counted from 1, takes where this is played
+abbrev pub chosen_targets : Game → List ℕ → ℕ → List ℕ
+chosen_targets g play r = schedule_targets g (nth (resource_schedules g r) (nth play r 0) 0)

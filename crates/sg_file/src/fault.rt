@@ -1,0 +1,70 @@
+//! Why a game file is refused.
+
+ghost use Rattle.std.specs.Prelude.{◌≡◌};
+ghost use Rattle.sg_format.specs.Steps.{passed};
+ghost use Rattle.sg_file.specs.declared.fault.GameError.TheVariants.{Memory, Refused};
+
+use sg_game::{GameFault, Place};
+use std::alloc::{AllocError, AllocFailed};
+
+pub(crate) const NOT_TOML: u8 = 1;
+pub(crate) const BAD_VERSION: u8 = 2;
+pub(crate) const MISSING_KEY: u8 = 3;
+pub(crate) const WRONG_KIND: u8 = 4;
+pub(crate) const UNKNOWN_KEY: u8 = 5;
+pub(crate) const EMPTY_LIST: u8 = 6;
+pub(crate) const UNKNOWN_NAME: u8 = 7;
+pub(crate) const REPEATED_NAME: u8 = 8;
+pub(crate) const OUT_OF_RANGE: u8 = 9;
+pub(crate) const TOO_LARGE: u8 = 10;
+pub(crate) const BAD_SCALE: u8 = 11;
+
+/// Why there is no game.
+#[derive(Debug, Drop)]
+pub enum GameError {
+    /// The bytes are no game file: the first rule that they break.
+    Refused(GameFault),
+    /// Memory ran out.
+    Memory,
+}
+
+impl From<GameFault> for GameError {
+    ghost from_gives = { λ fault e. e ≡ Refused fault };
+
+    fn from(fault: GameFault) -> GameError {
+        GameError::Refused(fault)
+    }
+}
+
+impl From<AllocError> for GameError {
+    ghost from_gives = { λ _ e. e ≡ Memory };
+
+    fn from(_e: AllocError) -> GameError {
+        GameError::Memory
+    }
+}
+
+impl<T: Drop> From<AllocFailed<T>> for GameError {
+    ghost from_gives = { λ _ e. e ≡ Memory };
+
+    fn from(_e: AllocFailed<T>) -> GameError {
+        GameError::Memory
+    }
+}
+
+pub(crate) fn fault(reason: u8, place: Place) -> GameFault
+    ensures { result ≡ record { reason = reason; place = place } }
+{
+    GameFault { reason, place }
+}
+
+/// Nothing where the test passes, or this fault.
+pub(crate) fn check(test: bool, reason: u8, place: Place) -> Result<(), GameFault>
+    ensures { result ≡ passed test reason place }
+{
+    if test {
+        Ok(())
+    } else {
+        Err(fault(reason, place))
+    }
+}

@@ -1,0 +1,6 @@
+pub mod Steps
+pub mod Documents
+pub mod Lists
+pub mod Types
+pub mod GameFiles
+pub mod GameFileLaws

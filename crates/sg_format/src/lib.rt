@@ -1,0 +1,9 @@
+//! Which bytes are a game file, and of which game.
+//!
+//! The definition stands in `specs/`: `GameFiles` has the whole, and the other modules its steps. A file is a TOML
+//! document as the crate `toml` reads it; everything after that is said here.
+#![tactic(auto)]
+
+mod laws;
+
+pub use laws::accepted_is_game;

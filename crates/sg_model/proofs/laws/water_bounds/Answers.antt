@@ -1,5 +1,0 @@
-use Rattle.sg_model.proofs.Bound as bound
-use Rattle.sg_model.proofs.laws.water_bounds.Goals as goal
-
-pub returns : goal.returns
-returns c = bound.water_bounds
