@@ -1,4 +1,3 @@
 pub mod Steps
 pub mod Items
-pub mod Scales
 pub mod Numbers

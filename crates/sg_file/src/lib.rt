@@ -15,4 +15,7 @@ mod types;
 mod value;
 
 pub use fault::GameError;
-pub use game::read_parts;
+pub use game::{read_parts, read_scaled_parts};
+
+#[cfg(test)]
+mod tests;
