@@ -9,6 +9,8 @@ use Rattle.sg_file.specs.declared.keys.Section.{Section}
 use Rattle.sg_file.specs.declared.keys.Section.TheVariants.{Patrols, Resources, Matrix, Schedule, Resource, SecurityType, MatrixType}
 use Rattle.sg_file.specs.declared.names.Listing.{Listing}
 use Rattle.sg_file.specs.declared.names.Listing.TheVariants.{Targets, Rows, Actions}
+use Rattle.sg_file.specs.declared.lists.Group.{Group}
+use Rattle.sg_file.specs.declared.lists.Group.TheVariants.{Schedules, Resources as Manned}
 
 -- the keys of a table
 abbrev pub is_key_of : Section → List ℕ → Bool
@@ -31,3 +33,28 @@ abbrev pub entry_of : Listing → ℕ → Place
 entry_of Targets n = place_of.Target n
 entry_of Rows n = place_of.Row n
 entry_of (Actions l) n = place_of.Attacker l
+
+-- the key at which a schedule or a resource lists its members
+abbrev pub key_of : Group → List ℕ
+key_of Schedules = codes "targets"
+key_of Manned = codes "schedules"
+
+-- where the n-th schedule or resource stands
+abbrev pub member_place : Group → ℕ → Place
+member_place Schedules n = place_of.Schedule n
+member_place Manned n = place_of.Resource n
+
+-- how many of them there may be
+abbrev pub limit_of : Group → ℕ
+limit_of Schedules = 500
+limit_of Manned = 32
+
+-- how many members each may have
+abbrev pub members_limit : Group → ℕ
+members_limit Schedules = 200
+members_limit Manned = 500
+
+-- the table that each of them is
+abbrev pub section_of : Group → Section
+section_of Schedules = Schedule
+section_of Manned = Resource

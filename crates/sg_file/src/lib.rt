@@ -6,8 +6,16 @@
 
 mod document;
 mod fault;
+mod game;
 mod keys;
+mod limits;
+mod lists;
 mod names;
+mod types;
 mod value;
 
 pub use fault::GameError;
+pub use game::{read_parts, read_scaled_parts};
+
+#[cfg(test)]
+mod tests;

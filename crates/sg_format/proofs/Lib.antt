@@ -1,0 +1,5 @@
+pub mod Inversion
+pub mod Values
+pub mod Listed
+pub mod Typed
+pub mod Accepted

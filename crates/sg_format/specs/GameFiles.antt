@@ -1,5 +1,5 @@
 -- Which bytes are a game file, and of which game: the game, or the first reason for which they are none, with its place.
-use Rattle.std.specs.Prelude.{ℕ, ◌^◌, ◌==◌, Bool, false, not, ◌&&◌, ◌||◌, nat_le, ℤ, pos, negsuc, int_le, int_lt, int_rem, List, [], map, length, Option, Some, None, is_some, unwrap_or, Result, Ok, codes, bytes_eq, if◌then◌else◌}
+use Rattle.std.specs.Prelude.{ℕ, ◌^◌, ◌==◌, Bool, false, not, ◌&&◌, ◌||◌, nat_le, ℤ, pos, negsuc, int_le, int_lt, int_rem, List, [], map, length, Option, Some, None, is_some, unwrap_or, Result, Ok, Err, codes, bytes_eq, if◌then◌else◌}
 use Rattle.std.specs.List.{list_all}
 use Rattle.toml.specs.Data.{Data, Members, get_member}
 use Rattle.sg_model.specs.declared.fault.Place.TheVariants as place_of
@@ -7,7 +7,7 @@ use Rattle.sg_model.specs.declared.fault.GameFault.{GameFault}
 use Rattle.sg_model.specs.declared.kind.Kind.{Kind}
 use Rattle.sg_model.specs.declared.kind.Kind.TheVariants.{Security, Matrix}
 use Rattle.sg_model.specs.Games.{Payoff, Attacker, Game}
-use Rattle.sg_model.specs.Limits.{program_rows}
+use Rattle.sg_model.specs.Limits.{program_rows, is_scaled}
 use Rattle.sg_model.specs.Origami.{gap}
 use Rattle.sg_format.specs.Steps.{◌>>=◌, needed, passed, refused, bad_version, missing_key, unknown_key, out_of_range, too_large, bad_scale}
 use Rattle.sg_format.specs.Documents.{document_of, has_only, needed_at, integer_at, text_at, number_at}
@@ -63,13 +63,14 @@ abbrev pub count_of : ℤ → ℕ
 count_of (pos n) = n
 count_of (negsuc n) = 0
 
+-- the number is 0
+abbrev pub is_zero : ℤ → Bool
+is_zero (pos n) = n == 0
+is_zero (negsuc n) = false
+
 -- covering the target helps the defender and hurts the attacker, and the attacker's gap divides the scale
 abbrev pub fits_scale : ℤ → Payoff → Bool
 fits_scale scale p = int_lt p.du p.dc && int_lt p.ac p.au && is_zero (int_rem scale (gap p))
-  where
-    is_zero : ℤ → Bool
-    is_zero (pos n) = n == 0
-    is_zero (negsuc n) = false
 
 -- with a scale, the payoffs fit it; without one, the game's linear program isn't too large
 unfoldable pub limits_of : Game → Bool → Result (Unit {0}) GameFault
@@ -101,15 +102,9 @@ patrols_game given table = do
   within ← limits_of g scaled
   Ok g
 
--- a game of listed schedules and resources
-unfoldable pub resources_game : Members → Result Game GameFault
-resources_game table = do
-  keys ← passed (has_only is_resources_key table) unknown_key place_of.Document
-  listed ← needed_at place_of.Document (codes "targets") table
-  unscaled ← passed (not (is_some (get_member (codes "scale") table))) missing_key place_of.Document
-  given ← needed_at place_of.Document (codes "schedule") table
-  manned ← needed_at place_of.Document (codes "resource") table
-  attackers ← needed_at place_of.Document (codes "type") table
+-- a game of listed schedules and resources, from the values of its targets, schedules, resources and types
+unfoldable pub listed_game : Data → Data → Data → Data → Result Game GameFault
+listed_game listed given manned attackers = do
   targets ← names_at place_of.Document place_of.Target 200 listed
   schedules ← schedules_at targets given
   resources ← resources_at schedules manned
@@ -125,6 +120,17 @@ resources_game table = do
   }
   within ← limits_of g false
   Ok g
+
+-- a game of listed schedules and resources
+unfoldable pub resources_game : Members → Result Game GameFault
+resources_game table = do
+  keys ← passed (has_only is_resources_key table) unknown_key place_of.Document
+  listed ← needed_at place_of.Document (codes "targets") table
+  unscaled ← passed (not (is_some (get_member (codes "scale") table))) missing_key place_of.Document
+  given ← needed_at place_of.Document (codes "schedule") table
+  manned ← needed_at place_of.Document (codes "resource") table
+  attackers ← needed_at place_of.Document (codes "type") table
+  listed_game listed given manned attackers
 
 -- a game in security form: of identical patrols where their number is given
 abbrev pub security_game : Option Data → Members → Result Game GameFault
@@ -166,3 +172,17 @@ game_of_table table = do
 -- the game of a file's bytes, or the first reason for which they are none
 unfoldable pub game_of_bytes : List ℕ → Result Game GameFault
 game_of_bytes bytes = document_of bytes >>= game_of_table
+
+-- one patrol
+abbrev pub is_one_patrol : Option ℕ → Bool
+is_one_patrol (Some n) = n == 1
+is_one_patrol None = false
+
+-- the game declares a scale and has one patrol
+abbrev pub has_one_patrol : Game → Bool
+has_one_patrol g = is_scaled g && is_one_patrol g.patrols
+
+-- the game that was read, where it declares a scale and has one patrol
+abbrev pub of_one_patrol : Result Game GameFault → Option Game
+of_one_patrol (Ok g) = if has_one_patrol g then Some g else None
+of_one_patrol (Err fault) = None

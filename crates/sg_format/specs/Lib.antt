@@ -3,3 +3,4 @@ pub mod Documents
 pub mod Lists
 pub mod Types
 pub mod GameFiles
+pub mod GameFileLaws

@@ -53,11 +53,16 @@ names_at whole place limit value = do
 abbrev pub number_of : List ℕ → List (List ℕ) → Option ℕ
 number_of name names = position_from (bytes_eq name) 1 names
 
+-- the number of one of the known names
+unfoldable pub known_at : Place → List (List ℕ) → Data → Result ℕ GameFault
+known_at place known value = do
+  name ← text_at place value
+  needed (number_of name known) unknown_name place
+
 -- the number of one of the known names, which isn't among the numbers before it
 unfoldable pub member_at : Place → List (List ℕ) → List ℕ → Data → Result ℕ GameFault
 member_at place known before value = do
-  name ← text_at place value
-  number ← needed (number_of name known) unknown_name place
+  number ← known_at place known value
   new ← passed (not (list_any (λ other. other == number) before)) repeated_name place
   Ok number
 
@@ -82,14 +87,16 @@ named_at place key known limit before value = do
   members ← members_at place known limit listed
   Ok (record { name = name; members = members })
 
+-- at most limit such tables: the n-th stands at place n
+unfoldable pub named_lists_at : (ℕ → Place) → List ℕ → List (List ℕ) → ℕ → ℕ → Data → Result (List Named) GameFault
+named_lists_at place key known limit members_limit value = do
+  items ← few_at Document limit value
+  each (λ before. named_at (place (length before + 1)) key known members_limit before) [] items
+
 -- at most 500 schedules, each with a name and one to 200 of the targets
-unfoldable pub schedules_at : List (List ℕ) → Data → Result (List Named) GameFault
-schedules_at targets value = do
-  items ← few_at Document 500 value
-  each (λ before. named_at (Schedule (length before + 1)) (codes "targets") targets 200 before) [] items
+abbrev pub schedules_at : List (List ℕ) → Data → Result (List Named) GameFault
+schedules_at targets value = named_lists_at Schedule (codes "targets") targets 500 200 value
 
 -- at most 32 resources, each with a name and one to 500 of the schedules
-unfoldable pub resources_at : List Named → Data → Result (List Named) GameFault
-resources_at schedules value = do
-  items ← few_at Document 32 value
-  each (λ before. named_at (Resource (length before + 1)) (codes "schedules") (map (λ (x : Named). x.name) schedules) 500 before) [] items
+abbrev pub resources_at : List Named → Data → Result (List Named) GameFault
+resources_at schedules value = named_lists_at Resource (codes "schedules") (map (λ (x : Named). x.name) schedules) 32 500 value

@@ -1,5 +1,5 @@
 -- The types of attacker of a game file, with their payoffs.
-use Rattle.std.specs.Prelude.{ℕ, ◌+◌, ◌^◌, ◌==◌, Bool, ◌||◌, List, [], map, length, ℤ, pos, ◌-ℤ◌, slice_index_or, Result, Ok, codes, bytes_eq, if◌then◌else◌}
+use Rattle.std.specs.Prelude.{ℕ, ◌+◌, ◌^◌, ◌==◌, Bool, false, ◌||◌, List, [], map, length, ℤ, pos, ◌-ℤ◌, slice_index_or, Result, Ok, codes, bytes_eq, if◌then◌else◌}
 use Rattle.toml.specs.Data.{Data}
 use Rattle.sg_model.specs.declared.fault.Place.{Place}
 use Rattle.sg_model.specs.declared.fault.Place.TheVariants as place_of
@@ -70,7 +70,7 @@ matrix_type_at place rows before value = do
   first ← needed_at place (codes "leader") table
   second ← needed_at place (codes "follower") table
   name ← new_name place (map (λ (x : Attacker). x.name) before) own
-  prior ← number_at place (pos 1) (pos (2 ^ 20)) weight
+  prior ← prior_at place false weight
   actions ← names_at place (λ n. place) 64 named
   leader ← pay_table_at place rows (length actions) first
   follower ← pay_table_at place rows (length actions) second

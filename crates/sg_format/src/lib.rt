@@ -5,3 +5,5 @@
 #![tactic(auto)]
 
 mod laws;
+
+pub use laws::accepted_is_game;

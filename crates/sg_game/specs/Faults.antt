@@ -151,11 +151,10 @@ is_scaled_payoff scale p = (int_lt p.du p.dc && int_lt p.ac p.au) && int_eq (int
 abbrev pub is_scaled_game : Game → Bool
 is_scaled_game g = list_all (λ (x : model.Attacker). list_all (is_scaled_payoff g.scale) x.payoffs) g.types
 
--- the first fault of the game as a whole: too large a linear program where there is no scale, or a payoff that doesn't fit the scale
-unfoldable pub whole_fault : Parts → Option GameFault
-whole_fault p =
-    if is_some p.scale then unless (is_scaled_game (game_of p)) 11 (Attacker 1)
-    else unless (nat_le (program_rows (game_of p)) 1536) 10 Document
+-- the first fault of the game as a whole: with a scale a payoff that doesn't fit it, else too large a linear program
+abbrev pub whole_fault : Bool → Game → Option GameFault
+whole_fault true g = unless (is_scaled_game g) 11 (Attacker 1)
+whole_fault false g = unless (nat_le (program_rows g) 1536) 10 Document
 
 -- the first fault of the fields, one after the other
 unfoldable pub fields_fault : Parts → Option GameFault
@@ -169,4 +168,4 @@ fields_fault p =
 
 -- the first rule that the parts break, in the order of a game file
 unfoldable pub fault_of : Parts → Option GameFault
-fault_of p = fields_fault p orelse whole_fault p
+fault_of p = fields_fault p orelse whole_fault (is_some p.scale) (game_of p)

@@ -4,3 +4,5 @@ pub mod Stored
 pub mod Faults
 pub mod Building
 pub mod Entries
+pub mod Converting
+pub mod Drafts
