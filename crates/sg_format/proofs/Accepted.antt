@@ -1,5 +1,5 @@
 -- The game of an accepted file keeps every promise of a game file.
-use Rattle.std.proofs.Common.{◌≡◌, ◌≢◌, ℕ, ◌≤◌, ◌^◌, Bool, true, false, not, ◌&&◌, nat_le, int_le, int_lt, int_rem, List, [], length, map, ℤ, pos, negsuc, ◌≤ℤ◌, Option, Some, None, is_some, unwrap_or, Result, Ok, refl, sym, ap, subst, ◌∙◌, arith, eqb}
+use Rattle.std.proofs.Common.{◌≡◌, ℕ, ◌≤◌, ◌^◌, Bool, true, false, not, ◌&&◌, nat_le, int_lt, int_rem, List, [], length, map, ℤ, pos, negsuc, ◌≤ℤ◌, Option, Some, None, is_some, unwrap_or, Ok, refl, sym, ap, subst, ◌∙◌, arith}
 use Rattle.std.specs.Prelude.{codes, if◌then◌else◌}
 use Rattle.std.specs.List.{All, list_all}
 use Rattle.std.proofs.lemmas.Int.{ints}
@@ -7,14 +7,12 @@ use Rattle.std.proofs.lemmas.Bool.{and_parts, eqb-true}
 use Rattle.std.proofs.lemmas.List.{length-map}
 use Rattle.toml.specs.Data.{Data, Members, get_member}
 use Rattle.sg_model.specs.declared.fault.Place.TheVariants as place_of
-use Rattle.sg_model.specs.declared.fault.GameFault.{GameFault}
 use Rattle.sg_model.specs.declared.kind.Kind.{Kind}
 use Rattle.sg_model.specs.declared.kind.Kind.TheVariants.{Security, Matrix}
 use Rattle.sg_model.specs.Games.{Attacker, Game, Named, Payoff}
 use Rattle.sg_model.specs.Origami.{IsScaled, gap}
-use Rattle.sg_model.specs.Limits.{AreListed, AreLists, ArePatrols, IsGame, IsMatrixGame, IsScaledGame, IsSecurityGame, IsWithin, program_rows}
+use Rattle.sg_model.specs.Limits.{AreLists, IsGame, IsMatrixGame, IsSecurityGame, IsWithin, program_rows}
 use Rattle.sg_model.proofs.Deciding.{all_pass, at_most}
-use Rattle.sg_format.specs.Steps.{passed, bad_scale, too_large}
 use Rattle.sg_format.specs.Documents.{document_of, has_only, needed_at, number_at}
 use Rattle.sg_format.specs.Lists.{names_at, resources_at, schedules_at}
 use Rattle.sg_format.specs.Types.{matrix_types_at, security_types_at}
@@ -122,8 +120,8 @@ patrols_game-game given table g h =
       each_type = people.all;
       few_rows = λ zero. limited.small (scale_off scaled y.scale is_scale.is zero);
       scaled = λ positive. (
-        let yes = scale_on scaled y.scale is_scale.is positive in
-        record { identical = λ none. absurd (cc); one_type = people.one_type yes; prior_one = people.prior_one yes; targets = limited.fits yes });
+          let yes = scale_on scaled y.scale is_scale.is positive in
+          record { identical = λ none. absurd (cc); one_type = people.one_type yes; prior_one = people.prior_one yes; targets = limited.fits yes });
     } in
     subst IsGame same is))))))))
 

@@ -3,3 +3,4 @@ pub mod Values
 pub mod Listed
 pub mod Typed
 pub mod Accepted
+pub mod Shapes

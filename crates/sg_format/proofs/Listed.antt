@@ -1,8 +1,8 @@
 -- What the lists that are read promise: names, members, schedules and resources.
-use Rattle.std.proofs.Common.{◌≡◌, ◌≢◌, ℕ, suc, zero, ◌<◌, ◌≤◌, ◌+◌, Bool, true, false, not, ◌&&◌, ◌==◌, nat_le, nat_lt, List, [], ◌∷◌, ◌++◌, length, map, Option, Some, None, Result, Ok, refl, sym, ap, subst, ◌∙◌, arith, cond}
+use Rattle.std.proofs.Common.{◌≡◌, ◌≢◌, ℕ, suc, ◌<◌, ◌≤◌, ◌+◌, Bool, true, false, not, ◌==◌, nat_le, nat_lt, List, [], ◌∷◌, ◌++◌, length, map, Some, Result, Ok, sym, ap, subst, ◌∙◌, arith, cond}
 use Rattle.std.specs.Prelude.{codes, bytes_eq}
 use Rattle.std.specs.List.{All, AllPairs, list_any, position_from}
-use Rattle.std.proofs.lemmas.Bool.{true≢false, not-true, cases_Bool}
+use Rattle.std.proofs.lemmas.Bool.{true≢false, not-true}
 use Rattle.std.proofs.lemmas.Bool.Decides.{Decides-eqb}
 use Rattle.std.proofs.lemmas.List.{length_push, map_push}
 use Rattle.std.proofs.lemmas.List.Elements.{All-nil, All-push, All-weaker}
@@ -15,10 +15,9 @@ use Rattle.sg_model.specs.Games.{Named}
 use Rattle.sg_model.specs.Names.{AreNames}
 use Rattle.sg_model.specs.Limits.{AreLists, AreMembers, IsCount}
 use Rattle.sg_model.proofs.Deciding.{at_most}
-use Rattle.sg_format.specs.Steps.{passed, needed}
 use Rattle.sg_format.specs.Documents.{has_only, needed_at, items_at, table_at, text_at}
 use Rattle.sg_format.specs.Lists.{each, few_at, item_count, is_named_key, known_at, member_at, members_at, named_at, named_lists_at, names_at, new_name, number_of, some_at}
-use Rattle.sg_format.proofs.Inversion.{after, after_test, after_need, needed_is}
+use Rattle.sg_format.proofs.Inversion.{after, after_test, needed_is}
 use Rattle.sg_format.proofs.Values.{AreNames-nil, AreNames-push, IsNewName, new_name-new, none_passes}
 
 module _ {A : Type 0} (read : List A → Data → Result A GameFault) where
@@ -120,11 +119,11 @@ members_at-members place known limit value members h =
     after (some_at place limit value) h (λ items e rest.
     let none : AreMembersSoFar (length known) [] = record { known = All-nil (IsCount 1 (length known)); distinct = λ i j d low high. absurd (omega (arith, high)) } in
     let all = each-keeps (member_at place known) (AreMembersSoFar (length known)) (λ before entry n is first.
-      let new = member_at-new place known before entry n first in
-      record {
-        known = All-push (IsCount 1 (length known)) before n is.known new.known;
-        distinct = all_pairs_push (λ x y. x ≢ y) before n is.distinct new.new;
-      }) [] items members none rest in
+    let new = member_at-new place known before entry n first in
+    record {
+      known = All-push (IsCount 1 (length known)) before n is.known new.known;
+      distinct = all_pairs_push (λ x y. x ≢ y) before n is.distinct new.new;
+    }) [] items members none rest in
     record {
       size = each-count (member_at place known) limit items members (some_at-count place limit value items e) rest;
       known = all.known;
@@ -166,12 +165,12 @@ named_lists_at-lists place key known limit members_limit value lists h =
     let read : List Named → Data → Result Named GameFault = λ before. named_at (place (length before + 1)) key known members_limit before in
     let none : AreListsSoFar (length known) members_limit [] = record { names = AreNames-nil; members = All-nil (λ (x : Named). AreMembers (length known) members_limit x.members) } in
     let all = each-keeps read (AreListsSoFar (length known) members_limit) (λ before entry x is first.
-      let new = named_at-new (place (length before + 1)) key known members_limit before entry x first in
-      let names = AreNames-push (map (λ (x : Named). x.name) before) x.name is.names new.name in
-      record {
-        names = subst AreNames (sym (map_push (λ (x : Named). x.name) before x)) names;
-        members = All-push (λ (x : Named). AreMembers (length known) members_limit x.members) before x is.members new.members;
-      }) [] items lists none rest in
+    let new = named_at-new (place (length before + 1)) key known members_limit before entry x first in
+    let names = AreNames-push (map (λ (x : Named). x.name) before) x.name is.names new.name in
+    record {
+      names = subst AreNames (sym (map_push (λ (x : Named). x.name) before x)) names;
+      members = All-push (λ (x : Named). AreMembers (length known) members_limit x.members) before x is.members new.members;
+    }) [] items lists none rest in
     let few = few_at-few Document limit value items e in
     let count = length-each read [] items lists rest in
     record {

@@ -1,25 +1,24 @@
 -- What the types of attacker that are read promise.
-use Rattle.std.proofs.Common.{◌≡◌, ◌≢◌, ℕ, ◌<◌, ◌≤◌, ◌+◌, ◌^◌, Bool, true, false, ◌==◌, List, [], ◌∷◌, ◌++◌, length, map, ℤ, pos, ◌-ℤ◌, Result, Ok, refl, sym, ap, subst, ◌∙◌, arith, slice_index_or}
+use Rattle.std.proofs.Common.{◌≡◌, ℕ, ◌+◌, ◌^◌, Bool, true, false, ◌==◌, List, [], length, map, ℤ, pos, ◌-ℤ◌, Result, Ok, refl, sym, subst, ◌∙◌, arith, slice_index_or}
 use Rattle.std.specs.Prelude.{codes, if◌then◌else◌}
 use Rattle.std.specs.List.{All}
 use Rattle.std.proofs.lemmas.Int.{ints}
 use Rattle.std.proofs.lemmas.Bool.Decides.{Decides-eqb}
-use Rattle.std.proofs.lemmas.List.{length_push, length-map, map_push}
-use Rattle.std.proofs.lemmas.List.Elements.{All-nil, All-push, All-weaker, All-map}
-use Rattle.toml.specs.Data.{Data, Items}
+use Rattle.std.proofs.lemmas.List.{length-map, map_push}
+use Rattle.std.proofs.lemmas.List.Elements.{All-nil, All-push, All-map}
+use Rattle.toml.specs.Data.{Data}
 use Rattle.sg_model.specs.declared.fault.Place.{Place}
 use Rattle.sg_model.specs.declared.fault.Place.TheVariants as place_of
 use Rattle.sg_model.specs.declared.fault.GameFault.{GameFault}
-use Rattle.sg_model.specs.Games.{Attacker, Payoff}
+use Rattle.sg_model.specs.Games.{Attacker}
 use Rattle.sg_model.specs.Names.{AreNames}
 use Rattle.sg_model.specs.Limits.{AreTypes, IsCount, IsMatrixType, IsPay, IsPayoff, IsSecurityType, IsTable, IsWithin}
-use Rattle.sg_format.specs.Steps.{passed}
 use Rattle.sg_format.specs.Documents.{has_only, items_at, needed_at, table_at}
-use Rattle.sg_format.specs.Lists.{each, item_count, names_at, new_name, some_at}
+use Rattle.sg_format.specs.Lists.{item_count, names_at, new_name, some_at}
 use Rattle.sg_format.specs.Types.{is_matrix_type_key, is_security_type_key, matrix_type_at, matrix_types_at, pay_at, pay_table_at, payoff_of, pays_at, prior_at, security_type_at, security_types_at}
 use Rattle.sg_format.proofs.Inversion.{after, after_test}
 use Rattle.sg_format.proofs.Values.{AreNames-nil, AreNames-push, IsNewName, new_name-new, number_at-within}
-use Rattle.sg_format.proofs.Listed.{AreSomeNames, each-count, each-keeps, length-each, names_at-names, some_at-count}
+use Rattle.sg_format.proofs.Listed.{each-count, each-keeps, length-each, names_at-names, some_at-count}
 
 -- so many payoffs
 pub record ArePays (count : ℕ) (pays : List ℤ) : Type 0 where
@@ -54,11 +53,11 @@ pay_table_at-table place rows columns value table h =
     let asked = (Decides-eqb (item_count items) rows).0 test in
     let none : AreRows columns [] = record { lengths = All-nil (λ row. length row ≡ columns); pays = All-nil (λ row. All IsPay row) } in
     let all = each-keeps read (AreRows columns) (λ before entry row is first.
-      let new = pays_at-pays place columns entry row first in
-      record {
-        lengths = All-push (λ row. length row ≡ columns) before row is.lengths new.long;
-        pays = All-push (λ row. All IsPay row) before row is.pays new.all;
-      }) [] items table none last in
+    let new = pays_at-pays place columns entry row first in
+    record {
+      lengths = All-push (λ row. length row ≡ columns) before row is.lengths new.long;
+      pays = All-push (λ row. All IsPay row) before row is.pays new.all;
+    }) [] items table none last in
     record {
       rows = omega (arith, long, asked);
       columns = all.lengths;
@@ -147,13 +146,13 @@ security_types_at-types scaled targets value types h =
     let read : List Attacker → Data → Result Attacker GameFault = λ before. security_type_at (place_of.Attacker (length before + 1)) scaled targets before in
     let none : AreSecurityTypesSoFar scaled targets [] = record { names = AreNames-nil; all = All-nil (IsSecurityType targets); one = λ e. All-nil (λ (x : Attacker). x.prior ≡ pos 1) } in
     let so_far = each-keeps read (AreSecurityTypesSoFar scaled targets) (λ before entry x is first.
-      let new = security_type_at-new (place_of.Attacker (length before + 1)) scaled targets before entry x first in
-      let names = AreNames-push (map (λ (x : Attacker). x.name) before) x.name is.names new.name in
-      record {
-        names = subst AreNames (sym (map_push (λ (x : Attacker). x.name) before x)) names;
-        all = All-push (IsSecurityType targets) before x is.all new.type;
-        one = λ e. All-push (λ (x : Attacker). x.prior ≡ pos 1) before x (is.one e) (new.one e);
-      }) [] items types none rest in
+    let new = security_type_at-new (place_of.Attacker (length before + 1)) scaled targets before entry x first in
+    let names = AreNames-push (map (λ (x : Attacker). x.name) before) x.name is.names new.name in
+    record {
+      names = subst AreNames (sym (map_push (λ (x : Attacker). x.name) before x)) names;
+      all = All-push (IsSecurityType targets) before x is.all new.type;
+      one = λ e. All-push (λ (x : Attacker). x.prior ≡ pos 1) before x (is.one e) (new.one e);
+    }) [] items types none rest in
     let limit : ℕ = if scaled then 1 else 8 in
     let count = up_to_eight scaled (length types) (each-count read limit items types (some_at-count place_of.Document limit value items e) rest) in
     record {
@@ -216,11 +215,11 @@ matrix_types_at-types rows value types h =
     let read : List Attacker → Data → Result Attacker GameFault = λ before. matrix_type_at (place_of.Attacker (length before + 1)) rows before in
     let none : AreMatrixTypesSoFar rows [] = record { names = AreNames-nil; all = All-nil (IsMatrixType rows) } in
     let so_far = each-keeps read (AreMatrixTypesSoFar rows) (λ before entry x is first.
-      let new = matrix_type_at-new (place_of.Attacker (length before + 1)) rows before entry x first in
-      let names = AreNames-push (map (λ (x : Attacker). x.name) before) x.name is.names new.name in
-      record {
-        names = subst AreNames (sym (map_push (λ (x : Attacker). x.name) before x)) names;
-        all = All-push (IsMatrixType rows) before x is.all new.type;
-      }) [] items types none rest in
+    let new = matrix_type_at-new (place_of.Attacker (length before + 1)) rows before entry x first in
+    let names = AreNames-push (map (λ (x : Attacker). x.name) before) x.name is.names new.name in
+    record {
+      names = subst AreNames (sym (map_push (λ (x : Attacker). x.name) before x)) names;
+      all = All-push (IsMatrixType rows) before x is.all new.type;
+    }) [] items types none rest in
     let count = each-count read 8 items types (some_at-count place_of.Document 8 value items e) rest in
     record { apart = record { count = count; names = so_far.names }; all = so_far.all })

@@ -1,18 +1,15 @@
 -- What the values and names that are read promise.
-use Rattle.std.proofs.Common.{◌≡◌, ◌≢◌, ℕ, ◌<◌, ◌+◌, Bool, true, false, not, ◌&&◌, int_le, List, [], ◌∷◌, ◌++◌, length, map, ℤ, pos, Result, Ok, refl, sym, ap, subst, ◌∙◌, arith, bytes_eq, eqb}
-use Rattle.std.specs.List.{All, AllPairs, list_any}
+use Rattle.std.proofs.Common.{◌≡◌, ◌≢◌, ℕ, Bool, true, false, not, ◌&&◌, int_le, List, [], ◌∷◌, ◌++◌, ℤ, Ok, sym, subst, ◌∙◌, arith, bytes_eq}
+use Rattle.std.specs.List.{All, list_any}
 use Rattle.std.proofs.lemmas.Bool.{true≢false, not-true, or_parts}
-use Rattle.std.proofs.lemmas.Bool.Decides.{Decides-eqb}
 use Rattle.std.proofs.lemmas.List.Elements.{All-nil, All-cons, All-push, All-weaker}
 use Rattle.std.proofs.lemmas.List.Quantifiers.{all_pairs_push}
-use Rattle.std.proofs.lemmas.List.Folds.{list_any_at}
 use Rattle.std.proofs.lemmas.Slice.Eq.{bytes_eq-Decides}
 use Rattle.toml.specs.Data.{Data}
 use Rattle.sg_model.specs.declared.fault.Place.{Place}
 use Rattle.sg_model.specs.Names.{AreNames, is_name}
-use Rattle.sg_model.specs.Limits.{IsCount, IsWithin}
+use Rattle.sg_model.specs.Limits.{IsWithin}
 use Rattle.sg_model.proofs.Deciding.{range_by}
-use Rattle.sg_format.specs.Steps.{passed, needed, out_of_range, repeated_name}
 use Rattle.sg_format.specs.Documents.{integer_at, text_at, number_at, name_at}
 use Rattle.sg_format.specs.Lists.{new_name}
 use Rattle.sg_format.proofs.Inversion.{after, after_test}
