@@ -6,3 +6,7 @@ pub mod LevelTargets
 pub mod TopSteps
 pub mod Tops
 pub mod Solutions
+pub mod Completes
+pub mod Tellings
+pub mod Causes
+pub mod Outcomes

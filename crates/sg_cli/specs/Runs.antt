@@ -124,23 +124,36 @@ abbrev pub Answers : Scene → ℕ → ℕ → Option (List ℕ) → Option (Lis
 Answers s err_faults_before err_faults_after err_before err_after status =
     ((status ≡ 0) × Solves s × (err_after ≡ err_before)) ⊎ IsRefused s err_faults_before err_faults_after err_before err_after status
 
--- what a run owes where nothing fails on the outside and the files are told: it never gives up but for want of memory
+-- the files are told, and the one with the game's name has these bytes, of which there are at most 4,194,304
+pub record HoldsGame (s : Scene) (bytes : List ℕ) : Type 0 where
+  pub name : List ℕ
+  pub names : Names s name
+  pub files : Files
+  pub told : s.files ≡ Some files
+  pub is_held : held files name ≡ Some bytes
+  pub short : length bytes ≤ 4194304
+
+-- this status, or want of memory
+abbrev pub IsOrMemory : ℕ → ℕ → Type 0
+IsOrMemory status expected = (status ≡ expected) ⊎ (status ≡ 11)
+
+-- what a run owes where nothing fails outside: it never gives up but for want of memory
 pub record IsComplete (s : Scene) (status : ℕ) : Type 0 where
   -- no command
-  pub words : s.asked ≡ None → (status ≡ 2) ⊎ (status ≡ 11)
+  pub words : s.asked ≡ None → IsOrMemory status 2
   -- no file of that name
-  pub missing : (name : List ℕ) → Names s name → IsMissing s.files name → (status ≡ 4) ⊎ (status ≡ 11)
+  pub missing : (name : List ℕ) → Names s name → IsMissing s.files name → IsOrMemory status 4
   -- a file that is too long
-  pub long : (name : List ℕ) → Names s name → IsLong s.files name 4194304 → HasNotRisen s.reads_before s.reads_after → (status ≡ 5) ⊎ (status ≡ 11)
+  pub long : (name : List ℕ) → Names s name → IsLong s.files name 4194304 → HasNotRisen s.reads_before s.reads_after → IsOrMemory status 5
   -- bytes that are no game file
-  pub refused : (name : List ℕ) (files : Files) (bytes : List ℕ) (fault : GameFault) → Names s name → s.files ≡ Some files → held files name ≡ Some bytes → length bytes ≤ 4194304
-      → game_of_bytes bytes ≡ Err fault → HasNotRisen s.reads_before s.reads_after → (status ≡ 6) ⊎ (status ≡ 11)
+  pub refused : (bytes : List ℕ) (fault : GameFault) → HoldsGame s bytes → HasNotRisen s.reads_before s.reads_after
+      → game_of_bytes bytes ≡ Err fault → IsOrMemory status 6
   -- a game that is not solved yet
-  pub not_yet : (name : List ℕ) (files : Files) (bytes : List ℕ) (game : Game) → Names s name → s.files ≡ Some files → held files name ≡ Some bytes → length bytes ≤ 4194304
-      → game_of_bytes bytes ≡ Ok game → ¬ (IsSolved game) → HasNotRisen s.reads_before s.reads_after → (status ≡ 3) ⊎ (status ≡ 11)
+  pub not_yet : (bytes : List ℕ) (game : Game) → HoldsGame s bytes → HasNotRisen s.reads_before s.reads_after
+      → game_of_bytes bytes ≡ Ok game → ¬ (IsSolved game) → IsOrMemory status 3
   -- a game that is solved
-  pub solved : (name : List ℕ) (files : Files) (bytes : List ℕ) (game : Game) → Names s name → s.files ≡ Some files → held files name ≡ Some bytes → length bytes ≤ 4194304
-      → game_of_bytes bytes ≡ Ok game → IsSolved game → HasNotRisen s.reads_before s.reads_after → HasNotRisen s.writes_before s.writes_after → (status ≡ 0) ⊎ (status ≡ 11)
+  pub solved : (bytes : List ℕ) (game : Game) → HoldsGame s bytes → HasNotRisen s.reads_before s.reads_after → HasNotRisen s.writes_before s.writes_after
+      → game_of_bytes bytes ≡ Ok game → IsSolved game → IsOrMemory status 0
 
 -- ---- why a file gives no game that is solved
 

@@ -5,9 +5,13 @@
 #![tactic(auto)]
 
 mod refusal;
+mod call;
 mod report;
 mod solution;
+
+mod solving;
 mod tickets;
 mod value;
 
 pub use refusal::Refusal;
+pub use call::run;

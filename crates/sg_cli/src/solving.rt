@@ -1,0 +1,130 @@
+//! What `solve` does: reads a game, solves it, and writes its report.
+
+ghost use Rattle.std.specs.Prelude.{◌≡◌, ◌≤◌, ◌⊎◌, ◌↔◌, IfOk, IfErr, OnOk, IsTrue, IsErrOf, Ok, Err, length, map, string_bytes, vec_len, Some, option_map};
+ghost use Rattle.sg_file.specs.Answers.{Gives};
+ghost use Rattle.sg_format.specs.GameFiles.{game_of_bytes};
+ghost use Rattle.sg_shelf.specs.Files.{Reads};
+ghost use Rattle.sg_words.specs.Commands.{command_given, solve};
+ghost use Rattle.sg_cli.specs.Solutions.{IsSolved, IsReportText};
+ghost use Rattle.sg_cli.specs.Runs.{scene, texts, ComesOf, Solves, FileFails, GameFails, FileRefused, ReadsSolved};
+
+use crate::refusal::Refusal;
+use crate::solution::report_on;
+use sg_file::GameError;
+use sg_game::{Game, is_origami};
+use sg_shelf::{Shelf, ShelfError, Sink};
+use sg_words::{Command, command_of};
+use std::alloc::{AllocError, Global};
+
+const GAME_LIMIT: usize = 4_194_304;
+
+/// The bytes of a file that is at most as long as a game file may be.
+fn bytes_named<S: Shelf>(alloc: Global, shelf: &mut S, name: &str) -> Result<Vec<u8>, Refusal>
+    ensures files { S.files shelf.new ≡ S.files shelf.old }
+    ensures count { S.faults shelf.old ≤ S.faults shelf.new }
+    ensures ok { IfOk result (λ bytes. Reads (S.files shelf.old) name.now 4194304 bytes.items) }
+    ensures err { IfErr result (FileFails (S.files shelf.old) name.now (S.faults shelf.old) (S.faults shelf.new)) }
+{
+    match shelf.read(alloc, name, GAME_LIMIT) {
+        Ok(bytes) => Ok(bytes),
+        Err(ShelfError::Failed) => Err(Refusal::GameNotRead),
+        Err(ShelfError::TooLong { seen: _ }) => Err(Refusal::GameTooLong),
+        Err(ShelfError::Memory) => Err(Refusal::Memory),
+    }
+}
+
+fn read_game(alloc: Global, bytes: &[u8]) -> Result<Game, GameError>
+    ensures { Gives (λ g. g) result (game_of_bytes bytes.now) }
+{
+    Err(GameError::Memory)
+}
+
+/// The game of the bytes, where it is one that is solved.
+fn game_of(alloc: Global, bytes: &[u8]) -> Result<Game, Refusal>
+    ensures ok { IfOk result (λ game. (game_of_bytes bytes.now ≡ Ok game) × IsSolved game) }
+    ensures err { IfErr result (GameFails (game_of_bytes bytes.now)) }
+{
+    match read_game(alloc, bytes) {
+        Ok(game) => {
+            if is_origami(&game) && game.patrols() == Some(1) {
+                Ok(game)
+            } else {
+                Err(Refusal::NotYet)
+            }
+        }
+        Err(GameError::Refused(fault)) => Err(Refusal::GameRefused(fault)),
+        Err(GameError::Memory) => Err(Refusal::Memory),
+    }
+}
+
+/// The game in the file of that name, where it is one that is solved.
+fn game_named<S: Shelf>(alloc: Global, shelf: &mut S, name: &str) -> Result<Game, Refusal>
+    ensures files { S.files shelf.new ≡ S.files shelf.old }
+    ensures count { S.faults shelf.old ≤ S.faults shelf.new }
+    ensures ok { IfOk result (ReadsSolved (S.files shelf.old) name.now) }
+    ensures err { IfErr result (FileRefused (S.files shelf.old) name.now (S.faults shelf.old) (S.faults shelf.new)) }
+{
+    let bytes = bytes_named(alloc, shelf, name)?;
+    game_of(alloc, &bytes)
+}
+
+/// The game that the words ask to solve, or none where they give no command.
+fn game_asked<'a>(alloc: Global, words: &'a [String]) -> Result<Option<&'a str>, AllocError>
+    ensures { IfOk result (λ o. option_map (λ name. solve name.now) o ≡ command_given (texts words.entry.now)) }
+{
+    match command_of(alloc, words)? {
+        Some(Command::Solve { game }) => Ok(Some(game)),
+        None => Ok(None),
+    }
+}
+
+/// Solves the game in the file of that name, and writes its report.
+fn solve_named<S: Shelf, O: Sink>(
+    alloc: Global,
+    name: &str,
+    shelf: &mut S,
+    out: &mut O,
+) -> Result<(), Refusal>
+    ensures files { S.files shelf.new ≡ S.files shelf.old }
+    ensures reads { S.faults shelf.old ≤ S.faults shelf.new }
+    ensures writes { O.faults out.old ≤ O.faults out.new }
+    ensures ok { OnOk result (Solves (scene (Some (solve name.now)) (S.files shelf.old) (S.faults shelf.old) (S.faults shelf.new)
+        (O.faults out.old) (O.faults out.new) (O.taken out.old) (O.taken out.new))) }
+    ensures err { IfErr result (ComesOf (scene (Some (solve name.now)) (S.files shelf.old) (S.faults shelf.old) (S.faults shelf.new)
+        (O.faults out.old) (O.faults out.new) (O.taken out.old) (O.taken out.new))) }
+{
+    let game = match game_named(alloc, shelf, name) {
+        Ok(game) => game,
+        Err(refusal) => return Err(refusal),
+    };
+    let text = match report_on(alloc, &game) {
+        Ok(text) => text,
+        Err(_) => return Err(Refusal::Memory),
+    };
+    match out.put(text.as_slice()) {
+        Ok(()) => Ok(()),
+        Err(_) => Err(Refusal::NotWritten),
+    }
+}
+
+/// Does what the words ask for.
+pub fn solve<S: Shelf, O: Sink>(
+    alloc: Global,
+    words: &[String],
+    shelf: &mut S,
+    out: &mut O,
+) -> Result<(), Refusal>
+    ensures files { S.files shelf.new ≡ S.files shelf.old }
+    ensures reads { S.faults shelf.old ≤ S.faults shelf.new }
+    ensures writes { O.faults out.old ≤ O.faults out.new }
+    ensures ok { OnOk result (Solves (scene (command_given (texts words.now)) (S.files shelf.old) (S.faults shelf.old) (S.faults shelf.new)
+        (O.faults out.old) (O.faults out.new) (O.taken out.old) (O.taken out.new))) }
+    ensures err { IfErr result (ComesOf (scene (command_given (texts words.now)) (S.files shelf.old) (S.faults shelf.old) (S.faults shelf.new)
+        (O.faults out.old) (O.faults out.new) (O.taken out.old) (O.taken out.new))) }
+{
+    match game_asked(alloc, words) {
+        Ok(Some(name)) => solve_named(alloc, name, shelf, out),
+        Ok(None) => Err(Refusal::Words),
+        Err(_) => Err(Refusal::Memory),
+    }
+}
