@@ -106,7 +106,12 @@ impl Game {
         ensures small { result ≤ 200000 }
     {
         let resources = self.resources() as usize;
-        rows_of(self.kind, resources, self.goals.len(), self.types.as_slice())
+        rows_of(
+            self.kind,
+            resources,
+            self.goals.len(),
+            self.types.as_slice(),
+        )
     }
 }
 

@@ -23,5 +23,8 @@ pub use game::Game;
 pub use laws::no_fault_is_a_game;
 pub use parts::{ListParts, Parts, TypeParts};
 pub use play::{covers, is_origami, legal, pay_a, pay_d, prior_total};
-pub use spread::{greatest, shift};
 pub use sg_model::{GameFault, Kind, Level, Place, Play};
+pub use spread::{greatest, shift};
+
+#[cfg(test)]
+mod tests;
