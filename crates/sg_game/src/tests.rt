@@ -1,6 +1,3 @@
-ghost use Rattle.std.specs.Prelude.{◌≡◌, IfOk};
-ghost use Rattle.sg_game.specs.Building.{HasOwnFields};
-
 use super::*;
 use std::alloc::{AllocError, Global};
 use std::test::*;
@@ -69,7 +66,6 @@ fn patrolled(
 /// A game of listed resources against one thief.
 fn listed(
     alloc: Global,
-    scale: Option<i64>,
     goals: &[&str],
     schedules: &[(&str, &[u32])],
     resources: &[(&str, &[u32])],
@@ -91,7 +87,7 @@ fn listed(
         alloc,
         Parts {
             kind: Kind::Security,
-            scale,
+            scale: None,
             patrols: None,
             goals,
             schedules,
@@ -136,15 +132,8 @@ fn matrix(
     )
 }
 
-fn fault(game: Result<Game, BuildFault>) -> Option<GameFault> {
-    match game {
-        Err(BuildFault::Refused(fault)) => Some(fault),
-        _ => None,
-    }
-}
-
 fn pays(game: &Game, code: &[u16], a: u16) -> Option<(i64, i64)> {
-    if !legal(game, code) || a == 0 || a > game.actions(1) {
+    if game.types() != 1 || !legal(game, code) || a == 0 || a > game.actions(1) {
         return None;
     }
     Some((pay_d(game, 1, code, a), pay_a(game, 1, code, a)))
@@ -165,243 +154,151 @@ fn has_resource(game: &Game, r: u16, name: &str, schedules: &[u16]) -> bool {
 }
 
 fn has_action(game: &Game, a: u16, name: &str) -> bool {
-    if a == 0 || a > game.actions(1) {
+    if game.types() != 1 || a == 0 || a > game.actions(1) {
         return false;
     }
     game.type_name(1) == "thief" && game.action_name(1, a) == name
 }
 
-fn gate_and_hall(alloc: Global) -> Result<Game, BuildFault> {
-    patrolled(
-        alloc,
-        Some(4),
-        1,
-        1,
-        &["gate", "hall"],
-        &[&[2, -2, 0, 4], &[1, -1, 0, 2]],
-    )
+/// The sum of the priors, the greatest payoff and the shift.
+fn ends(game: &Game) -> Option<(i64, i64, i64)> {
+    if game.types() != 1 {
+        return None;
+    }
+    Some((prior_total(game), greatest(game, 1), shift(game)))
+}
+
+/// Whether the game has one resource for each patrol, one target for each schedule, so many plays and program rows.
+fn has_counts(game: &Game, forms: (bool, bool), plays: u64, rows: u32) -> bool {
+    let counts = plays_count(game) == Some(plays) && program_rows(game) == rows;
+    counts && is_origami(game) == forms.0 && is_single(game) == forms.1
+}
+
+fn has_least(alloc: Global, game: &Game, choice: u16) -> Result<bool, AllocError> {
+    let play = least_play(alloc, game)?;
+    Ok(play.code.as_slice() == [choice].as_slice())
+}
+
+fn is_refused(game: Result<Game, BuildFault>, reason: u8, place: Place) -> bool {
+    match game {
+        Err(BuildFault::Refused(fault)) => fault == GameFault { reason, place },
+        _ => false,
+    }
 }
 
 #[test]
 fn plays_patrols(rt: HostRuntime) -> Result<(), Fail> {
-    let game = gate_and_hall(rt.alloc()).ok().ok_or("a game")?;
-    assert!(rt; matches!(game.kind(), Kind::Security));
-    assert_eq!(rt; game.scale(), 4);
-    assert!(rt; matches!(game.patrols(), Some(1)));
-    assert!(rt; has_schedule(&game, 2, "hall", &[2]) && !has_schedule(&game, 3, "hall", &[2]));
-    assert!(rt; has_resource(&game, 1, "p1", &[1, 2]) && has_action(&game, 1, "gate"));
-    assert!(rt; legal(&game, &[0]) && legal(&game, &[2]) && !legal(&game, &[3]));
-    assert!(rt; !legal(&game, &[]) && !legal(&game, &[1, 1]));
-    assert!(rt; matches!(pays(&game, &[1], 1), Some((2, 0))));
-    assert!(rt; matches!(pays(&game, &[1], 2), Some((-1, 2))));
-    assert!(rt; matches!(pays(&game, &[0], 1), Some((-2, 4))));
-    assert!(rt; is_origami(&game) && is_single(&game));
-    assert_eq!(rt; prior_total(&game), 1);
-    assert_eq!(rt; greatest(&game, 1), 2);
-    assert_eq!(rt; shift(&game), 3);
-    assert!(rt; matches!(plays_count(&game), Some(3)));
-    assert_eq!(rt; program_rows(&game), 7);
-    let play = least_play(rt.alloc(), &game).ok().ok_or("a play")?;
-    assert!(rt; play.code.as_slice() == [0].as_slice());
+    let alloc = rt.alloc();
+    let pays_of: &[&[i64]] = &[&[2, -2, 0, 4], &[1, -1, 0, 2]];
+    let game = patrolled(alloc, Some(4), 1, 1, &["gate", "hall"], pays_of);
+    let game = game.ok().ok_or("a game")?;
+    assert!(rt; game.kind() == Kind::Security && game.scale() == 4 && game.patrols() == Some(1));
+    assert!(rt; has_schedule(&game, 2, "hall", &[2]) && has_resource(&game, 1, "p1", &[1, 2]));
+    assert!(rt; has_action(&game, 1, "gate"));
+    for (code, want) in [(0, (-2, 4)), (1, (2, 0)), (2, (-2, 4))] {
+        assert!(rt; pays(&game, &[code], 1) == Some(want), "at {code}");
+    }
+    assert!(rt; pays(&game, &[3], 1) == None && pays(&game, &[], 1) == None);
+    assert!(rt; ends(&game) == Some((1, 2, 3)));
+    assert!(rt; has_counts(&game, (true, true), 3, 7));
+    assert!(rt; has_least(alloc, &game, 0)?);
     Ok(())
 }
 
 #[test]
 fn plays_rows(rt: HostRuntime) -> Result<(), Fail> {
-    let game = matrix(
-        rt.alloc(),
-        &["A", "B"],
-        &["x", "y"],
-        &[&[2, 4], &[1, 3]],
-        &[&[1, 0], &[0, 2]],
-    );
+    let alloc = rt.alloc();
+    let leader: &[&[i64]] = &[&[2, 4], &[1, 3]];
+    let follower: &[&[i64]] = &[&[1, 0], &[0, 2]];
+    let game = matrix(alloc, &["A", "B"], &["x", "y"], leader, follower);
     let game = game.ok().ok_or("a game")?;
-    assert!(rt; matches!(game.kind(), Kind::Matrix));
-    assert_eq!(rt; game.rows(), 2);
-    assert_eq!(rt; game.targets(), 0);
+    assert!(rt; game.kind() == Kind::Matrix && game.rows() == 2 && game.targets() == 0);
     assert!(rt; has_action(&game, 2, "y") && !has_action(&game, 3, "y"));
-    assert!(rt;
-        legal(&game, &[1]) && legal(&game, &[2]) && !legal(&game, &[0]) && !legal(&game, &[3])
-    );
-    assert!(rt; matches!(pays(&game, &[1], 1), Some((2, 1))));
-    assert!(rt; matches!(pays(&game, &[2], 2), Some((3, 2))));
-    assert!(rt; !is_origami(&game) && !is_single(&game));
-    assert_eq!(rt; greatest(&game, 1), 4);
-    assert_eq!(rt; shift(&game), 0);
-    assert!(rt; matches!(plays_count(&game), Some(2)));
-    assert_eq!(rt; program_rows(&game), 2);
-    let play = least_play(rt.alloc(), &game).ok().ok_or("a play")?;
-    assert!(rt; play.code.as_slice() == [1].as_slice());
+    for (row, want) in [(0, None), (1, Some((4, 0))), (2, Some((3, 2))), (3, None)] {
+        assert!(rt; pays(&game, &[row], 2) == want, "at {row}");
+    }
+    assert!(rt; ends(&game) == Some((1, 4, 0)));
+    assert!(rt; has_counts(&game, (false, false), 2, 2));
+    assert!(rt; has_least(alloc, &game, 1)?);
     Ok(())
 }
 
 #[test]
 fn plays_schedules(rt: HostRuntime) -> Result<(), Fail> {
     let each: &[i64] = &[0, -1, 0, 1];
+    let schedules: &[(&str, &[u32])] = &[
+        ("s1", &[1, 2]),
+        ("s2", &[3, 4]),
+        ("s3", &[1, 3]),
+        ("s4", &[2, 4]),
+    ];
+    let resources: &[(&str, &[u32])] = &[("r1", &[1, 2]), ("r2", &[3, 4])];
     let game = listed(
         rt.alloc(),
-        None,
         &["a", "b", "c", "d"],
-        &[
-            ("s1", &[1, 2]),
-            ("s2", &[3, 4]),
-            ("s3", &[1, 3]),
-            ("s4", &[2, 4]),
-        ],
-        &[("r1", &[1, 2]), ("r2", &[3, 4])],
+        schedules,
+        resources,
         &[each, each, each, each],
     );
     let game = game.ok().ok_or("a game")?;
     assert!(rt; has_schedule(&game, 3, "s3", &[1, 3]) && has_resource(&game, 2, "r2", &[3, 4]));
-    assert!(rt; matches!(game.patrols(), None));
-    for (first, second, covered) in [
-        (1, 1, [true, true, true, false]),
-        (0, 2, [false, true, false, true]),
-        (2, 0, [false, false, true, true]),
-        (0, 0, [false, false, false, false]),
+    for (code, t, want) in [
+        ([1, 1], 1, (0, 0)),
+        ([1, 1], 3, (0, 0)),
+        ([1, 1], 4, (-1, 1)),
+        ([0, 2], 4, (0, 0)),
+        ([0, 2], 3, (-1, 1)),
+        ([2, 0], 4, (0, 0)),
+        ([2, 0], 1, (-1, 1)),
     ] {
-        for t in 0..4 {
-            let want = if covered[t as usize] { (0, 0) } else { (-1, 1) };
-            assert!(rt;
-                pays(&game, &[first, second], t + 1) == Some(want),
-                "at {first} {second} {t}"
-            );
-        }
+        assert!(rt; pays(&game, code.as_slice(), t) == Some(want), "at {t}");
     }
-    assert!(rt; !legal(&game, &[3, 0]) && !is_single(&game) && !is_origami(&game));
-    assert!(rt; matches!(plays_count(&game), Some(9)));
-    assert_eq!(rt; program_rows(&game), 14);
+    assert!(rt; has_counts(&game, (false, false), 9, 14));
     Ok(())
 }
 
-fn is_refused(game: Result<Game, BuildFault>, reason: u8, place: Place) -> bool {
-    match fault(game) {
-        Some(fault) => fault == GameFault { reason, place },
-        None => false,
+#[test]
+fn refuses_patrols(rt: HostRuntime) {
+    let pays_of: &[&[i64]] = &[&[2, -2, 0, 4], &[1, -1, 0, 2]];
+    let two: &[&str] = &["a", "b"];
+    for (scale, patrols, prior, goals, reason, place) in [
+        (Some(0), 1, 1, [].as_slice(), 6, Place::Document),
+        (
+            Some(0),
+            1,
+            1,
+            ["a b", "a b"].as_slice(),
+            9,
+            Place::Target(1),
+        ),
+        (Some(0), 1, 1, ["a", "a"].as_slice(), 8, Place::Target(2)),
+        (Some(0), 201, 1, two, 9, Place::Document),
+        (None, 33, 1, two, 9, Place::Document),
+        (Some(4), 1, 2, two, 9, Place::Attacker(1)),
+        (Some(4), 1, 1, ["a"].as_slice(), 9, Place::Attacker(1)),
+        (Some(6), 1, 1, two, 11, Place::Attacker(1)),
+    ] {
+        let game = patrolled(rt.alloc(), scale, patrols, prior, goals, pays_of);
+        assert!(rt; is_refused(game, reason, place), "{reason}");
     }
 }
 
 #[test]
-fn refuses(rt: HostRuntime) {
-    let alloc = rt.alloc();
-    let pays: &[&[i64]] = &[&[2, -2, 0, 4], &[1, -1, 0, 2]];
-    assert!(rt;
-        is_refused(
-            listed(alloc, Some(4), &[], &[], &[], &[]),
-            3,
-            Place::Document
-        )
-    );
-    assert!(rt;
-        is_refused(
-            patrolled(alloc, Some(0), 1, 1, &[], pays),
-            6,
-            Place::Document
-        )
-    );
-    assert!(rt;
-        is_refused(
-            patrolled(alloc, Some(0), 1, 1, &["a b", "a b"], pays),
-            9,
-            Place::Target(1)
-        )
-    );
-    assert!(rt;
-        is_refused(
-            patrolled(alloc, Some(0), 1, 1, &["a", "a"], pays),
-            8,
-            Place::Target(2)
-        )
-    );
-    assert!(rt;
-        is_refused(
-            patrolled(alloc, Some(0), 201, 1, &["a", "b"], pays),
-            9,
-            Place::Document
-        )
-    );
-    assert!(rt;
-        is_refused(
-            patrolled(alloc, None, 33, 1, &["a", "b"], pays),
-            9,
-            Place::Document
-        )
-    );
-    assert!(rt;
-        is_refused(
-            patrolled(alloc, Some(4), 1, 2, &["a", "b"], pays),
-            9,
-            Place::Attacker(1)
-        )
-    );
-    assert!(rt;
-        is_refused(
-            patrolled(alloc, Some(4), 1, 1, &["a", "b"], &[&[2, -2, 0, 4]]),
-            9,
-            Place::Attacker(1)
-        )
-    );
-    assert!(rt;
-        is_refused(
-            patrolled(alloc, Some(6), 1, 1, &["a", "b"], pays),
-            11,
-            Place::Attacker(1)
-        )
-    );
-    assert!(rt;
-        is_refused(
-            listed(alloc, None, &["a", "b"], &[("s", &[])], &[], pays),
-            6,
-            Place::Schedule(1)
-        )
-    );
-    assert!(rt;
-        is_refused(
-            listed(
-                alloc,
-                None,
-                &["a", "b"],
-                &[("s", &[1]), ("t", &[2, 3, 2])],
-                &[],
-                pays
-            ),
-            7,
-            Place::Schedule(2)
-        )
-    );
-    assert!(rt;
-        is_refused(
-            listed(alloc, None, &["a", "b"], &[("s", &[2, 2, 3])], &[], pays),
-            8,
-            Place::Schedule(1)
-        )
-    );
-    assert!(rt;
-        is_refused(
-            listed(
-                alloc,
-                None,
-                &["a", "b"],
-                &[("s", &[1])],
-                &[("r", &[1]), ("r", &[])],
-                pays
-            ),
-            8,
-            Place::Resource(2)
-        )
-    );
-    assert!(rt;
-        is_refused(
-            matrix(alloc, &["A"], &["x", "x"], &[&[1]], &[&[1]]),
-            8,
-            Place::Attacker(1)
-        )
-    );
-    assert!(rt;
-        is_refused(
-            matrix(alloc, &["A"], &["x"], &[&[1_073_741_825]], &[&[1]]),
-            9,
-            Place::Attacker(1)
-        )
-    );
+fn refuses_lists(rt: HostRuntime) {
+    let pays_of: &[&[i64]] = &[&[2, -2, 0, 4], &[1, -1, 0, 2]];
+    let none: &[(&str, &[u32])] = &[];
+    let one: &[(&str, &[u32])] = &[("s", &[1])];
+    let empty: &[(&str, &[u32])] = &[("s", &[])];
+    let unknown: &[(&str, &[u32])] = &[("s", &[1]), ("t", &[2, 3, 2])];
+    let repeated: &[(&str, &[u32])] = &[("s", &[2, 2, 3])];
+    let twice: &[(&str, &[u32])] = &[("r", &[1]), ("r", &[])];
+    for (schedules, resources, reason, place) in [
+        (empty, none, 6, Place::Schedule(1)),
+        (unknown, none, 7, Place::Schedule(2)),
+        (repeated, none, 8, Place::Schedule(1)),
+        (one, twice, 8, Place::Resource(2)),
+    ] {
+        let game = listed(rt.alloc(), &["a", "b"], schedules, resources, pays_of);
+        assert!(rt; is_refused(game, reason, place), "{reason}");
+    }
 }
