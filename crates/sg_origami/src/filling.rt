@@ -7,6 +7,7 @@ ghost use Rattle.sg_origami.specs.Rates.{IsFillable};
 use crate::count::coverage_of;
 use crate::floor::level_of;
 use crate::level::Height;
+use crate::rate::rates_of;
 use sg_game::Game;
 use sg_model::Level;
 use sg_num::Frac;
@@ -46,7 +47,8 @@ fn filling_of(alloc: Global, game: &Game) -> Result<Filling, AllocError>
     ensures { IfOk result (IsFilling game.now) }
 {
     let patrols = game.resources();
-    let found = level_of(game, patrols);
+    let rates = rates_of(alloc, game)?;
+    let found = level_of(game, rates.as_slice(), patrols);
     let level = lowest_terms(&found.level);
     let height = Height {
         num: level.num(),
