@@ -1,3 +1,11 @@
 pub mod Promises
 pub mod Patrols
 pub mod Plays
+pub mod Fresh
+pub mod Steps
+pub mod Entered
+pub mod Listed
+pub mod Fielded
+pub mod Told
+pub mod Sound
+pub mod Drawn

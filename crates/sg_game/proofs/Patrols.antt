@@ -1,10 +1,10 @@
 -- The lists and names of a game of identical patrols.
-use Rattle.std.proofs.Common.{◌≡◌, ◌≤◌, ◌<◌, ◌-◌, ◌+◌, ℕ, zero, suc, length, List, [], ◌∷◌, Some, ◌∙◌, ap, arith, refl, take, drop, get_or}
+use Rattle.std.proofs.Common.{◌++◌, map, ◌≡◌, ◌≤◌, ◌<◌, ◌-◌, ◌+◌, ℕ, zero, suc, length, List, [], ◌∷◌, Some, ◌∙◌, ap, arith, refl, take, drop, get_or}
 use Rattle.std.specs.List.{All}
-use Rattle.std.proofs.lemmas.List.{length-map}
+use Rattle.std.proofs.lemmas.List.{length-map, map_push}
 use Rattle.std.proofs.lemmas.List.Elements.{All-cons, All-nil, All-same}
 use Rattle.sg_model.specs.Games.{Game, schedule_targets, schedule_count}
-use Rattle.sg_model.specs.Sums.{numbers}
+use Rattle.sg_model.specs.Sums.{numbers, numbers_from}
 use Rattle.sg_model.proofs.Numbers.{All-numbers, length-numbers_from, nth-numbers_from}
 use Rattle.sg_game.specs.Counts.{IsGoalOf, IsScheduleOf, patrol_name, patrol_names}
 
@@ -43,3 +43,16 @@ goals-patrols g n e s h =
 
 pub length-patrol_names : (n : ℕ) → length (patrol_names (Some n)) ≡ n
 length-patrol_names n = length-map (numbers n) patrol_name ∙ length-numbers_from 1 n
+
+numbers_from-more : (a k : ℕ) → numbers_from a (k + 1) ≡ numbers_from a k ++ (a + k) ∷ []
+numbers_from-more a zero = let e : a + 0 ≡ a = omega arith in rw e refl
+numbers_from-more a (suc k) =
+    let e : suc k + 1 ≡ suc (k + 1) = omega arith in
+    let f : (a + 1) + k ≡ a + suc k = omega arith in
+    rw e (ap (λ (xs : List ℕ). a ∷ xs) (rw (← f) (numbers_from-more (a + 1) k)))
+
+pub numbers-more : (k : ℕ) → numbers (k + 1) ≡ numbers k ++ (k + 1) ∷ []
+numbers-more k = let e : k + 1 ≡ 1 + k = omega arith in numbers_from-more 1 k ∙ rw e refl
+
+pub names-more : (k : ℕ) → map patrol_name (numbers (k + 1)) ≡ map patrol_name (numbers k) ++ patrol_name (k + 1) ∷ []
+names-more k = ap (map patrol_name) (numbers-more k) ∙ map_push patrol_name (numbers k) (k + 1)

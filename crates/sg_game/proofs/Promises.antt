@@ -26,6 +26,22 @@ form_of P Matrix s p goals schedules resources types h security matrix = matrix 
 pub by_form : (g : Game) (P : Type 0) → IsGame g → (g.kind ≡ Security → IsSecurityGame g → P) → (g.kind ≡ Matrix → IsMatrixGame g → P) → P
 by_form g P h security matrix = form_of P g.kind g.scale g.patrols g.goals g.schedules g.resources g.types h security matrix
 
+security_made : (k : Kind) (s : ℤ) (p : Option ℕ) (goals : List (List ℕ)) (schedules resources : List Named) (types : List Attacker)
+    → k ≡ Security → IsSecurityGame (made k s p goals schedules resources types) → IsGame (made k s p goals schedules resources types)
+security_made Security s p goals schedules resources types e h = h
+security_made Matrix s p goals schedules resources types e h = absurd (cc)
+
+matrix_made : (k : Kind) (s : ℤ) (p : Option ℕ) (goals : List (List ℕ)) (schedules resources : List Named) (types : List Attacker)
+    → k ≡ Matrix → IsMatrixGame (made k s p goals schedules resources types) → IsGame (made k s p goals schedules resources types)
+matrix_made Security s p goals schedules resources types e h = absurd (cc)
+matrix_made Matrix s p goals schedules resources types e h = h
+
+pub security_game : (g : Game) → g.kind ≡ Security → IsSecurityGame g → IsGame g
+security_game g e h = security_made g.kind g.scale g.patrols g.goals g.schedules g.resources g.types e h
+
+pub matrix_game : (g : Game) → g.kind ≡ Matrix → IsMatrixGame g → IsGame g
+matrix_game g e h = matrix_made g.kind g.scale g.patrols g.goals g.schedules g.resources g.types e h
+
 defended_by : (k : Kind) (s : ℤ) (p : Option ℕ) (goals : List (List ℕ)) (schedules resources : List Named) (types : List Attacker)
     → let g : Game = made k s p goals schedules resources types in IsDefended g p → (n : ℕ) → p ≡ Some n → ArePatrols g n
 defended_by k s None goals schedules resources types h n e = absurd (cc)

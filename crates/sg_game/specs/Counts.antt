@@ -1,7 +1,9 @@
 -- What a game has of each kind, by number, and how each is named.
-use Rattle.std.specs.Prelude.{ℕ, ◌≤◌, ◌++◌, Bool, if◌then◌else◌, List, [], ◌∷◌, map, length, ℤ, pos, Option, Some, None, codes, decimal}
+use Rattle.std.specs.Prelude.{ℕ, ◌+◌, ◌*◌, ◌-◌, sum_by, ◌≤◌, ◌++◌, Bool, if◌then◌else◌, List, [], ◌∷◌, map, length, ℤ, pos, Option, Some, None, codes, decimal}
 use Rattle.sg_model.specs.Sums.{nth, numbers}
-use Rattle.sg_model.specs.Games.{Game, Payoff, attacker, unnamed, action_count, is_matrix, resource_count, schedule_count}
+use Rattle.sg_model.specs.declared.kind.Kind.{Kind}
+use Rattle.sg_model.specs.declared.kind.Kind.TheVariants.{Security, Matrix}
+use Rattle.sg_model.specs.Games.{Game, Attacker, Payoff, attacker, unnamed, action_count, is_matrix, resource_count, schedule_count}
 
 -- how many targets there are: none in matrix form
 abbrev pub target_count : Game → ℕ
@@ -71,3 +73,8 @@ leader_pay g l i a = nth (nth (attacker g l).leader i []) a (pos 0)
 -- what type l gets from action a where row i is played
 abbrev pub follower_pay : Game → ℕ → ℕ → ℕ → ℤ
 follower_pay g l i a = nth (nth (attacker g l).follower i []) a (pos 0)
+
+-- the rows of the largest linear program, from what it depends on
+abbrev pub rows_by : Kind → ℕ → ℕ → List Attacker → ℕ
+rows_by Security resources goals types = 1 + resources + 2 * goals + length types * (goals - 1)
+rows_by Matrix resources goals types = 1 + sum_by (λ (x : Attacker). length x.actions - 1) types

@@ -1,0 +1,27 @@
+-- First faults of two tests, one after the other.
+use Rattle.std.proofs.Common.{◌≡◌, ℕ, ◌≤◌, Bool, true, false, not, ◌&&◌, leb, ℤ, ◌≤ℤ◌, Option, Some, None, refl}
+use Rattle.std.specs.Prelude.{int_le}
+use Rattle.std.proofs.lemmas.Int.{ints}
+use Rattle.sg_model.specs.declared.fault.GameFault.{GameFault}
+use Rattle.sg_model.specs.declared.fault.Place.{Place}
+use Rattle.sg_game.specs.Faults.{◌orelse◌, unless}
+
+pub neither : (a b : Option GameFault) → (a orelse b) ≡ None → (a ≡ None) × (b ≡ None)
+neither None b h = (refl, h)
+neither (Some f) b h = absurd (cc)
+
+pub both : (a b : Option GameFault) → a ≡ None → b ≡ None → (a orelse b) ≡ None
+both None b h i = i
+both (Some f) b h i = absurd (cc)
+
+pub holds : (test : Bool) (reason : ℕ) (place : Place) → unless test reason place ≡ None → test ≡ true
+holds true reason place h = refl
+holds false reason place h = absurd (cc)
+
+pub fine : (test : Bool) (reason : ℕ) (place : Place) → test ≡ true → unless test reason place ≡ None
+fine true reason place h = refl
+fine false reason place h = absurd (cc)
+
+pub and_both : (a b : Bool) → (a && b) ≡ true → (a ≡ true) × (b ≡ true)
+and_both true b h = (refl, h)
+and_both false b h = absurd (cc)

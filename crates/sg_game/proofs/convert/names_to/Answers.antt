@@ -1,0 +1,8 @@
+use Rattle.std.proofs.Common.{◌++◌, ◌∷◌, [], List, ℕ, ◌+◌, ◌∙◌, sym, ap}
+use Rattle.sg_game.specs.Counts.{patrol_name}
+use Rattle.sg_game.proofs.Patrols.{names-more}
+use Rattle.sg_game.proofs.convert.names_to.Goals as goal
+
+pub loop-k-preserved : goal.loop-k-preserved
+loop-k-preserved c =
+    c.in_ok-push.ensures.ok ∙ (rw (c.in_ok-patrol_name_from.ensures, c.loop-k.invariant) (sym (names-more c.loop-k.k)))

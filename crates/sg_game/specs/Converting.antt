@@ -1,0 +1,16 @@
+-- Which parts can lie in a game.
+use Rattle.std.specs.Prelude.{◌≡◌, ℕ, ◌^◌, ◌<◌, List, length, ℤ, All, Option, Some, None, Vec}
+use Rattle.std.specs.declared.alloc.Global.{Global}
+
+-- each list has four numbers
+abbrev pub AreFours : List (Vec ℤ Global) → Type 0
+AreFours lists = All (λ (row : Vec ℤ Global). length row.items ≡ 4) lists
+
+-- each number fits 16 bits
+abbrev pub FitAll : List ℕ → Type 0
+FitAll members = All (λ m. m < 2 ^ 16) members
+
+-- there is no number, or it is below the limit
+abbrev pub IsBelow : ℕ → Option ℕ → Type 0
+IsBelow limit None = Unit {0}
+IsBelow limit (Some n) = n < limit

@@ -1,0 +1,41 @@
+-- A game before it is tested as a whole.
+use Rattle.std.specs.Prelude.{◌≡◌, ℕ, ◌+◌, ◌*◌, ◌-◌, ◌≤◌, List, length, sum_by, ℤ, pos, ◌≤ℤ◌, All, Option, Some, None}
+use Rattle.sg_model.specs.declared.kind.Kind.{Kind}
+use Rattle.sg_model.specs.declared.kind.Kind.TheVariants.{Security, Matrix}
+use Rattle.sg_model.specs.Games.{Game, Attacker}
+use Rattle.sg_model.specs.Limits.{IsCount, IsPayoff, IsWithin}
+use Rattle.sg_game.specs.declared.parts.Parts.{Parts}
+use Rattle.sg_game.specs.declared.parts.ListParts.{ListParts}
+use Rattle.sg_game.specs.declared.parts.TypeParts.{TypeParts}
+use Rattle.sg_game.specs.declared.draft.Draft.{Draft}
+use Rattle.sg_game.specs.Converting.{AreFours, FitAll}
+
+-- the game of a draft
+abbrev pub drawn : Draft → Game
+drawn d = record { kind = d.kind; scale = d.scale; patrols = d.patrols; goals = d.goals; schedules = d.schedules; resources = d.resources; types = d.types }
+
+-- there is no number, or it is from 0 to 200
+abbrev pub IsFew : Option ℤ → Type 0
+IsFew None = Unit {0}
+IsFew (Some z) = IsWithin (pos 0) (pos 200) z
+
+-- parts that a draft can hold
+pub record FitsDraft (p : Parts) : Type 0 where
+  pub patrols : IsFew p.patrols
+  pub schedules : All (λ (x : ListParts). FitAll x.members.items) p.schedules.items
+  pub resources : All (λ (x : ListParts). FitAll x.members.items) p.resources.items
+  pub types : All (λ (x : TypeParts). AreFours x.payoffs.items) p.types.items
+
+-- there is no number, or it is at most 200
+abbrev pub IsFewPatrols : Option ℕ → Type 0
+IsFewPatrols None = Unit {0}
+IsFewPatrols (Some n) = n ≤ 200
+
+-- so few of each that the rows of a linear program can be counted
+pub record IsSmall (g : Game) : Type 0 where
+  pub goals : length g.goals ≤ 10000
+  pub resources : length g.resources ≤ 32
+  pub patrols : IsFewPatrols g.patrols
+  pub types : length g.types ≤ 8
+  pub actions : All (λ (x : Attacker). length x.actions ≤ 64) g.types
+  pub payoffs : All (λ (x : Attacker). All IsPayoff x.payoffs) g.types

@@ -1,0 +1,171 @@
+-- The first rule that the parts of a game break.
+use Rattle.std.specs.Prelude.{ℕ, ◌+◌, ◌*◌, ◌-◌, ◌^◌, Bool, true, false, ◌&&◌, ◌||◌, ◌==◌, nat_le, not, if◌then◌else◌, List, [], ◌∷◌, ◌++◌, length, ℤ, pos, ◌-ℤ◌, int_le, int_lt, int_rem, Option, Some, None, is_some, is_none, String, string_bytes, bytes_eq, nat_eq, Vec}
+use Rattle.std.specs.List.{list_all, list_any}
+use Rattle.std.specs.Ordering.{int_eq}
+use Rattle.std.specs.declared.alloc.Global.{Global}
+use Rattle.sg_model.specs.declared.kind.Kind.{Kind}
+use Rattle.sg_model.specs.declared.kind.Kind.TheVariants.{Security, Matrix}
+use Rattle.sg_model.specs.declared.fault.GameFault.{GameFault}
+use Rattle.sg_model.specs.declared.fault.Place.{Place}
+use Rattle.sg_model.specs.declared.fault.Place.TheVariants.{Document, Target, Row, Schedule, Resource, Attacker}
+use Rattle.sg_model.specs.Games.{Game, Payoff}
+use Rattle.sg_model.specs.Games as model
+use Rattle.sg_model.specs.Limits.{program_rows}
+use Rattle.sg_model.specs.Names.{is_name}
+use Rattle.sg_model.specs.Origami.{gap}
+use Rattle.sg_game.specs.declared.parts.Parts.{Parts}
+use Rattle.sg_game.specs.declared.parts.ListParts.{ListParts}
+use Rattle.sg_game.specs.declared.parts.TypeParts.{TypeParts}
+use Rattle.sg_game.specs.Seen.{game_of, rows}
+
+-- the first of two faults
+infixl 10 ◌orelse◌
+abbrev pub ◌orelse◌ : Option GameFault → Option GameFault → Option GameFault
+(Some fault) orelse later = Some fault
+None orelse later = later
+
+-- nothing where the test passes, or this fault
+abbrev pub unless : Bool → ℕ → Place → Option GameFault
+unless true reason place = None
+unless false reason place = Some (record { reason = reason; place = place })
+
+-- from low to high
+abbrev pub is_within : ℤ → ℤ → ℤ → Bool
+is_within low high z = int_le low z && int_le z high
+
+-- a name that is spelled wrong, or that stands before
+abbrev pub name_fault : List (List ℕ) → Place → List ℕ → Option GameFault
+name_fault before place name = unless (is_name name) 9 place orelse unless (not (list_any (λ known. bytes_eq known name) before)) 8 place
+
+-- the first fault of entries in order, after those of the names before: of an entry's name, and then of the rest of it
+abbrev pub entries_fault : {X : Type 0} → (X → List ℕ) → (Place → X → Option GameFault) → (ℕ → Place) → List (List ℕ) → List X → Option GameFault
+entries_fault name rest place before [] = None
+entries_fault name rest place before (x ∷ xs) =
+    (name_fault before (place (length before + 1)) (name x) orelse rest (place (length before + 1)) x)
+    orelse entries_fault name rest place (before ++ name x ∷ []) xs
+
+-- the first fault of names
+abbrev pub names_fault : (ℕ → Place) → List (String Global) → Option GameFault
+names_fault place names = entries_fault string_bytes (λ here name. None) place [] names
+
+-- a member that isn't from 1 to count, or that stands before
+abbrev pub member_fault : ℕ → Place → List ℕ → ℕ → Option GameFault
+member_fault count place before m = unless (nat_le 1 m && nat_le m count) 7 place orelse unless (not (list_any (λ known. nat_eq known m) before)) 8 place
+
+-- the first fault of members in order, after those before
+abbrev pub each_member_fault : ℕ → Place → List ℕ → List ℕ → Option GameFault
+each_member_fault count place before [] = None
+each_member_fault count place before (m ∷ ms) = member_fault count place before m orelse each_member_fault count place (before ++ m ∷ []) ms
+
+-- the first fault of the members of a schedule or a resource: none of them, too many, or one of them
+abbrev pub members_fault : ℕ → ℕ → Place → ListParts → Option GameFault
+members_fault count limit place x =
+    unless (nat_le 1 (length x.members.items)) 6 place
+    orelse unless (nat_le (length x.members.items) limit) 10 place
+    orelse each_member_fault count place [] x.members.items
+
+-- the first fault of schedules or resources
+unfoldable pub lists_fault : ℕ → ℕ → ℕ → (ℕ → Place) → List ListParts → Option GameFault
+lists_fault count limit members_limit place lists =
+    unless (nat_le (length lists) limit) 10 Document
+    orelse entries_fault (λ (x : ListParts). string_bytes x.name) (members_fault count members_limit) place [] lists
+
+-- a payoff is from -2^30 to 2^30
+abbrev pub is_pay : ℤ → Bool
+is_pay z = is_within (pos 0 -ℤ pos (2 ^ 30)) (pos (2 ^ 30)) z
+
+-- a list for each of m rows, each with n payoffs
+abbrev pub is_table : ℕ → ℕ → List (Vec ℤ Global) → Bool
+is_table m n table = nat_eq (length table) m && list_all (λ (row : Vec ℤ Global). nat_eq (length row.items) n && list_all is_pay row.items) table
+
+-- the first fault of a type's actions and tables against so many rows
+unfoldable pub tables_fault : ℕ → Place → TypeParts → Option GameFault
+tables_fault goals place x =
+    unless (nat_le 1 (length x.actions.items)) 6 place
+    orelse unless (nat_le (length x.actions.items) 64) 10 place
+    orelse names_fault (λ n. place) x.actions.items
+    orelse unless (is_table goals (length x.actions.items) x.leader.items) 9 place
+    orelse unless (is_table goals (length x.actions.items) x.follower.items) 9 place
+
+-- the first fault of what a type gets: four payoffs for each target, or its actions and tables
+abbrev pub pays_fault : Kind → ℕ → Place → TypeParts → Option GameFault
+pays_fault Security goals place x = unless (is_table goals 4 x.payoffs.items) 9 place
+pays_fault Matrix goals place x = tables_fault goals place x
+
+-- the first fault of a type but for its name
+abbrev pub type_fault : Kind → ℤ → ℕ → Place → TypeParts → Option GameFault
+type_fault kind prior_limit goals place x = unless (is_within (pos 1) prior_limit x.prior) 9 place orelse pays_fault kind goals place x
+
+-- where target or row n stands
+abbrev pub goal_place : Kind → ℕ → Place
+goal_place Security n = Target n
+goal_place Matrix n = Row n
+
+-- how many targets or rows there may be
+abbrev pub goal_limit : Kind → Bool → ℕ
+goal_limit Security is_scaled = if is_scaled then 10000 else 200
+goal_limit Matrix is_scaled = 4096
+
+-- the first fault of the targets or rows: none of them, too many, or a name
+unfoldable pub goals_fault : Parts → Option GameFault
+goals_fault p =
+    unless (nat_le 1 (length p.goals.items)) 6 Document
+    orelse unless (nat_le (length p.goals.items) (goal_limit p.kind (is_some p.scale))) 10 Document
+    orelse names_fault (goal_place p.kind) p.goals.items
+
+-- how great a prior may be
+abbrev pub prior_limit : Bool → ℤ
+prior_limit is_scaled = if is_scaled then pos 1 else pos (2 ^ 20)
+
+-- how many types there may be
+abbrev pub type_limit : Bool → ℕ
+type_limit is_scaled = if is_scaled then 1 else 8
+
+-- how many patrols there may be
+abbrev pub patrol_limit : Bool → ℤ
+patrol_limit is_scaled = if is_scaled then pos 200 else pos 32
+
+-- a number out of range, where there is one
+abbrev pub option_fault : ℤ → ℤ → Option ℤ → Option GameFault
+option_fault low high None = None
+option_fault low high (Some z) = unless (is_within low high z) 9 Document
+
+-- the first fault of the scale and the patrols
+unfoldable pub numbers_fault : Parts → Option GameFault
+numbers_fault p =
+    option_fault (pos 1) (pos (2 ^ 32)) p.scale
+    orelse option_fault (pos 0) (patrol_limit (is_some p.scale)) p.patrols
+
+-- the first fault of the types: none of them, too many, or one of them
+unfoldable pub types_fault : Parts → Option GameFault
+types_fault p =
+    unless (nat_le 1 (length p.types.items)) 6 Document
+    orelse unless (nat_le (length p.types.items) (type_limit (is_some p.scale))) 10 Document
+    orelse entries_fault (λ (x : TypeParts). string_bytes x.name) (type_fault p.kind (prior_limit (is_some p.scale)) (length p.goals.items)) Attacker [] p.types.items
+
+-- covering helps the defender and hurts the attacker, and the attacker's gap divides the scale
+abbrev pub is_scaled_payoff : ℤ → Payoff → Bool
+is_scaled_payoff scale p = (int_lt p.du p.dc && int_lt p.ac p.au) && int_eq (int_rem scale (gap p)) (pos 0)
+
+-- whether each payoff of each type fits the scale
+abbrev pub is_scaled_game : Game → Bool
+is_scaled_game g = list_all (λ (x : model.Attacker). list_all (is_scaled_payoff g.scale) x.payoffs) g.types
+
+-- the first fault of the game as a whole: with a scale a payoff that doesn't fit it, else too large a linear program
+abbrev pub whole_fault : Bool → Game → Option GameFault
+whole_fault true g = unless (is_scaled_game g) 11 (Attacker 1)
+whole_fault false g = unless (nat_le (program_rows g) 1536) 10 Document
+
+-- the first fault of the fields, one after the other
+unfoldable pub fields_fault : Parts → Option GameFault
+fields_fault p =
+    unless (is_none p.scale || is_some p.patrols) 3 Document
+    orelse goals_fault p
+    orelse numbers_fault p
+    orelse lists_fault (length p.goals.items) 500 200 Schedule p.schedules.items
+    orelse lists_fault (length p.schedules.items) 32 500 Resource p.resources.items
+    orelse types_fault p
+
+-- the first rule that the parts break, in the order of a game file
+unfoldable pub fault_of : Parts → Option GameFault
+fault_of p = fields_fault p orelse whole_fault (is_some p.scale) (game_of p)

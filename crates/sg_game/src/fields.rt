@@ -1,0 +1,242 @@
+//! The tests of the fields of parts, one after the other.
+
+ghost use Rattle.std.specs.Prelude.{◌≡◌, ◌≤◌, ◌++◌, ◌∷◌, ◌&&◌, [], List, ℕ, OnOk, is_some, length, nat_eq, string_bytes};
+ghost use Rattle.std.specs.List.{list_all};
+ghost use Rattle.sg_model.specs.declared.fault.Place.TheVariants.{Attacker};
+ghost use Rattle.sg_game.specs.Building.{Finds, HasOwnFields, Tells};
+ghost use Rattle.sg_game.specs.Entries.{Holds, place_of};
+ghost use Rattle.sg_game.specs.Faults.{entries_fault, names_fault, fields_fault, goal_limit, goal_place, goals_fault, is_pay, is_table, name_fault, numbers_fault, option_fault, patrol_limit, pays_fault, prior_limit, tables_fault, type_fault, type_limit, types_fault, ◌orelse◌};
+
+use crate::entries::{is_within, passed, take_name, test_lists, test_names, Listing};
+use crate::fault::BuildFault;
+use crate::parts::{Parts, TypeParts};
+use sg_model::{GameFault, Kind, Place};
+use std::alloc::Global;
+use std::collections::BTreeSet;
+
+/// Whether the number is a payoff.
+fn is_pay(z: i64) -> bool
+    ensures { result ≡ is_pay z }
+{
+    is_within(-1_073_741_824, 1_073_741_824, z)
+}
+
+/// Whether each number is a payoff.
+fn are_pays(row: &[i64]) -> bool
+    ensures { result ≡ list_all is_pay row.now }
+{
+    row.iter().all(|z| is_pay(*z))
+}
+
+/// Whether the list has `n` payoffs.
+fn is_pay_row(n: usize, row: &Vec<i64>) -> bool
+    ensures { result ≡ (nat_eq (length row.now.items) n && list_all is_pay row.now.items) }
+{
+    row.len() == n && are_pays(row.as_slice())
+}
+
+/// Whether each list has `n` payoffs.
+fn are_pay_rows(n: usize, table: &[Vec<i64>]) -> bool
+    ensures { result ≡ list_all (λ row. nat_eq (length row.items) n && list_all is_pay row.items) table.now }
+{
+    table.iter().all(|row| is_pay_row(n, row))
+}
+
+/// Whether there is a list for each of `m` rows, each with `n` payoffs.
+fn is_table(m: usize, n: usize, table: &[Vec<i64>]) -> bool
+    ensures { result ≡ is_table m n table.now }
+{
+    table.len() == m && are_pay_rows(n, table)
+}
+
+/// Tests the actions and tables of type `l`.
+#[tactic(auto, unfolding(crate::specs::Faults::tables_fault))]
+fn test_tables(alloc: Global, goals: usize, l: u32, x: &TypeParts) -> Result<(), BuildFault>
+    ensures { Finds result (tables_fault goals (Attacker l) x.now) }
+{
+    let place = Place::Attacker(l);
+    let actions = x.actions.len();
+    passed(1 <= actions, 6, place)?;
+    passed(actions <= 64, 10, place)?;
+    test_names(alloc, Listing::Actions(l), x.actions.as_slice())?;
+    passed(is_table(goals, actions, x.leader.as_slice()), 9, place)?;
+    passed(is_table(goals, actions, x.follower.as_slice()), 9, place)?;
+    Ok(())
+}
+
+/// Tests what type `l` gets.
+fn test_pays(
+    alloc: Global,
+    kind: Kind,
+    goals: usize,
+    l: u32,
+    x: &TypeParts,
+) -> Result<(), BuildFault>
+    ensures { Finds result (pays_fault kind goals (Attacker l) x.now) }
+{
+    match kind {
+        Kind::Security => {
+            passed(is_table(goals, 4, x.payoffs.as_slice()), 9, Place::Attacker(l))?;
+            Ok(())
+        }
+        Kind::Matrix => test_tables(alloc, goals, l, x),
+    }
+}
+
+/// Tests type `l` but for its name.
+fn test_type(
+    alloc: Global,
+    kind: Kind,
+    prior_limit: i64,
+    goals: usize,
+    l: u32,
+    x: &TypeParts,
+) -> Result<(), BuildFault>
+    ensures { Finds result (type_fault kind prior_limit goals (Attacker l) x.now) }
+{
+    passed(is_within(1, prior_limit, x.prior), 9, Place::Attacker(l))?;
+    test_pays(alloc, kind, goals, l, x)
+}
+
+/// Tests types in order.
+fn test_each_type(
+    alloc: Global,
+    kind: Kind,
+    prior_limit: i64,
+    goals: usize,
+    types: &[TypeParts],
+) -> Result<(), BuildFault>
+    requires { length types.now ≤ 8 }
+    ensures { Finds result (entries_fault (λ x. string_bytes x.name) (type_fault kind prior_limit goals) Attacker [] types.now) }
+{
+    let mut seen: BTreeSet<String> = BTreeSet::new(alloc);
+    for (i, x) in types.iter().enumerate() {
+        take_type(alloc, &mut seen, kind, prior_limit, goals, i as u32 + 1, x)?;
+    }
+    Ok(())
+}
+
+/// Tests type `l`, and adds its name to the names seen.
+fn take_type(
+    alloc: Global,
+    seen: &mut BTreeSet<String>,
+    kind: Kind,
+    prior_limit: i64,
+    goals: usize,
+    l: u32,
+    x: &TypeParts,
+) -> Result<(), BuildFault>
+    ensures finds { (before : List (List ℕ)) → Holds seen.old before → Finds result (name_fault before (Attacker l) (string_bytes x.now.name) orelse type_fault kind prior_limit goals (Attacker l) x.now) }
+    ensures holds { (before : List (List ℕ)) → Holds seen.old before → OnOk result (Holds seen.new (before ++ string_bytes x.now.name ∷ [])) }
+{
+    take_name(alloc, seen, Place::Attacker(l), x.name.as_str())?;
+    test_type(alloc, kind, prior_limit, goals, l, x)?;
+    Ok(())
+}
+
+/// How great a prior may be.
+fn prior_limit(is_scaled: bool) -> i64
+    ensures { result ≡ prior_limit is_scaled }
+{
+    if is_scaled { 1 } else { 1_048_576 }
+}
+
+/// How many types there may be.
+fn type_limit(is_scaled: bool) -> usize
+    ensures { result ≡ type_limit is_scaled }
+{
+    if is_scaled { 1 } else { 8 }
+}
+
+/// How many patrols there may be.
+fn patrol_limit(is_scaled: bool) -> i64
+    ensures { result ≡ patrol_limit is_scaled }
+{
+    if is_scaled { 200 } else { 32 }
+}
+
+/// How many targets or rows there may be.
+fn goal_limit(kind: Kind, is_scaled: bool) -> usize
+    ensures limit { result ≡ goal_limit kind is_scaled }
+    ensures few { result ≤ 10000 }
+{
+    match kind {
+        Kind::Security => {
+            if is_scaled {
+                10000
+            } else {
+                200
+            }
+        }
+        Kind::Matrix => 4096,
+    }
+}
+
+/// Tests the names of the targets or rows.
+fn test_goal_names(alloc: Global, kind: Kind, goals: &[String]) -> Result<(), BuildFault>
+    requires { length goals.now ≤ 10000 }
+    ensures { Finds result (names_fault (goal_place kind) goals.now) }
+{
+    match kind {
+        Kind::Security => test_names(alloc, Listing::Targets, goals),
+        Kind::Matrix => test_names(alloc, Listing::Rows, goals),
+    }
+}
+
+/// Tests the targets or rows.
+#[tactic(auto, unfolding(crate::specs::Faults::goals_fault))]
+fn test_goals(alloc: Global, is_scaled: bool, parts: &Parts) -> Result<(), BuildFault>
+    requires { is_scaled ≡ is_some parts.now.scale }
+    ensures { Finds result (goals_fault parts.now) }
+{
+    let goals = parts.goals.as_slice();
+    passed(1 <= goals.len(), 6, Place::Document)?;
+    passed(goals.len() <= goal_limit(parts.kind, is_scaled), 10, Place::Document)?;
+    test_goal_names(alloc, parts.kind, goals)
+}
+
+/// Tests a number, where there is one.
+fn test_option(low: i64, high: i64, number: Option<i64>) -> Result<(), GameFault>
+    ensures { Tells result (option_fault low high number) }
+{
+    match number {
+        Some(z) => passed(is_within(low, high, z), 9, Place::Document),
+        None => Ok(()),
+    }
+}
+
+/// Tests the scale and the patrols.
+#[tactic(auto, unfolding(crate::specs::Faults::numbers_fault))]
+fn test_numbers(is_scaled: bool, parts: &Parts) -> Result<(), GameFault>
+    requires { is_scaled ≡ is_some parts.now.scale }
+    ensures { Tells result (numbers_fault parts.now) }
+{
+    test_option(1, 4_294_967_296, parts.scale)?;
+    test_option(0, patrol_limit(is_scaled), parts.patrols)
+}
+
+/// Tests the types.
+#[tactic(auto, unfolding(crate::specs::Faults::types_fault))]
+fn test_types(alloc: Global, is_scaled: bool, parts: &Parts) -> Result<(), BuildFault>
+    requires { is_scaled ≡ is_some parts.now.scale }
+    ensures { Finds result (types_fault parts.now) }
+{
+    let types = parts.types.as_slice();
+    passed(1 <= types.len(), 6, Place::Document)?;
+    passed(types.len() <= type_limit(is_scaled), 10, Place::Document)?;
+    test_each_type(alloc, parts.kind, prior_limit(is_scaled), parts.goals.len(), types)
+}
+
+/// Tests the fields, one after the other.
+#[tactic(auto, unfolding(crate::specs::Faults::fields_fault))]
+pub(crate) fn test_fields(alloc: Global, parts: &Parts) -> Result<(), BuildFault>
+    ensures { Finds result (fields_fault parts.now) }
+{
+    let is_scaled = parts.scale.is_some();
+    passed(!is_scaled || parts.patrols.is_some(), 3, Place::Document)?;
+    test_goals(alloc, is_scaled, parts)?;
+    test_numbers(is_scaled, parts)?;
+    test_lists(alloc, Listing::Schedules, parts.goals.len(), 500, 200, parts.schedules.as_slice())?;
+    test_lists(alloc, Listing::Resources, parts.schedules.len(), 32, 500, parts.resources.as_slice())?;
+    test_types(alloc, is_scaled, parts)
+}
