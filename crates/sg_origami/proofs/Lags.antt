@@ -59,7 +59,7 @@ lags_done rates h have multiples weights more room l a kept =
     let num_is : (weights -ℤ have) ≡ next_num m u have ys = ap (λ (z : ℤ). z -ℤ have) l.weights_is in
     let next = still_short m u rates have l.num l.den (heavy rates h) room l.short in
     let more_is : more ≡ total m (filter (is_above (next_num m u have ys) (slopes m u ys)) rates) =
-        a ∙ (ap (λ (z : ℤ). total m (filter (is_above z multiples) rates)) num_is ∙ ap (λ (z : ℤ). total m (filter (is_above (next_num m u have ys) z) rates)) l.multiples_is) in
+    a ∙ (ap (λ (z : ℤ). total m (filter (is_above z multiples) rates)) num_is ∙ ap (λ (z : ℤ). total m (filter (is_above (next_num m u have ys) z) rates)) l.multiples_is) in
     let enough = just_enough m u rates have l.num l.den (heavy rates h) l.short (omega (arith, ints, kept, more_is, l.multiples_is)) in
     subst (λ (z : ℤ). IsSpent rates have z multiples) (sym num_is)
     (subst (λ (z : ℤ). IsSpent rates have (next_num m u have ys) z) (sym l.multiples_is)

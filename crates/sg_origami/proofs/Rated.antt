@@ -63,7 +63,7 @@ spends_rates g patrols rates e have num den is spent =
     let ys : List ℕ = at_level g num den in
     let same : filter (is_above num den) rates ≡ map (rate_at g) ys = ap (λ (zs : List Rate). filter (is_above num den) zs) e ∙ filter-map (is_above num den) (rate_at g) xs in
     let whole : have *ℤ den ≡ (pos patrols *ℤ den) *ℤ g.scale =
-        ap (λ (z : ℤ). z *ℤ den) is ∙ same_by (times (times (n patrols) (v g.scale)) (v den)) (times (times (n patrols) (v den)) (v g.scale)) (omega arith) in
+    ap (λ (z : ℤ). z *ℤ den) is ∙ same_by (times (times (n patrols) (v g.scale)) (v den)) (times (times (n patrols) (v den)) (v g.scale)) (omega arith) in
     record {
       some = λ none. spent.some (same ∙ ap (λ (zs : List ℕ). map (rate_at g) zs) none);
       sum = sym (ap (total (need_of num den)) same ∙ total-map (need_of num den) (rate_at g) ys) ∙ (spent.spends ∙ whole);

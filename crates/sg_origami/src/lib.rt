@@ -9,5 +9,7 @@ mod filling;
 mod floor;
 mod level;
 mod rate;
+#[cfg(test)]
+mod tests;
 
 pub use filling::{Filling, water};

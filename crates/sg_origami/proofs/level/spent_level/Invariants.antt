@@ -9,7 +9,7 @@ invariant-rise l = record {
   low : pos 0 ≤ℤ l.sums.multiples;
   high : l.sums.multiples ≤ℤ pos (2 ^ 46);
   below : (pos 0 -ℤ pos (2 ^ 76)) ≤ℤ l.sums.weighted;
-  above : l.sums.weighted ≤ℤ pos (2 ^ 76)
+  above : l.sums.weighted ≤ℤ pos (2 ^ 76);
 }
 
 abbrev pub decreases-rise : goal.decreases-rise

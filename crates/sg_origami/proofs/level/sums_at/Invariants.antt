@@ -12,5 +12,5 @@ invariant-loop-rate l = record {
   low : pos 0 ≤ℤ l.multiples;
   high : l.multiples ≤ℤ pos (2 ^ 32 * l.rate-index);
   below : (pos 0 -ℤ pos (2 ^ 62 * l.rate-index)) ≤ℤ l.weights;
-  above : l.weights ≤ℤ pos (2 ^ 62 * l.rate-index)
+  above : l.weights ≤ℤ pos (2 ^ 62 * l.rate-index);
 }
