@@ -1,10 +1,10 @@
 -- Divisors over the natural numbers: what a greatest common divisor gives, and least common multiples.
-use Rattle.std.proofs.Common.{◌≡◌, ◌≢◌, ℕ, zero, suc, ◌+◌, ◌-◌, ◌*◌, ◌/◌, ◌%◌, ◌<◌, ◌≤◌, ◌^◌, ◌⊎◌, ◌↔◌, inl, inr, refl, ap, arith, sym, ◌∙◌, subst, Option, Some, None}
+use Rattle.std.proofs.Common.{◌≡◌, ℕ, zero, suc, ◌+◌, ◌-◌, ◌*◌, ◌/◌, ◌%◌, ◌<◌, ◌^◌, ◌↔◌, refl, ap, arith, sym, subst, Option, Some, None}
 use Rattle.std.specs.Prelude.{IfSome, IsNone}
 use Rattle.std.specs.Option.{SomeIff}
 use Rattle.std.specs.Int.{◌∣◌, IsGcd}
 use Rattle.std.proofs.Math.Nat.{dvd-mod_iff, dvd-sub, div-add-mod, dvd-mul_right_of_dvd, dvd-mul_left, dvd-mul_right, mul-div_cancel', mul-dvd-mul_left, mul-dvd-mul_right, dvd_of_mul-dvd-mul_left}
-use Rattle.std.proofs.lemmas.Nat.Gcd.{dvd_refl, dvd-zero, dvd_trans, dvd_antisymm, IsGcd-from_zero, same_from_IsGcd}
+use Rattle.std.proofs.lemmas.Nat.Gcd.{dvd-zero, dvd_antisymm, IsGcd-from_zero, same_from_IsGcd}
 use Rattle.sg_num.specs.Multiples.{IsLcm, IsLcmWide}
 
 rest_times : (c a n q m : ℕ) → n * q + m ≡ a → c * a - c * n * q ≡ c * m
@@ -16,9 +16,9 @@ times_by (suc f) a zero c d g l h p q = subst (λ x. d ∣ c * x) (same_from_IsG
 times_by (suc f) a (suc b) c d g l h p q =
     let small : a % suc b < suc b = omega arith in
     times_by f (suc b) (a % suc b) c d g (omega arith)
-      (h.1, (dvd-mod_iff g {m = a} h.1).1 h.0, λ e x y. h.2 e ((dvd-mod_iff e {m = a} x).0 y) x)
-      q
-      (subst (λ x. d ∣ x) (rest_times c a (suc b) (a / suc b) (a % suc b) (div-add-mod a (suc b))) (dvd-sub d p (dvd-mul_right_of_dvd d q (a / suc b))))
+    (h.1, (dvd-mod_iff g {m = a} h.1).1 h.0, λ e x y. h.2 e ((dvd-mod_iff e {m = a} x).0 y) x)
+    q
+    (subst (λ x. d ∣ x) (rest_times c a (suc b) (a / suc b) (a % suc b) (div-add-mod a (suc b))) (dvd-sub d p (dvd-mul_right_of_dvd d q (a / suc b))))
 
 -- what divides two numbers times c divides their greatest common divisor times c
 pub dvd-times_gcd : (a b c d g : ℕ) → IsGcd a b g → d ∣ c * a → d ∣ c * b → d ∣ c * g
@@ -47,24 +47,27 @@ IsLcm-from_gcd a b g h some =
     let ea : g * (a / g) ≡ a = mul-div_cancel' g h.0 in
     let eb : g * (b / g) ≡ b = mul-div_cancel' g h.1 in
     let swapped : a * (b / g) ≡ a / g * b = product (a / g) (b / g) g a b ea eb in
-    let whole : g * (a / g * b) ≡ b * a = cleared (a / g) g a b ea in
-    ( subst (λ x. a ∣ x) swapped (dvd-mul_right a (b / g))
-    , dvd-mul_left b (a / g)
-    , λ c p q. dvd_of_mul-dvd-mul_left {k = g} (a / g * b) {n = c} some (subst (λ x. x ∣ g * c) (sym whole) (multiple c p q)))
+    let whole : g * (a / g * b) ≡ b * a = cleared (a / g) g a b ea in (
+      subst (λ x. a ∣ x) swapped (dvd-mul_right a (b / g)),
+      dvd-mul_left b (a / g),
+      λ c p q. dvd_of_mul-dvd-mul_left {k = g} (a / g * b) {n = c} some (subst (λ x. x ∣ g * c) (sym whole) (multiple c p q)),
+    )
   where
     product : (s t g a b : ℕ) → g * s ≡ a → g * t ≡ b → a * t ≡ s * b
     product s t g a b e f = rw (← e, ← f) (omega arith)
+
     cleared : (s g a b : ℕ) → g * s ≡ a → g * (s * b) ≡ b * a
     cleared s g a b e = rw (← e) (omega arith)
+
     swap : (x y : ℕ) → x * y ≡ y * x
     swap x y = omega arith
+
     multiple : (c : ℕ) → a ∣ c → b ∣ c → b * a ∣ g * c
     multiple c p q =
         subst (λ x. b * a ∣ x) (swap c g)
-          (dvd-times_gcd a b c (b * a) g h
-            (mul-dvd-mul_right b q a)
-            (subst (λ x. b * a ∣ x) (swap b c) (mul-dvd-mul_left a b p)))
-
+        (dvd-times_gcd a b c (b * a) g h
+        (mul-dvd-mul_right b q a)
+        (subst (λ x. b * a ∣ x) (swap b c) (mul-dvd-mul_left a b p)))
 
 -- ---- what the code answers, where m is the least common multiple
 

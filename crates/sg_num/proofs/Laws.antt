@@ -1,8 +1,8 @@
 -- The laws of a commutative ring on whole numbers, each by its two parts.
-use Rattle.std.proofs.Common.{◌≡◌, ℕ, zero, suc, ◌+◌, ◌*◌, ◌<◌, ◌≤◌, refl, ap, arith, sym, ◌∙◌}
-use Rattle.std.specs.Prelude.{ℤ, pos, negsuc, ◌+ℤ◌, ◌-ℤ◌, ◌*ℤ◌, ◌<ℤ◌, ◌≤ℤ◌}
+use Rattle.std.proofs.Common.{◌≡◌, ℕ, ◌*◌, ap, arith, ◌∙◌}
+use Rattle.std.specs.Prelude.{ℤ, pos, negsuc, ◌+ℤ◌, ◌-ℤ◌, ◌*ℤ◌}
 use Rattle.std.proofs.lemmas.Int.{ints}
-use borrow.Author.Differences.{up, down, product_is, same_in, sum_is_lem, neg_is}
+use borrow.Author.Differences.{up, down, product_is, sum_is_lem}
 
 times : (k : ℕ) (m n : ℕ) → m ≡ n → m * k ≡ n * k
 times k m n e = ap (λ x. x * k) e
@@ -32,4 +32,3 @@ zero-mul a = omega (arith, ints)
 
 pub sub-is : (a b : ℤ) → a -ℤ b ≡ a +ℤ negsuc 0 *ℤ b
 sub-is a b = omega (arith, ints)
-

@@ -1,4 +1,5 @@
 pub mod Divisors
+pub mod Ints
 pub mod Laws
 pub mod Reduced
 pub mod Ring

@@ -1,28 +1,29 @@
 -- Reduced forms of fractions: each quotient has one, and no other.
-use Rattle.std.proofs.Common.{◌≡◌, ◌≢◌, ℕ, zero, suc, ◌+◌, ◌*◌, ◌/◌, ◌<◌, ◌≤◌, Bool, true, false, not, Option, Some, None, refl, ap, arith, sym, ◌∙◌, subst, List, [], ◌∷◌}
+use Rattle.std.proofs.Common.{◌≡◌, ◌≢◌, ℕ, zero, suc, ◌*◌, ◌/◌, ◌<◌, Bool, true, false, not, Option, Some, None, refl, ap, arith, sym, ◌∙◌, subst, [], ◌∷◌}
 use Rattle.std.specs.Bool.{beq}
 use Rattle.std.specs.Int.Signed.{lt_z}
-use Rattle.std.specs.Prelude.{if◌then◌else◌, ℤ, pos, negsuc, neg_ℤ, ◌+ℤ◌, ◌-ℤ◌, ◌*ℤ◌, ◌<ℤ◌, ◌≤ℤ◌, unsigned_abs, IsTrue}
+use Rattle.std.specs.Prelude.{if◌then◌else◌, ℤ, pos, negsuc, ◌*ℤ◌, ◌≤ℤ◌, unsigned_abs, IsTrue}
 use Rattle.std.specs.Int.{◌∣◌, IsGcd}
 use Rattle.std.proofs.lemmas.Int.{ints, unsigned_abs-mul}
 use Rattle.std.proofs.Math.Nat.{one-dvd, dvd-mul_left, mul-div_cancel', mul-dvd-mul_left, dvd_of_mul-dvd-mul_left}
 use Rattle.std.proofs.lemmas.Nat.Gcd.{dvd_antisymm}
-use Rattle.sg_num.specs.Fractions.{Fraction, IsReduced, IsReducedForm, IsReducedFormWide}
+use Rattle.sg_num.specs.Fractions.{Fraction, IsReducedForm, IsReducedFormWide}
 use Rattle.sg_num.specs.Exact.{fits}
 use Rattle.sg_num.specs.Signed.{signed, signed_if_fits}
 use Rattle.sg_num.proofs.Divisors.{dvd-coprime, some_from_IsGcd}
-use Rattle.sg_num.proofs.Ring.{Expr, var, num, ◌⊕◌, ◌⊖◌, ◌⊗◌, ring}
+use Rattle.sg_num.proofs.Ring.{var, ◌⊗◌, ring}
 use Rattle.sg_num.proofs.Signs.{cancel-nonzero}
 
 -- ---- there is one
 
 -- two numbers over their greatest common divisor have none but 1
 pub IsGcd-cleared : (a b g s t : ℕ) → 0 < g → g * s ≡ a → g * t ≡ b → IsGcd a b g → IsGcd s t 1
-IsGcd-cleared a b g s t some e f h =
-    ( one-dvd s
-    , one-dvd t
-    , λ d p q. dvd_of_mul-dvd-mul_left {k = g} d {n = 1} some
-        (subst (λ x. g * d ∣ x) (unit g) (h.2 (g * d) (subst (λ x. g * d ∣ x) e (mul-dvd-mul_left d g p)) (subst (λ x. g * d ∣ x) f (mul-dvd-mul_left d g q)))))
+IsGcd-cleared a b g s t some e f h = (
+  one-dvd s,
+  one-dvd t,
+  λ d p q. dvd_of_mul-dvd-mul_left {k = g} d {n = 1} some
+      (subst (λ x. g * d ∣ x) (unit g) (h.2 (g * d) (subst (λ x. g * d ∣ x) e (mul-dvd-mul_left d g p)) (subst (λ x. g * d ∣ x) f (mul-dvd-mul_left d g q)))),
+)
   where
     unit : (g : ℕ) → g ≡ g * 1
     unit g = omega arith
@@ -89,11 +90,11 @@ reduced_form n d g other h =
 pub crosswise : (n d x y k m : ℤ) → d ≢ pos 0 → x *ℤ d ≡ n *ℤ k → y *ℤ d ≡ n *ℤ m → x *ℤ m ≡ y *ℤ k
 crosswise n d x y k m other e f =
     cancel-nonzero d (x *ℤ m) (y *ℤ k) other
-      (ring (x ∷ m ∷ d ∷ []) (var 0 ⊗ var 1 ⊗ var 2) (var 0 ⊗ var 2 ⊗ var 1) tt
-      ∙ ap (λ z. z *ℤ m) e
-      ∙ ring (n ∷ k ∷ m ∷ []) (var 0 ⊗ var 1 ⊗ var 2) (var 0 ⊗ var 2 ⊗ var 1) tt
-      ∙ ap (λ z. z *ℤ k) (sym f)
-      ∙ ring (y ∷ d ∷ k ∷ []) (var 0 ⊗ var 1 ⊗ var 2) (var 0 ⊗ var 2 ⊗ var 1) tt)
+    (ring (x ∷ m ∷ d ∷ []) (var 0 ⊗ var 1 ⊗ var 2) (var 0 ⊗ var 2 ⊗ var 1) tt
+    ∙ ap (λ z. z *ℤ m) e
+    ∙ ring (n ∷ k ∷ m ∷ []) (var 0 ⊗ var 1 ⊗ var 2) (var 0 ⊗ var 2 ⊗ var 1) tt
+    ∙ ap (λ z. z *ℤ k) (sym f)
+    ∙ ring (y ∷ d ∷ k ∷ []) (var 0 ⊗ var 1 ⊗ var 2) (var 0 ⊗ var 2 ⊗ var 1) tt)
 
 -- one denominator divides the other
 divides : (x y k m : ℤ) → IsGcd (unsigned_abs y) (unsigned_abs m) 1 → x *ℤ m ≡ y *ℤ k → unsigned_abs m ∣ unsigned_abs k

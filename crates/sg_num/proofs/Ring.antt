@@ -1,8 +1,8 @@
 -- Equations of polynomials over the whole numbers, by computing: an expression is brought into a sum of monomials.
-use Rattle.std.proofs.Common.{◌≡◌, ℕ, zero, suc, ◌+◌, ◌<◌, ◌≤◌, refl, ap, arith, sym, ◌∙◌, List, [], ◌∷◌, Bool, true, false, cond, eqb, ltb, subst}
-use Rattle.std.specs.Prelude.{ℤ, pos, negsuc, ◌+ℤ◌, ◌-ℤ◌, ◌*ℤ◌, ◌<ℤ◌, ◌≤ℤ◌}
+use Rattle.std.proofs.Common.{◌≡◌, ℕ, zero, suc, refl, ap, arith, sym, ◌∙◌, List, [], ◌∷◌, Bool, true, false, eqb, ltb, subst}
+use Rattle.std.specs.Prelude.{ℤ, pos, negsuc, ◌+ℤ◌, ◌-ℤ◌, ◌*ℤ◌}
 use Rattle.std.proofs.lemmas.Int.{ints}
-use Rattle.sg_num.proofs.Laws.{mul-assoc, mul-comm, mul-add, add-mul, one-mul, zero-mul, sub-is}
+use Rattle.sg_num.proofs.Laws.{mul-assoc, mul-comm, mul-add, add-mul, one-mul, zero-mul}
 use lib.Dec.{T, eqb→eq}
 
 pub data Expr : Type 0 where
@@ -16,8 +16,10 @@ infixl 60 ◌⊕◌ ◌⊖◌
 infixl 70 ◌⊗◌
 abbrev pub ◌⊕◌ : Expr → Expr → Expr
 a ⊕ b = plus a b
+
 abbrev pub ◌⊖◌ : Expr → Expr → Expr
 a ⊖ b = minus a b
+
 abbrev pub ◌⊗◌ : Expr → Expr → Expr
 a ⊗ b = times a b
 
@@ -102,9 +104,10 @@ swap3 a b c = sym (mul-assoc a b c) ∙ ap (λ x. x *ℤ c) (mul-comm a b) ∙ m
 
 put_var-is : (r : List ℤ) (n : ℕ) (m : List ℕ) → mono r (put_var n m) ≡ at r n *ℤ mono r m
 put_var-is r n [] = refl
-put_var-is r n (k ∷ ks) = elim (ltb k n) as (λ t. mono r (elim t [ true ↦ k ∷ put_var n ks | false ↦ n ∷ k ∷ ks ]) ≡ at r n *ℤ (at r k *ℤ mono r ks))
-    [ true ↦ ap (λ x. at r k *ℤ x) (put_var-is r n ks) ∙ swap3 (at r k) (at r n) (mono r ks)
-    | false ↦ refl ]
+put_var-is r n (k ∷ ks) = elim (ltb k n) as (λ t. mono r (elim t [ true ↦ k ∷ put_var n ks | false ↦ n ∷ k ∷ ks ]) ≡ at r n *ℤ (at r k *ℤ mono r ks)) [
+  | true ↦ ap (λ x. at r k *ℤ x) (put_var-is r n ks) ∙ swap3 (at r k) (at r n) (mono r ks)
+  | false ↦ refl
+]
 
 join-is : (r : List ℤ) (m k : List ℕ) → mono r (join m k) ≡ mono r m *ℤ mono r k
 join-is r [] k = sym (one-mul (mono r k))
@@ -119,6 +122,7 @@ alike-mono (n ∷ ns) (k ∷ ks) e = here (alike-mono ns ks) (eqb n k) refl e
     last : (t : Bool) → elim t as (λ _. ℕ) [ true ↦ 1 | false ↦ 2 ] ≡ 0 → n ∷ ns ≡ k ∷ ks
     last true e = absurd (omega arith)
     last false e = absurd (omega arith)
+
     here : (stands ns ks ≡ 0 → ns ≡ ks) → (t : Bool) → eqb n k ≡ t → elim t as (λ _. ℕ) [ true ↦ stands ns ks | false ↦ elim (ltb n k) [ true ↦ 1 | false ↦ 2 ] ] ≡ 0 → n ∷ ns ≡ k ∷ ks
     here rec true q e = let p : n ≡ k = eqb→eq n k (subst T (sym q) tt) in let rest = rec e in cc
     here rec false q e = last (ltb n k) e
@@ -129,6 +133,7 @@ insert-is r c m (term d k p) = here (insert-is r c m p) (stands m k) refl
   where
     same : m ≡ k → (c +ℤ d) *ℤ mono r k +ℤ poly r p ≡ c *ℤ mono r m +ℤ (d *ℤ mono r k +ℤ poly r p)
     same e = rw e (ap (λ x. x +ℤ poly r p) (add-mul c d (mono r k)) ∙ omega (arith, ints))
+
     here : (poly r (insert c m p) ≡ c *ℤ mono r m +ℤ poly r p) → (t : ℕ) → stands m k ≡ t → poly r (elim t as (λ _. Poly) [ zero ↦ term (c +ℤ d) k p | suc j ↦ elim j [ zero ↦ term c m (term d k p) | suc i ↦ term d k (insert c m p) ] ]) ≡ c *ℤ mono r m +ℤ (d *ℤ mono r k +ℤ poly r p)
     here rec zero e = same (alike-mono m k e)
     here rec (suc zero) e = refl

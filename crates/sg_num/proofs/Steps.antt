@@ -1,10 +1,25 @@
 -- The values of exact steps.
-use Rattle.std.proofs.Common.{◌≡◌, Bool, true, false, refl, sym, ◌∙◌, ap, ℤ, Result, Ok, Err}
-use Rattle.std.specs.Prelude.{◌+ℤ◌, ◌-ℤ◌, ◌*ℤ◌, if◌then◌else◌, IfOk}
+use Rattle.std.proofs.Common.{pos, negsuc, ◌^◌, arith, ◌≡◌, Bool, true, false, refl, ℤ, Result, Ok, Err}
+use Rattle.std.specs.Prelude.{◌-ℤ◌, ◌*ℤ◌, if◌then◌else◌, IfOk, IsTrue, FitsSigned}
+use Rattle.std.specs.Int.{w128}
+use Rattle.std.proofs.lemmas.Bool.{lt-ltb, ltb-true}
 use Rattle.sg_num.specs.declared.step.Op.{Op}
-use Rattle.sg_num.specs.declared.step.Op.TheVariants.{Sum, Less, Times}
+use Rattle.sg_num.specs.declared.step.Op.TheVariants.{Less, Times}
 use Rattle.sg_num.specs.declared.step.Wide.{Wide}
 use Rattle.sg_num.specs.Exact.{fits, exact, result_of, exact_less, exact_times, exact_mul_sub, and_then}
+
+-- the two words for what lies in i128
+pub fits-from_FitsSigned : (z : ℤ) → FitsSigned w128 z → IsTrue (fits z)
+fits-from_FitsSigned (pos n) h = lt-ltb n (2 ^ 127) (omega arith)
+fits-from_FitsSigned (negsuc n) h = lt-ltb n (2 ^ 127) (omega arith)
+
+pub FitsSigned-from_fits : (z : ℤ) → IsTrue (fits z) → FitsSigned w128 z
+FitsSigned-from_fits (pos n) h = record { sfits = ltb-true n (2 ^ 127) h }
+FitsSigned-from_fits (negsuc n) h = record { sfits = ltb-true n (2 ^ 127) h }
+
+-- an exact step whose result fits has it as its value
+pub exact-fits : (op : Op) (a b : ℤ) → IsTrue (fits (result_of op a b)) → exact op a b ≡ Ok (result_of op a b)
+exact-fits op a b h = rw h refl
 
 -- an exact step that has a value has the exact result
 pub Ok-exact : (op : Op) (a b v : ℤ) → Ok v ≡ exact op a b → v ≡ result_of op a b
@@ -27,6 +42,7 @@ IfOk-exact_mul_sub a p q b r e = first (fits (a *ℤ p)) e
     second : (t : Bool) → r ≡ and_then (if_fits t (q *ℤ b) (record { op = Times; left = q; right = b })) (λ right. exact_less (a *ℤ p) right) → IfOk r (λ v. v ≡ a *ℤ p -ℤ q *ℤ b)
     second true e = IfOk-exact Less (a *ℤ p) (q *ℤ b) r e
     second false e = rw e tt
+
     first : (t : Bool) → r ≡ and_then (if_fits t (a *ℤ p) (record { op = Times; left = a; right = p })) (λ left. and_then (exact_times q b) (λ right. exact_less left right)) → IfOk r (λ v. v ≡ a *ℤ p -ℤ q *ℤ b)
     first true e = second (fits (q *ℤ b)) e
     first false e = rw e tt

@@ -78,5 +78,4 @@ fn signed(negative: bool, magnitude: u128) -> Option<i128>
 /// The law that a quotient has one reduced form: `Frac::of` has no choice.
 pub fn reduced_form_is_unique()
     ensures { ReducedFormIsUnique }
-{
-}
+{}

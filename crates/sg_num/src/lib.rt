@@ -4,6 +4,14 @@
 //! else a [`Wide`] that names the operation and its operands. [`dot_step`] and [`mul_sub`] are made
 //! of these steps and tell the first one that does not fit. [`gcd`] and [`lcm`] are the greatest
 //! common divisor and the least common multiple. [`Frac`] is a fraction in its reduced form.
+//!
+//! ```
+//! sum(2, 3)                  // Ok(5)
+//! sum(1, i128::MAX)          // Err(Wide { op: Op::Sum, left: 1, right: i128::MAX })
+//! Frac::of(6, -4)            // -3/2, of which num() is -3 and den() is 2
+//! lcm(4, 6)                  // Some(12)
+//! ```
+//!
 //! No call takes memory, and none asks anything of its caller.
 //!
 //! The meaning of each call stands in `specs/`: `Exact` says when an operation fits, `Multiples`
@@ -18,3 +26,5 @@ pub use divisor::{gcd, lcm};
 pub use frac::{Frac, reduced_form_is_unique};
 pub use step::{Op, Wide, dot_step, less, mul_sub, sum, times};
 
+#[cfg(test)]
+mod tests;

@@ -1,4 +1,4 @@
-use Rattle.std.proofs.Common.{arith, ◌≡◌, ◌≢◌, pos, ℤ, inr, inl, refl, rules}
+use Rattle.std.proofs.Common.{arith, ◌≢◌, pos, inr, inl, refl, rules}
 use Rattle.std.specs.Prelude.{FitsSigned}
 use Rattle.std.specs.Int.{w128}
 use Rattle.std.proofs.lemmas.Int.{ints, to_z-of_z}
@@ -80,9 +80,10 @@ returns-clause-none c =
     let p = simp to_z-of_z at c.in_ok-top.ensures in
     let q = c.in_ok-bottom.ensures in
     let x : FitsSigned w128 c.in_ok-top.top = search rules in
-    let y : FitsSigned w128 c.in_ok-bottom.bottom = search rules in
-    ( λ e. absurd (cc)
-    , λ h. elim h [
-        inl e ↦ absurd (other e)
-      | inr w ↦ absurd (not_wide c.args.num c.args.den c.unsigned_abs-above.result c.unsigned_abs-below.result c.gcd-divisor.result c.in_ok-top.top c.in_ok-bottom.bottom other u v c.gcd-divisor.ensures p q w)
-      ] )
+    let y : FitsSigned w128 c.in_ok-bottom.bottom = search rules in (
+      λ e. absurd (cc),
+      λ h. elim h [
+        | inl e ↦ absurd (other e)
+        | inr w ↦ absurd (not_wide c.args.num c.args.den c.unsigned_abs-above.result c.unsigned_abs-below.result c.gcd-divisor.result c.in_ok-top.top c.in_ok-bottom.bottom other u v c.gcd-divisor.ensures p q w)
+      ],
+    )
