@@ -1,12 +1,12 @@
 -- The rates of a game's targets.
-use Rattle.std.proofs.Common.{◌≡◌, ◌≢◌, ℕ, ◌≤◌, ◌^◌, Bool, true, false, cond, List, [], ◌∷◌, length, map, ℤ, pos, ◌+ℤ◌, ◌-ℤ◌, ◌*ℤ◌, ◌≤ℤ◌, sym, ◌∙◌, ap, subst, refl, arith}
+use Rattle.std.proofs.Common.{◌≡◌, ◌≢◌, ℕ, ◌≤◌, ◌^◌, Bool, true, false, cond, List, [], ◌∷◌, length, map, ℤ, pos, ◌*ℤ◌, ◌≤ℤ◌, sym, ◌∙◌, ap, subst, refl, arith}
 use Rattle.std.specs.List.{All, filter}
 use Rattle.std.proofs.lemmas.Int.{ints}
 use Rattle.std.proofs.lemmas.List.{length-map}
 use Rattle.std.proofs.lemmas.List.Elements.{All-map}
 use Rattle.sg_model.specs.Sums.{total, numbers}
 use Rattle.sg_model.specs.Games.{Game, payoff}
-use Rattle.sg_model.specs.Origami.{SpendsAll, at_level, gap, share}
+use Rattle.sg_model.specs.Origami.{SpendsAll, at_level, gap}
 use Rattle.sg_model.proofs.Ints.{v, n, times, same_by}
 use Rattle.sg_model.proofs.Levels.{multiple_is}
 use Rattle.sg_model.proofs.Numbers.{All-numbers, length-numbers_from, map-none, numbers-some}

@@ -1,8 +1,8 @@
-use Rattle.std.proofs.Common.{arith, ◌≡◌, length, ◌<◌, pos}
+use Rattle.std.proofs.Common.{arith, length, ◌<◌, pos}
 use Rattle.std.proofs.lemmas.Int.{ints}
 use Rattle.sg_origami.specs.declared.rate.Rate.{Rate}
 use Rattle.sg_origami.specs.Rates.{is_above, multiple_of, weighted_of}
-use Rattle.sg_origami.proofs.Rest.{left_more, left_none}
+use Rattle.sg_origami.proofs.Rest.{left_more}
 use Rattle.sg_origami.proofs.level.sums_at.Goals as goal
 
 pub loop-rate-preserved : goal.loop-rate-preserved

@@ -1,4 +1,4 @@
-use Rattle.std.proofs.Common.{arith, ◌≡◌, ◌<◌, length, ◌+◌}
+use Rattle.std.proofs.Common.{arith, ◌<◌, length}
 use Rattle.sg_origami.specs.Rates.{rate_at}
 use Rattle.sg_origami.proofs.Rest.{map_none_yet, map_push, map_done}
 use Rattle.sg_origami.proofs.rate.rates_of.Goals as goal
