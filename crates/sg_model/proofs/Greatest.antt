@@ -1,5 +1,5 @@
 -- The greatest of a list, tests of each item, and sums over a filter.
-use Rattle.std.proofs.Common.{◌≢◌, Bool, true, false, cond, List, [], ◌∷◌, ℤ, pos, ◌+ℤ◌, ◌≤ℤ◌, ◌<ℤ◌, refl, arith, ◌⊎◌, inl, inr}
+use Rattle.std.proofs.Common.{◌≡◌, ◌≢◌, Bool, ◌||◌, sym, true≢false, true, false, cond, List, [], ◌∷◌, ℤ, pos, ◌+ℤ◌, ◌≤ℤ◌, ◌<ℤ◌, refl, arith, ◌⊎◌, inl, inr}
 use Rattle.std.specs.List.{All, Contains, filter}
 use Rattle.std.proofs.lemmas.Int.{ints, by_lt_z}
 use Rattle.std.proofs.lemmas.List.Elements.{All-head, All-tail, All-nil, All-cons, Contains-append_right}
@@ -32,3 +32,11 @@ total-lt f g [] some h = absurd (some refl)
 total-lt f g (x ∷ []) some h = omega (arith, ints, All-head (λ x. f x <ℤ g x) x [] h)
 total-lt f g (x ∷ y ∷ ys) some h =
     omega (arith, ints, All-head (λ x. f x <ℤ g x) x (y ∷ ys) h, total-lt f g (y ∷ ys) (λ e. cc) (All-tail (λ x. f x <ℤ g x) x (y ∷ ys) h))
+
+pub or-right : (a b : Bool) → b ≡ true → (a || b) ≡ true
+or-right true b e = refl
+or-right false b e = e
+
+pub or-left : (a b : Bool) → a ≡ true → (a || b) ≡ true
+or-left true b e = refl
+or-left false b e = absurd (true≢false (sym e))

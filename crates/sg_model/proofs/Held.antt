@@ -1,16 +1,16 @@
 -- A play covers what the schedules that it takes hold.
-use Rattle.std.proofs.Common.{◌≡◌, ℕ, zero, suc, ◌+◌, ◌-◌, ◌<◌, ◌≤◌, Bool, true, false, ◌||◌, List, [], ◌∷◌, length, ap, subst, sym, ◌∙◌, refl, arith, eqb, Some, inl, inr, slice_index_or, get_or, true≢false}
+use Rattle.std.proofs.Common.{◌≡◌, ℕ, zero, suc, ◌+◌, ◌<◌, ◌≤◌, Bool, true, false, ◌||◌, List, [], ◌∷◌, length, ap, subst, sym, ◌∙◌, refl, arith, eqb, Some, inl, inr, slice_index_or, get_or, true≢false}
 use Rattle.std.specs.List.{Contains, list_any}
 use Rattle.std.proofs.lemmas.Bool.Decides.{nat_tests}
 use Rattle.std.proofs.lemmas.Bool.{cases_lt}
 use Rattle.sg_model.specs.declared.kind.Kind.TheVariants.{Security}
 use Rattle.sg_model.specs.Sums.{nth, numbers, numbers_from}
 use Rattle.sg_model.specs.Games.{Game, payoff, resource_schedules, schedule_targets}
-use Rattle.sg_model.specs.Plays.{chosen_targets, covers, covers_from, pay_a, pay_d}
+use Rattle.sg_model.specs.Plays.{covers, covers_from, pay_a, pay_d}
 use Rattle.sg_model.specs.PlayLaws.{IsHeld}
 use Rattle.sg_model.proofs.Forms.{no_matrix}
 use Rattle.sg_model.proofs.Numbers.{nth-numbers}
-use Rattle.sg_model.proofs.Greatest.{Contains-head, Contains-tail}
+use Rattle.sg_model.proofs.Greatest.{Contains-head, Contains-tail, or-left, or-right}
 use Rattle.sg_model.proofs.Covers.{holds-patrols}
 
 -- a list has an item that equals t just where it contains t
@@ -24,14 +24,6 @@ contains-any (x ∷ xs) t e =
 
 eqb-same : (t : ℕ) → eqb t t ≡ true
 eqb-same t = grind (arith, nat_tests)
-
-or-right : (a b : Bool) → b ≡ true → (a || b) ≡ true
-or-right true b e = refl
-or-right false b e = e
-
-or-left : (a b : Bool) → a ≡ true → (a || b) ≡ true
-or-left true b e = refl
-or-left false b e = absurd (true≢false (sym e))
 
 pub any-contains : (xs : List ℕ) (t : ℕ) → Contains xs t → list_any (λ x. eqb x t) xs ≡ true
 any-contains [] t h = absurd (omega (arith, h.1))
@@ -50,9 +42,9 @@ held_from g r (c ∷ cs) t e =
     elim (list_any (λ x. eqb x t) here) as (λ b. list_any (λ x. eqb x t) here ≡ b → (b || covers_from g (r + 1) cs t) ≡ true → IsHeldFrom g r (c ∷ cs) t) [
       | true ↦ (λ holds _. (0, omega arith, subst (λ (m : ℕ). Contains (schedule_targets g (nth (resource_schedules g m) c 0)) t) (omega arith) (contains-any here t holds)))
       | false ↦ (λ _ rest.
-            let h = held_from g (r + 1) cs t rest in
-            let p : (r + 1) + h.0 ≡ r + suc h.0 = omega arith in
-            (suc h.0, omega (arith, h.1), subst (λ (m : ℕ). Contains (schedule_targets g (nth (resource_schedules g m) (slice_index_or cs h.0 0) 0)) t) p h.2))
+          let h = held_from g (r + 1) cs t rest in
+          let p : (r + 1) + h.0 ≡ r + suc h.0 = omega arith in
+          (suc h.0, omega (arith, h.1), subst (λ (m : ℕ). Contains (schedule_targets g (nth (resource_schedules g m) (slice_index_or cs h.0 0) 0)) t) p h.2))
     ] refl e
 
 covers_where : (g : Game) (r : ℕ) (play : List ℕ) (t : ℕ) → IsHeldFrom g r play t → covers_from g r play t ≡ true

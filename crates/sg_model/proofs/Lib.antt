@@ -14,3 +14,7 @@ pub mod Scaled
 pub mod Held
 pub mod Promises
 pub mod Sizes
+pub mod Deciding
+pub mod Worked
+pub mod Joined
+pub mod Payoffs

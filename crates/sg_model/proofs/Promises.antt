@@ -1,16 +1,16 @@
 -- What the promises of a game file give: people, scales, sizes and ranges.
-use Rattle.std.proofs.Common.{◌≡◌, ◌≢◌, ℕ, zero, suc, ◌+◌, ◌-◌, ◌<◌, ◌≤◌, ◌^◌, Bool, true, false, cond, List, [], ◌∷◌, length, ℤ, pos, ◌≤ℤ◌, ap, subst, sym, ◌∙◌, refl, arith, ◌⊎◌, inl, inr, Option, Some, None, slice_index_or, slice_index, true≢false}
+use Rattle.std.proofs.Common.{◌≡◌, ◌≢◌, ℕ, zero, suc, ◌≤◌, Bool, true, false, cond, List, [], ◌∷◌, length, ℤ, pos, ◌≤ℤ◌, ap, subst, sym, refl, arith, ◌⊎◌, inl, inr, Option, Some, None, slice_index_or, slice_index}
 use Rattle.std.specs.List.{All}
 use Rattle.std.proofs.lemmas.Int.{ints}
 use Rattle.std.proofs.lemmas.List.Elements.{All-nil, All-head, All-tail, All-weaker, All-same}
 use Rattle.sg_model.specs.declared.kind.Kind.{Kind}
 use Rattle.sg_model.specs.declared.kind.Kind.TheVariants.{Security, Matrix}
 use Rattle.sg_model.specs.Sums.{nth}
-use Rattle.sg_model.specs.Games.{Attacker, Game, Named, Payoff, action_count, attacker, is_kind_matrix, is_matrix, nobody, nothing, payoff, resource_count, schedule_count}
+use Rattle.sg_model.specs.Games.{Attacker, Game, attacker, is_kind_matrix, is_matrix, nobody, nothing, payoff}
 use Rattle.sg_model.specs.Plays.{covers, pay_a, pay_d}
 use Rattle.sg_model.specs.Payoffs.{IsPeopled}
 use Rattle.sg_model.specs.Origami.{IsOrigami, IsScaled}
-use Rattle.sg_model.specs.Limits.{IsGame, IsMatrixGame, IsMatrixType, IsPay, IsPayoff, IsSecurityGame, IsSecurityType, IsTable, is_scaled}
+use Rattle.sg_model.specs.Limits.{IsGame, IsMatrixGame, IsMatrixType, IsPay, IsPayoff, IsSecurityGame, IsSecurityType, is_scaled}
 use Rattle.sg_model.proofs.Forms.{no_matrix}
 
 -- a game of either form
@@ -52,15 +52,15 @@ All-none P xs e = All-same P xs [] e (All-nil P)
 pub peopled : (g : Game) → IsGame g → IsPeopled g
 peopled g h = elim (game_cases g h) [
   | inl s ↦ record {
-      types = s.game.types.count.at_least;
-      actions = λ l low high. rw (no_matrix g s.kind) s.game.target_count.at_least;
-      priors = λ l low high. (nth-all (IsSecurityType (length g.goals)) g.types nobody s.game.each_type l low high).prior.at_least;
-    }
+    types = s.game.types.count.at_least;
+    actions = λ l low high. rw (no_matrix g s.kind) s.game.target_count.at_least;
+    priors = λ l low high. (nth-all (IsSecurityType (length g.goals)) g.types nobody s.game.each_type l low high).prior.at_least;
+  }
   | inr m ↦ record {
-      types = m.game.types.count.at_least;
-      actions = λ l low high. rw (yes_matrix g m.kind) (nth-all (IsMatrixType (length g.goals)) g.types nobody m.game.each_type l low high).action_count.at_least;
-      priors = λ l low high. (nth-all (IsMatrixType (length g.goals)) g.types nobody m.game.each_type l low high).prior.at_least;
-    }
+    types = m.game.types.count.at_least;
+    actions = λ l low high. rw (yes_matrix g m.kind) (nth-all (IsMatrixType (length g.goals)) g.types nobody m.game.each_type l low high).action_count.at_least;
+    priors = λ l low high. (nth-all (IsMatrixType (length g.goals)) g.types nobody m.game.each_type l low high).prior.at_least;
+  }
 ]
 
 some_of : {X : Type 0} (o : Option X) → o ≢ None → (x : X) × (o ≡ Some x)
@@ -75,15 +75,17 @@ origami g h scaled = elim (game_cases g h) [
       let found = some_of g.patrols is.identical in
       let first : 1 ≤ length g.types = omega (arith, is.one_type) in
       let the_type = nth-all (IsSecurityType (length g.goals)) g.types nobody s.game.each_type 1 (omega arith) first in
-      let gaps = nth-all (λ (x : Attacker). All (IsScaled g.scale) x.payoffs) g.types nobody is.targets 1 (omega arith) first in
-      (found.0, record {
-        security = s.kind;
-        identical = found.1;
-        scaled = positive;
-        one_type = is.one_type;
-        prior_one = nth-all (λ (x : Attacker). x.prior ≡ pos 1) g.types nobody is.prior_one 1 (omega arith) first;
-        targets = λ t low high. nth-all (IsScaled g.scale) (attacker g 1).payoffs nothing gaps t low (omega (arith, high, the_type.one_each));
-      }))
+      let gaps = nth-all (λ (x : Attacker). All (IsScaled g.scale) x.payoffs) g.types nobody is.targets 1 (omega arith) first in (
+        found.0,
+        record {
+          security = s.kind;
+          identical = found.1;
+          scaled = positive;
+          one_type = is.one_type;
+          prior_one = nth-all (λ (x : Attacker). x.prior ≡ pos 1) g.types nobody is.prior_one 1 (omega arith) first;
+          targets = λ t low high. nth-all (IsScaled g.scale) (attacker g 1).payoffs nothing gaps t low (omega (arith, high, the_type.one_each));
+        },
+      ))
   | inr m ↦ absurd (omega (arith, ints, scaled, m.game.no_scale))
 ]
 

@@ -1,6 +1,6 @@
 -- Commitments whose weights are all multiplied by one number.
-use Rattle.std.proofs.Common.{◌≡◌, ◌≢◌, ℕ, ◌<◌, ◌≤◌, Bool, true, false, List, [], ◌∷◌, map, length, ℤ, pos, ◌+ℤ◌, ◌*ℤ◌, ◌≤ℤ◌, ap, subst, sym, ◌∙◌, refl, arith, slice_index_or}
-use Rattle.std.specs.List.{All, AllPairs, filter, list_all}
+use Rattle.std.proofs.Common.{◌≡◌, ◌≢◌, ℕ, ◌<◌, Bool, true, false, List, [], ◌∷◌, map, length, ℤ, pos, ◌+ℤ◌, ◌*ℤ◌, ◌≤ℤ◌, ap, subst, sym, ◌∙◌, refl, arith, slice_index_or}
+use Rattle.std.specs.List.{filter, list_all}
 use Rattle.std.specs.Prelude.{int_le}
 use Rattle.std.proofs.lemmas.Int.{ints}
 use Rattle.std.proofs.lemmas.List.{get_or_default, length-map}
@@ -50,9 +50,9 @@ int_le-scaled c a b h =
     elim (int_le a b) as (λ t. int_le a b ≡ t → int_le (c *ℤ a) (c *ℤ b) ≡ t) [
       | true ↦ (λ e. let q : (a *ℤ c) ≤ℤ (b *ℤ c) = mul-le a b c (omega (arith, ints, e)) (omega (arith, ints, h)) in sym (omega (arith, ints, q, ca, cb)))
       | false ↦ (λ e. elim (int_le (c *ℤ a) (c *ℤ b)) as (λ t. int_le (c *ℤ a) (c *ℤ b) ≡ t → t ≡ false) [
-            | true ↦ (λ f. let q : a ≤ℤ b = cancel-le a b c (omega (arith, ints, f, ca, cb)) h in absurd (omega (arith, ints, e, q)))
-            | false ↦ (λ f. refl)
-          ] refl)
+        | true ↦ (λ f. let q : a ≤ℤ b = cancel-le a b c (omega (arith, ints, f, ca, cb)) h in absurd (omega (arith, ints, e, q)))
+        | false ↦ (λ f. refl)
+      ] refl)
     ] refl
 
 greatest-scaled : {X : Type 0} (c : ℤ) → pos 0 ≤ℤ c → (f : X → ℤ) (xs : List X) → xs ≢ [] → greatest (map (λ x. c *ℤ f x) xs) ≡ c *ℤ greatest (map f xs)

@@ -1,12 +1,12 @@
 -- The lists of a game file's game are short, and so are the counts that are read from them.
-use Rattle.std.proofs.Common.{◌≡◌, ℕ, zero, suc, ◌+◌, ◌<◌, ◌≤◌, ◌^◌, Bool, true, false, cond, List, [], ◌∷◌, length, ap, sym, ◌∙◌, refl, arith, inl, inr, Option, Some, None, IfSome, MatchBool, slice_index, slice_index_or}
+use Rattle.std.proofs.Common.{◌≡◌, ℕ, ◌+◌, ◌<◌, ◌≤◌, ◌^◌, Bool, true, false, cond, List, [], length, ap, refl, arith, inl, inr, Option, Some, None, IfSome, MatchBool}
 use Rattle.std.specs.List.{All}
 use Rattle.std.proofs.lemmas.List.{get_or_default}
 use Rattle.std.proofs.lemmas.List.Elements.{All-nil, All-weaker}
 use Rattle.sg_model.specs.Sums.{nth, numbers}
 use Rattle.sg_model.specs.Games.{Attacker, Game, Named, action_count, attacker, is_matrix, nobody, resource_count, resource_schedules, schedule_count, unnamed}
 use Rattle.sg_model.specs.Plays.{IsLegal, IsLegalJoint, IsRow}
-use Rattle.sg_model.specs.Limits.{AreLists, AreMembers, IsDefended, IsGame, IsMatrixGame, IsMatrixType, IsSecurityGame, IsSecurityType, is_scaled}
+use Rattle.sg_model.specs.Limits.{AreMembers, IsDefended, IsGame, IsMatrixType, IsSecurityType, is_scaled}
 use Rattle.sg_model.specs.GameLaws.{HasShortLists, HasShortTables, HasSmallCounts, IsShort}
 use Rattle.sg_model.proofs.Numbers.{length-numbers_from}
 use Rattle.sg_model.proofs.Promises.{All-none, game_cases, nth-or}

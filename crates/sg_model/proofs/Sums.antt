@@ -1,8 +1,12 @@
 -- Sums of whole numbers over lists.
-use Rattle.std.proofs.Common.{◌≡◌, List, [], ◌∷◌, ◌++◌, ℤ, pos, ◌+ℤ◌, ◌*ℤ◌, ◌≤ℤ◌, sym, ◌∙◌, ap, refl, arith}
-use Rattle.std.specs.List.{All}
+use Rattle.std.proofs.Common.{◌≡◌, ℕ, ◌+◌, List, [], ◌∷◌, ◌++◌, ℤ, pos, ◌+ℤ◌, ◌-ℤ◌, ◌*ℤ◌, ◌≤ℤ◌, sym, ◌∙◌, ap, refl, arith}
+use Rattle.std.specs.List.{All, sum_by}
+use Rattle.std.specs.List.Sorted.{IsPermutation}
 use Rattle.std.proofs.lemmas.Int.{ints}
 use Rattle.std.proofs.lemmas.List.Elements.{All-head, All-tail}
+use Rattle.std.proofs.lemmas.List.Sorted.{sum_by-IsPermutation}
+use Rattle.std.proofs.lemmas.List.Sums.{sum_by-cons}
+use borrow.Author.Differences.{up, down}
 use Rattle.sg_model.specs.Sums.{total}
 use Rattle.sg_model.proofs.Ints.{v, n, plus, times, same_by}
 
@@ -41,3 +45,17 @@ total-exchange f (x ∷ xs) ys =
 pub total-nonneg : {X : Type 0} (f : X → ℤ) (xs : List X) → All (λ x. pos 0 ≤ℤ f x) xs → pos 0 ≤ℤ total f xs
 total-nonneg f [] h = omega (arith, ints)
 total-nonneg f (x ∷ xs) h = omega (arith, ints, All-head (λ x. pos 0 ≤ℤ f x) x xs h, total-nonneg f xs (All-tail (λ x. pos 0 ≤ℤ f x) x xs h))
+
+-- a sum as a difference of two sums over ℕ
+total-parts : {X : Type 0} (f : X → ℤ) (xs : List X) → total f xs ≡ pos (sum_by (λ x. up (f x)) xs) -ℤ pos (sum_by (λ x. down (f x)) xs)
+total-parts f [] = refl
+total-parts f (x ∷ xs) =
+    let a = sum_by-cons (λ x. up (f x)) x xs in
+    let b = sum_by-cons (λ x. down (f x)) x xs in
+    let e : f x +ℤ total f xs ≡ pos (up (f x) + sum_by (λ x. up (f x)) xs) -ℤ pos (down (f x) + sum_by (λ x. down (f x)) xs) = omega (arith, ints, total-parts f xs) in
+    e ∙ (ap (λ (k : ℕ). pos k -ℤ pos (down (f x) + sum_by (λ x. down (f x)) xs)) (sym a) ∙ ap (λ (k : ℕ). pos (sum_by (λ x. up (f x)) (x ∷ xs)) -ℤ pos k) (sym b))
+
+-- a sum is the same in another order
+pub total-IsPermutation : {X : Type 0} (f : X → ℤ) (xs ys : List X) → IsPermutation xs ys → total f ys ≡ total f xs
+total-IsPermutation f xs ys h =
+    omega (arith, ints, total-parts f xs, total-parts f ys, sum_by-IsPermutation (λ x. up (f x)) xs ys h, sum_by-IsPermutation (λ x. down (f x)) xs ys h)

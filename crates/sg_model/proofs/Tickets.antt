@@ -118,6 +118,19 @@ module _ (g : Game) (patrols : ℕ) (o : IsOrigami g patrols) (num den : ℤ) (p
       let same : part_of t *ℤ weight_total k ≡ water_bound g num den *ℤ weight_total k = ap (λ (z : ℤ). z *ℤ weight_total k) r.2 in
       omega (arith, ints, gives, more, same)
 
+  -- a level that some target pays in any case is at most this one
+  pub no_level_above : (a b : ℤ) (reason : Level) → IsWater g patrols a b reason → (a *ℤ den) ≤ℤ (num *ℤ b)
+  no_level_above a b reason w =
+      let r = level_reached g patrols o a b reason w k is_k in
+      let d : ℤ = weight_total k in
+      let s : ℤ = sum_a g k 1 r.0 in
+      let low = mul-le (a *ℤ d) (s *ℤ b) den r.1.enough (omega (arith, ints, positive)) in
+      let high = mul-le (s *ℤ den) (num *ℤ d) b (all-paid r.0 r.1.from_one r.1.in_range) (omega (arith, ints, w.positive)) in
+      let e : (a *ℤ d) *ℤ den ≡ (a *ℤ den) *ℤ d = same_by (times (times (v a) (v d)) (v den)) (times (times (v a) (v den)) (v d)) (omega arith) in
+      let f : (s *ℤ b) *ℤ den ≡ (s *ℤ den) *ℤ b = same_by (times (times (v s) (v b)) (v den)) (times (times (v s) (v den)) (v b)) (omega arith) in
+      let h : (num *ℤ d) *ℤ b ≡ (num *ℤ b) *ℤ d = same_by (times (times (v num) (v d)) (v b)) (times (times (v num) (v b)) (v d)) (omega arith) in
+      cancel-le (a *ℤ den) (num *ℤ b) d (omega (arith, ints, low, high, e, f, h)) total_positive
+
   module _ (why : Level) (w : IsWater g patrols num den why) where
     level-some : at_level g num den ≢ []
     level-some = λ e.

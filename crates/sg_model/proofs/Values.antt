@@ -1,5 +1,5 @@
 -- Values of commitments against upper bounds, and of optimal ones.
-use Rattle.std.proofs.Common.{◌≡◌, ◌≢◌, ℕ, suc, ◌+◌, ◌-◌, ◌≤◌, List, [], ◌∷◌, length, ℤ, pos, ◌+ℤ◌, ◌*ℤ◌, ◌≤ℤ◌, ap, sym, ◌∙◌, refl, arith, slice_index_or}
+use Rattle.std.proofs.Common.{◌≡◌, ◌≢◌, ℕ, ◌+◌, ◌-◌, List, [], ◌∷◌, length, ℤ, pos, ◌*ℤ◌, ◌≤ℤ◌, ap, ◌∙◌, refl, arith, slice_index_or}
 use Rattle.std.specs.List.{All}
 use Rattle.std.proofs.lemmas.Int.{ints}
 use Rattle.std.proofs.lemmas.List.Elements.{All-weaker, All-head, All-tail}
@@ -9,7 +9,7 @@ use Rattle.sg_model.specs.Games.{Attacker, Game, attacker, nobody, prior_total}
 use Rattle.sg_model.specs.Payoffs.{IsPeopled}
 use Rattle.sg_model.specs.Commitments.{IsCommitment, IsValue, weight_total, worth}
 use Rattle.sg_model.specs.Optimality.{IsOptimal, IsUpperBound}
-use Rattle.sg_model.proofs.Ints.{v, n, times, same_by, mul-le, cancel-le}
+use Rattle.sg_model.proofs.Ints.{v, times, same_by, mul-le, cancel-le}
 use Rattle.sg_model.proofs.Sums.{total-nonneg}
 use Rattle.sg_model.proofs.Numbers.{nth-is}
 use Rattle.sg_model.proofs.Covers.{weight_total-positive}

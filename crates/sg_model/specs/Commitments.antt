@@ -1,5 +1,5 @@
 -- Commitments (mixed strategies with whole-number weights), their sums, the attackers' best responses, and worth.
-use Rattle.std.specs.Prelude.{◌≡◌, ◌≢◌, ℕ, Bool, if◌then◌else◌, List, [], map, length, ℤ, pos, ◌*ℤ◌, ◌≤ℤ◌, All, AllPairs, filter, int_le}
+use Rattle.std.specs.Prelude.{◌≡◌, ◌≢◌, ℕ, Bool, if◌then◌else◌, List, [], map, length, ℤ, pos, ◌*ℤ◌, ◌≤ℤ◌, All, AllPairs, bytes_eq, filter, int_le}
 use Rattle.std.specs.List.{list_all}
 use Rattle.sg_model.specs.declared.ticket.Ticket.{Ticket}
 use Rattle.sg_model.specs.Sums.{total, greatest, numbers}
@@ -49,3 +49,7 @@ cover_count g k t = total (λ (x : Ticket). if covers g x.play.code t then x.wei
 -- the same plays, each with c times its weight
 abbrev pub scaled : ℤ → List Ticket → List Ticket
 scaled c k = map (λ (x : Ticket). record x { weight = c *ℤ x.weight }) k
+
+-- the weights of the tickets with this play
+abbrev pub weight_on : List Ticket → List ℕ → ℤ
+weight_on k play = total (λ (x : Ticket). if bytes_eq x.play.code play then x.weight else pos 0) k

@@ -9,5 +9,7 @@ pub mod Names
 pub mod Limits
 pub mod GameLaws
 pub mod PlayLaws
+pub mod PayoffLaws
 pub mod OptimalityLaws
 pub mod OrigamiLaws
+pub mod Examples

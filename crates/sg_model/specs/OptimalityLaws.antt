@@ -1,9 +1,9 @@
 -- What holds of values, upper bounds and optimal commitments in every game.
-use Rattle.std.specs.Prelude.{◌≡◌, ◌↔◌, List, ℤ, pos, ◌*ℤ◌, ◌≤ℤ◌}
+use Rattle.std.specs.Prelude.{◌≡◌, ◌↔◌, ℕ, List, ◌∷◌, ℤ, pos, ◌+ℤ◌, ◌*ℤ◌, ◌≤ℤ◌, IsPermutation}
 use Rattle.sg_model.specs.declared.ticket.Ticket.{Ticket}
 use Rattle.sg_model.specs.Games.{Game}
 use Rattle.sg_model.specs.Payoffs.{IsPeopled}
-use Rattle.sg_model.specs.Commitments.{IsCommitment, IsValue, weight_total, worth, scaled}
+use Rattle.sg_model.specs.Commitments.{IsCommitment, IsValue, cover_count, scaled, sum_a, sum_d, weight_on, weight_total, worth}
 use Rattle.sg_model.specs.Optimality.{IsOptimal, IsUpperBound}
 
 -- an upper bound num / den is at least the value a / b of every commitment
@@ -31,3 +31,23 @@ ScalingKeeps = (g : Game) (c : ℤ) → pos 1 ≤ℤ c → (k : List Ticket)
     → (IsCommitment g k ↔ IsCommitment g (scaled c k))
     × ((num den : ℤ) → IsValue g k num den ↔ IsValue g (scaled c k) num den)
     × (IsOptimal g k ↔ IsOptimal g (scaled c k))
+
+-- two lists of tickets give each play the same weight
+abbrev pub AreOneMix : List Ticket → List Ticket → Type 0
+AreOneMix k other = (play : List ℕ) → weight_on k play ≡ weight_on other play
+
+-- they do where one is the other in another order, and where two tickets with the same play are joined into one
+abbrev pub OrderAndJoiningKeepMix : Type 0
+OrderAndJoiningKeepMix =
+    ((k other : List Ticket) → IsPermutation k other → AreOneMix k other)
+    × ((x y : Ticket) (k : List Ticket) → x.play.code ≡ y.play.code → AreOneMix (x ∷ y ∷ k) (record x { weight = x.weight +ℤ y.weight } ∷ k))
+
+-- two lists that give each play the same weight have the same sums, value and optimality
+abbrev pub SameMixKeeps : Type 0
+SameMixKeeps = (g : Game) (k other : List Ticket) → AreOneMix k other
+    → (weight_total k ≡ weight_total other)
+    × ((t : ℕ) → cover_count g k t ≡ cover_count g other t)
+    × ((l a : ℕ) → (sum_d g k l a ≡ sum_d g other l a) × (sum_a g k l a ≡ sum_a g other l a))
+    × (worth g k ≡ worth g other)
+    × ((num den : ℤ) → IsValue g k num den ↔ IsValue g other num den)
+    × (IsOptimal g k ↔ IsOptimal g other)

@@ -29,6 +29,12 @@ LevelIsLeast = (g : Game) (patrols : ℕ) → IsOrigami g patrols → (num den :
     → (k : List Ticket) → IsCommitment g k → AreLevelTickets g num den k
     → (t : ℕ) → 1 ≤ t → t ≤ length g.goals → (sum_a g k 1 t *ℤ den) ≤ℤ (num *ℤ weight_total k)
 
+-- and no water-level fact says more than the level of such a commitment
+abbrev pub NoLevelIsAbove : Type 0
+NoLevelIsAbove = (g : Game) (patrols : ℕ) → IsOrigami g patrols → (num den : ℤ) (why : Level) → IsWater g patrols num den why
+    → (k : List Ticket) → IsCommitment g k → AreLevelTickets g num den k
+    → (a b : ℤ) (reason : Level) → IsWater g patrols a b reason → (a *ℤ den) ≤ℤ (num *ℤ b)
+
 -- the attacker's best answers to it are just the targets of the level, each of which pays the level
 abbrev pub LevelIsBest : Type 0
 LevelIsBest = (g : Game) (patrols : ℕ) → IsOrigami g patrols → (num den : ℤ) (why : Level) → IsWater g patrols num den why

@@ -1,5 +1,5 @@
 -- What plays cover, and what covering pays.
-use Rattle.std.specs.Prelude.{◌≡◌, ◌↔◌, ℕ, ◌≤◌, true, List, length, ℤ, pos, ◌*ℤ◌, ◌≤ℤ◌, Contains, Some}
+use Rattle.std.specs.Prelude.{◌≡◌, ◌↔◌, ℕ, ◌≤◌, true, List, length, pos, ◌*ℤ◌, ◌≤ℤ◌, Contains, Some}
 use Rattle.sg_model.specs.declared.kind.Kind.TheVariants.{Security}
 use Rattle.sg_model.specs.declared.ticket.Ticket.{Ticket}
 use Rattle.sg_model.specs.Sums.{total, numbers}

@@ -1,7 +1,10 @@
 //! Laws about what a game file promises, each as the contract of a function that does nothing.
 
 ghost use Rattle.sg_model.specs.GameLaws.{
-    GameIsPeopled, GameIsSmall, PayoffsAreInRange, ScaleMeansOrigami,
+  GameIsPeopled,
+  GameIsSmall,
+  PayoffsAreInRange,
+  ScaleMeansOrigami,
 };
 
 /// There is a type of attacker, each type has an action, and each prior is at least 1.

@@ -1,7 +1,13 @@
 //! Laws about values, upper bounds and optimal commitments, each as the contract of a function that does nothing.
 
 ghost use Rattle.sg_model.specs.OptimalityLaws.{
-    BoundIsAbove, OptimalIsBound, OptimalIsLeastBound, OptimalValueIsOne, ScalingKeeps,
+  BoundIsAbove,
+  OptimalIsBound,
+  OptimalIsLeastBound,
+  OptimalValueIsOne,
+  OrderAndJoiningKeepMix,
+  SameMixKeeps,
+  ScalingKeeps,
 };
 
 /// An upper bound is at least the value of every commitment.
@@ -27,4 +33,14 @@ pub fn optimal_is_least_bound()
 /// Multiplying all weights by one number of at least 1 keeps the value, and what is optimal.
 pub fn scaling_keeps()
     ensures { ScalingKeeps }
+{}
+
+/// Tickets in another order, or with two of the same play joined into one, give each play the same weight in all.
+pub fn order_and_joining_keep_mix()
+    ensures { OrderAndJoiningKeepMix }
+{}
+
+/// Tickets that give each play the same weight in all have the same sums, value and optimality.
+pub fn same_mix_keeps()
+    ensures { SameMixKeeps }
 {}

@@ -5,6 +5,7 @@ ghost use Rattle.sg_model.specs.OrigamiLaws.{
   LevelIsLeast,
   LevelIsReached,
   LevelTicketsAreOptimal,
+  NoLevelIsAbove,
   WaterBounds,
 };
 
@@ -26,6 +27,11 @@ pub fn level_tickets_are_optimal()
 /// Such tickets leave the attacker no more than the level, so the level is the least that any commitment leaves.
 pub fn level_is_least()
     ensures { LevelIsLeast }
+{}
+
+/// No water-level fact says more than the level of such tickets.
+pub fn no_level_is_above()
+    ensures { NoLevelIsAbove }
 {}
 
 /// The best answers to such tickets are just the targets of the level.

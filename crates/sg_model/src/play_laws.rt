@@ -1,7 +1,11 @@
 //! Laws about plays, each as the contract of a function that does nothing.
 
 ghost use Rattle.sg_model.specs.PlayLaws.{
-    CoversAreFew, CoversWhereHeld, HeldPaysCovered, PatrolsCoverChoices, SameCoverPaysSame,
+  CoversAreFew,
+  CoversWhereHeld,
+  HeldPaysCovered,
+  PatrolsCoverChoices,
+  SameCoverPaysSame,
 };
 
 /// A play covers a target just where a schedule that is taken holds it.

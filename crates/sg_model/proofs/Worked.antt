@@ -1,0 +1,294 @@
+-- The worked examples, by computing.
+use Rattle.std.proofs.Common.{◌≡◌, ℕ, zero, suc, ◌+◌, ◌≤◌, ◌^◌, Bool, true, false, cond, List, [], ◌∷◌, length, map, ℤ, pos, ◌-ℤ◌, ◌*ℤ◌, ◌≤ℤ◌, refl, arith, nat_le, int_le, codes}
+use Rattle.std.specs.List.{All, list_all}
+use Rattle.std.proofs.lemmas.Int.{ints}
+use Rattle.std.proofs.lemmas.List.{length-map}
+use Rattle.std.proofs.lemmas.List.Elements.{All-nil, All-cons}
+use Rattle.sg_model.specs.declared.level.Level.{Level}
+use Rattle.sg_model.specs.declared.level.Level.TheVariants.{Resources, Target}
+use Rattle.sg_model.specs.declared.ticket.Ticket.{Ticket}
+use Rattle.sg_model.specs.Sums.{numbers}
+use Rattle.sg_model.specs.Games.{Attacker, Game, Payoff, nothing}
+use Rattle.sg_model.specs.Plays.{IsLegalJoint}
+use Rattle.sg_model.specs.Optimality.{IsOptimal}
+use Rattle.sg_model.specs.Commitments.{IsValue, cover_count, weight_total}
+use Rattle.sg_model.specs.Origami.{AreLevelTickets, IsOrigami, IsScaled, IsWater, count_at}
+use Rattle.sg_model.specs.Names.{is_name}
+use Rattle.sg_model.specs.Limits.{IsGame, IsMatrixType, IsPayoff, IsSecurityType, is_scaled, program_rows}
+use Rattle.sg_model.specs.Examples.{AreRefused, IsSolved, IsWorth, WorkedExamples, always_first, four_targets, four_tickets, guarded, held_down, idle, in_a_row, leads, letters, minus, named_from, neighbour_tickets, neighbours, one_player, pairs, patrolled, pays, plain, player, row_mix, row_tickets, tabled, thief, three_targets, ticket, two_payoffs, two_players, two_targets, two_tickets, unpatrolled, well_patrolled}
+use Rattle.sg_model.proofs.Deciding.{all_pass, at_most, at_most_z, commitment_by, commitment_test, count_by, count_test, lists_by, lists_test, names_by, names_test, payoff_by, payoff_test, range_by, scaled_by, scaled_test, table_by, table_test}
+use Rattle.sg_model.proofs.Numbers.{length-numbers_from}
+use Rattle.sg_model.proofs.Promises.{nth-all}
+use Rattle.sg_model.proofs.Tickets.{tickets-optimal}
+
+length-letters : (n : ℕ) → length (letters n) ≡ n
+length-letters n = omega (arith, length-map (numbers n) (λ i. (96 + i) ∷ []), length-numbers_from 1 n)
+
+at_most-either : (b : Bool) (k x y : ℕ) → k ≤ x → k ≤ y → k ≤ cond b x y
+at_most-either true k x y p q = p
+at_most-either false k x y p q = q
+
+thief-type : (payoffs : List Payoff) → list_all payoff_test payoffs ≡ true → IsSecurityType (length (letters (length payoffs))) (thief payoffs)
+thief-type payoffs in_range = record {
+  prior = range_by (pos 1) (pos (2 ^ 20)) (pos 1) refl;
+  one_each = omega (arith, length-letters (length payoffs));
+  pays = all_pass IsPayoff payoff_test payoff_by payoffs in_range;
+  no_actions = refl;
+  no_leader = refl;
+  no_follower = refl;
+}
+
+-- what is asked of a game of identical patrols
+abbrev PatrolledTest : ℕ → ℤ → List Payoff → Type 0
+PatrolledTest patrols scale payoffs =
+    (names_test (letters (length payoffs)) ≡ true)
+    × (count_test 1 200 (length payoffs) ≡ true)
+    × (nat_le patrols 32 ≡ true)
+    × (int_le (pos 1) scale ≡ true)
+    × (int_le scale (pos (2 ^ 32)) ≡ true)
+    × (list_all payoff_test payoffs ≡ true)
+    × (list_all (scaled_test scale) payoffs ≡ true)
+
+patrolled-game : (patrols : ℕ) (scale : ℤ) (payoffs : List Payoff) → PatrolledTest patrols scale payoffs → IsGame (patrolled patrols scale payoffs)
+unfolding is_name
+patrolled-game patrols scale payoffs (names, count, few, low, high, in_range, fits) =
+    let g = patrolled patrols scale payoffs in
+    let counted = count_by 1 200 (length payoffs) count in
+    let positive : pos 1 ≤ℤ scale = at_most_z low in
+    let patrols_few : patrols ≤ 32 = at_most few in
+    let is_count : length (letters (length payoffs)) ≡ length payoffs = length-letters (length payoffs) in
+    record {
+      targets = names_by (letters (length payoffs)) names;
+      target_count = record {
+        at_least = omega (arith, counted.at_least, is_count);
+        at_most = at_most-either (is_scaled g) (length (letters (length payoffs))) 10000 200 (omega (arith, counted.at_most, is_count)) (omega (arith, counted.at_most, is_count));
+      };
+      scale_range = record { at_least = omega (arith, ints, positive); at_most = at_most_z high };
+      defended = record { few = at_most-either (is_scaled g) patrols 200 32 (omega (arith, patrols_few)) patrols_few; no_schedules = refl; no_resources = refl };
+      types = record { count = count_by 1 8 1 refl; names = names_by ((thief payoffs).name ∷ []) refl };
+      each_type = All-cons (IsSecurityType (length (letters (length payoffs)))) (thief payoffs) [] (thief-type payoffs in_range) (All-nil (IsSecurityType (length (letters (length payoffs)))));
+      few_rows = λ none. absurd (omega (arith, ints, positive, none));
+      scaled = λ _. record {
+        identical = λ e. cc;
+        one_type = refl;
+        prior_one = All-cons (λ (x : Attacker). x.prior ≡ pos 1) (thief payoffs) [] refl (All-nil (λ (x : Attacker). x.prior ≡ pos 1));
+        targets = All-cons (λ (x : Attacker). All (IsScaled scale) x.payoffs) (thief payoffs) [] (all_pass (IsScaled scale) (scaled_test scale) (scaled_by scale) payoffs fits) (All-nil (λ (x : Attacker). All (IsScaled scale) x.payoffs));
+      };
+    }
+
+patrolled-origami : (patrols : ℕ) (scale : ℤ) (payoffs : List Payoff) → PatrolledTest patrols scale payoffs → IsOrigami (patrolled patrols scale payoffs) patrols
+patrolled-origami patrols scale payoffs (names, count, few, low, high, in_range, fits) = record {
+  security = refl;
+  identical = refl;
+  scaled = at_most_z low;
+  one_type = refl;
+  prior_one = refl;
+  targets = λ t from_one in_list.
+      nth-all (IsScaled scale) payoffs nothing (all_pass (IsScaled scale) (scaled_test scale) (scaled_by scale) payoffs fits) t from_one
+      (omega (arith, in_list, length-letters (length payoffs)));
+}
+
+-- a solved game of identical patrols
+solved : (patrols : ℕ) (scale : ℤ) (payoffs : List Payoff) → PatrolledTest patrols scale payoffs → (num den : ℤ) (why : Level) → IsWater (patrolled patrols scale payoffs) patrols num den why
+    → (k : List Ticket) → commitment_test (patrolled patrols scale payoffs) k ≡ true → AreLevelTickets (patrolled patrols scale payoffs) num den k
+    → (a b : ℤ) → IsValue (patrolled patrols scale payoffs) k a b → IsSolved (patrolled patrols scale payoffs) patrols num den why k a b
+solved patrols scale payoffs test num den why w k tested tickets a b is =
+    let g = patrolled patrols scale payoffs in
+    let o = patrolled-origami patrols scale payoffs test in
+    let is_k = commitment_by g k tested in
+    record {
+      worth = record { game = patrolled-game patrols scale payoffs test; commitment = is_k; value = is };
+      origami = o;
+      level = w;
+      tickets = tickets;
+      optimal = tickets-optimal g patrols o num den w.positive k is_k tickets why w;
+    }
+
+-- what is asked of a game of resources with schedules
+abbrev GuardedTest : List (List ℕ) → List (List ℕ) → List Payoff → Type 0
+GuardedTest schedules resources payoffs =
+    (names_test (letters (length payoffs)) ≡ true)
+    × (count_test 1 200 (length payoffs) ≡ true)
+    × (lists_test (length payoffs) 500 200 (named_from 1 schedules) ≡ true)
+    × (lists_test (length (named_from 1 schedules)) 32 500 (named_from 1 resources) ≡ true)
+    × (nat_le (program_rows (guarded schedules resources payoffs)) 1536 ≡ true)
+    × (list_all payoff_test payoffs ≡ true)
+
+guarded-game : (schedules resources : List (List ℕ)) (payoffs : List Payoff) → GuardedTest schedules resources payoffs → IsGame (guarded schedules resources payoffs)
+unfolding is_name
+guarded-game schedules resources payoffs (names, count, is_schedules, is_resources, few, in_range) =
+    let g = guarded schedules resources payoffs in
+    let counted = count_by 1 200 (length payoffs) count in
+    let is_count : length (letters (length payoffs)) ≡ length payoffs = length-letters (length payoffs) in
+    record {
+      targets = names_by (letters (length payoffs)) names;
+      target_count = record { at_least = omega (arith, counted.at_least, is_count); at_most = omega (arith, counted.at_most, is_count) };
+      scale_range = record { at_least = omega (arith, ints); at_most = omega (arith, ints) };
+      defended = record {
+        schedules = rw is_count (lists_by (length payoffs) 500 200 (named_from 1 schedules) is_schedules);
+        resources = lists_by (length (named_from 1 schedules)) 32 500 (named_from 1 resources) is_resources;
+      };
+      types = record { count = count_by 1 8 1 refl; names = names_by ((thief payoffs).name ∷ []) refl };
+      each_type = All-cons (IsSecurityType (length (letters (length payoffs)))) (thief payoffs) [] (thief-type payoffs in_range) (All-nil (IsSecurityType (length (letters (length payoffs)))));
+      few_rows = λ _. at_most few;
+      scaled = λ positive. absurd (omega (arith, ints, positive));
+    }
+
+guarded-worth : (schedules resources : List (List ℕ)) (payoffs : List Payoff) → GuardedTest schedules resources payoffs
+    → (k : List Ticket) → commitment_test (guarded schedules resources payoffs) k ≡ true
+    → (a b : ℤ) → IsValue (guarded schedules resources payoffs) k a b → IsWorth (guarded schedules resources payoffs) k a b
+guarded-worth schedules resources payoffs test k tested a b is =
+    record { game = guarded-game schedules resources payoffs test; commitment = commitment_by (guarded schedules resources payoffs) k tested; value = is }
+
+player-type : (name : List ℕ) (leader follower : List (List ℤ)) → table_test 2 2 leader ≡ true → table_test 2 2 follower ≡ true → IsMatrixType 2 (player name leader follower)
+unfolding is_name
+player-type name leader follower leads follows = record {
+  prior = range_by (pos 1) (pos (2 ^ 20)) (pos 1) refl;
+  no_payoffs = refl;
+  action_count = count_by 1 64 2 refl;
+  action_names = names_by (letters 2) refl;
+  leader = table_by 2 2 leader leads;
+  follower = table_by 2 2 follower follows;
+}
+
+tabled-game : (types : List Attacker) → count_test 1 8 (length types) ≡ true → names_test (map (λ (x : Attacker). x.name) types) ≡ true
+    → All (IsMatrixType 2) types → nat_le (program_rows (tabled types)) 1536 ≡ true → IsGame (tabled types)
+unfolding is_name
+tabled-game types count names each few = record {
+  rows = names_by (letters 2) refl;
+  row_count = count_by 1 4096 2 refl;
+  no_scale = refl;
+  no_patrols = refl;
+  no_schedules = refl;
+  no_resources = refl;
+  types = record { count = count_by 1 8 (length types) count; names = names_by (map (λ (x : Attacker). x.name) types) names };
+  each_type = each;
+  few_rows = at_most few;
+}
+
+-- a place of the targets up to two or three
+upto_two : (P : ℕ → Type 0) → P 1 → P 2 → (t : ℕ) → 1 ≤ t → t ≤ 2 → P t
+upto_two P one two zero low high = absurd (omega (arith, low))
+upto_two P one two (suc zero) low high = one
+upto_two P one two (suc (suc zero)) low high = two
+upto_two P one two (suc (suc (suc t))) low high = absurd (omega (arith, high))
+
+upto_three : (P : ℕ → Type 0) → P 1 → P 2 → P 3 → (t : ℕ) → 1 ≤ t → t ≤ 3 → P t
+upto_three P one two three zero low high = absurd (omega (arith, low))
+upto_three P one two three (suc zero) low high = one
+upto_three P one two three (suc (suc zero)) low high = two
+upto_three P one two three (suc (suc (suc zero))) low high = three
+upto_three P one two three (suc (suc (suc (suc t)))) low high = absurd (omega (arith, high))
+
+abbrev InShare : Game → ℤ → ℤ → List Ticket → ℕ → Type 0
+InShare g num den k t = cover_count g k t *ℤ (den *ℤ g.scale) ≡ count_at g num den t *ℤ weight_total k
+
+one_patrol : IsSolved two_targets 1 (pos 4) (pos 3) Resources two_tickets (pos 2) (pos 3)
+unfolding is_name
+one_patrol =
+    solved 1 (pos 4) two_payoffs (refl, refl, refl, refl, refl, refl, refl) (pos 4) (pos 3) Resources (record { positive = at_most_z refl; level = record { some = λ e. cc; sum = refl } })
+    two_tickets refl (upto_two (InShare two_targets (pos 4) (pos 3) two_tickets) refl refl) (pos 2) (pos 3) (record { positive = at_most_z refl; same = refl })
+
+no_patrol : IsSolved unpatrolled 0 (pos 4) (pos 1) Resources idle (minus 2) (pos 1)
+unfolding is_name
+no_patrol =
+    solved 0 (pos 4) two_payoffs (refl, refl, refl, refl, refl, refl, refl) (pos 4) (pos 1) Resources (record { positive = at_most_z refl; level = record { some = λ e. cc; sum = refl } })
+    idle refl (upto_two (InShare unpatrolled (pos 4) (pos 1) idle) refl refl) (minus 2) (pos 1) (record { positive = at_most_z refl; same = refl })
+
+two_patrols : IsSolved three_targets 2 (pos 1) (pos 3) Resources pairs (minus 1) (pos 3)
+unfolding is_name
+two_patrols =
+    solved 2 (pos 1) (plain ∷ plain ∷ plain ∷ []) (refl, refl, refl, refl, refl, refl, refl) (pos 1) (pos 3) Resources (record { positive = at_most_z refl; level = record { some = λ e. cc; sum = refl } })
+    pairs refl (upto_three (InShare three_targets (pos 1) (pos 3) pairs) refl refl refl) (minus 1) (pos 3) (record { positive = at_most_z refl; same = refl })
+
+three_patrols : IsSolved well_patrolled 3 (pos 1) (pos 1) (Target 2) held_down (pos 1) (pos 1)
+unfolding is_name
+three_patrols =
+    solved 3 (pos 4) (pays (pos 2) (minus 2) (pos 0) (pos 4) ∷ pays (pos 1) (minus 1) (pos 1) (pos 2) ∷ []) (refl, refl, refl, refl, refl, refl, refl) (pos 1) (pos 1) (Target 2)
+    (record { positive = at_most_z refl; level = record { from_one = at_most refl; in_range = at_most refl; pays = refl } })
+    held_down refl (upto_two (InShare well_patrolled (pos 1) (pos 1) held_down) refl refl) (pos 1) (pos 1) (record { positive = at_most_z refl; same = refl })
+
+two_resources : IsWorth four_targets four_tickets (minus 1) (pos 4)
+unfolding is_name
+two_resources =
+    guarded-worth ((1 ∷ 2 ∷ []) ∷ (3 ∷ 4 ∷ []) ∷ (1 ∷ 3 ∷ []) ∷ (2 ∷ 4 ∷ []) ∷ []) ((1 ∷ 2 ∷ []) ∷ (3 ∷ 4 ∷ []) ∷ []) (plain ∷ plain ∷ plain ∷ plain ∷ []) (refl, refl, refl, refl, refl, refl)
+    four_tickets refl (minus 1) (pos 4) (record { positive = at_most_z refl; same = refl })
+
+one_shared : IsWorth neighbours neighbour_tickets (minus 1) (pos 3)
+unfolding is_name
+one_shared =
+    guarded-worth ((1 ∷ []) ∷ (2 ∷ []) ∷ (3 ∷ []) ∷ []) ((1 ∷ 2 ∷ []) ∷ (2 ∷ 3 ∷ []) ∷ []) (plain ∷ plain ∷ plain ∷ []) (refl, refl, refl, refl, refl, refl)
+    neighbour_tickets refl (minus 1) (pos 3) (record { positive = at_most_z refl; same = refl })
+
+one_resource : IsWorth in_a_row row_tickets (minus 1) (pos 2)
+unfolding is_name
+one_resource =
+    guarded-worth ((1 ∷ 2 ∷ []) ∷ (2 ∷ 3 ∷ []) ∷ []) ((1 ∷ 2 ∷ []) ∷ []) (plain ∷ plain ∷ plain ∷ []) (refl, refl, refl, refl, refl, refl)
+    row_tickets refl (minus 1) (pos 2) (record { positive = at_most_z refl; same = refl })
+
+first : Attacker
+first = player (codes "first") leads ((pos 1 ∷ pos 0 ∷ []) ∷ (pos 0 ∷ pos 2 ∷ []) ∷ [])
+
+second : Attacker
+second = player (codes "second") leads ((pos 0 ∷ pos 1 ∷ []) ∷ (pos 2 ∷ pos 0 ∷ []) ∷ [])
+
+first-type : IsMatrixType 2 first
+unfolding first
+first-type = player-type (codes "first") leads ((pos 1 ∷ pos 0 ∷ []) ∷ (pos 0 ∷ pos 2 ∷ []) ∷ []) refl refl
+
+second-type : IsMatrixType 2 second
+unfolding second
+second-type = player-type (codes "second") leads ((pos 0 ∷ pos 1 ∷ []) ∷ (pos 2 ∷ pos 0 ∷ []) ∷ []) refl refl
+
+one_type : IsWorth one_player row_mix (pos 11) (pos 3)
+unfolding is_name first
+one_type = record {
+  game = tabled-game (first ∷ []) refl refl (All-cons (IsMatrixType 2) first [] first-type (All-nil (IsMatrixType 2))) refl;
+  commitment = commitment_by one_player row_mix refl;
+  value = record { positive = at_most_z refl; same = refl };
+}
+
+two_types : IsWorth two_players row_mix (pos 11) (pos 3)
+unfolding is_name first second
+two_types = record {
+  game = tabled-game (first ∷ second ∷ []) refl refl (All-cons (IsMatrixType 2) first (second ∷ []) first-type (All-cons (IsMatrixType 2) second [] second-type (All-nil (IsMatrixType 2)))) refl;
+  commitment = commitment_by two_players row_mix refl;
+  value = record { positive = at_most_z refl; same = refl };
+}
+
+refused : AreRefused
+refused = record {
+  empty = λ is. is.some refl;
+  weightless = λ is. let h : pos 1 ≤ℤ pos 0 = is.positive 0 (ticket 0 []) (at_most refl) in omega (arith, ints, h);
+  repeated = λ is. is.distinct 0 1 (ticket 0 []) (at_most refl) (at_most refl) refl;
+  past_the_list = λ is. let h : IsLegalJoint two_targets (3 ∷ []) = is.legal 0 (ticket 0 []) (at_most refl) in let low : 3 ≤ 2 = h.in_list 0 (at_most refl) in omega (arith, low);
+  too_many = λ is. let h : IsLegalJoint two_targets (1 ∷ 2 ∷ []) = is.legal 0 (ticket 0 []) (at_most refl) in let e : 2 ≡ 1 = h.one_each in omega (arith, e);
+}
+
+poor : IsWorth two_targets always_first (minus 1) (pos 1)
+poor = record { game = one_patrol.worth.game; commitment = commitment_by two_targets always_first refl; value = record { positive = at_most_z refl; same = refl } }
+
+-- worth 2 on three tickets is more than worth -1 on one
+not_optimal : IsOptimal two_targets always_first → ⊥
+not_optimal best = let h : pos 2 ≤ℤ (pos 0 -ℤ pos 3) = best two_tickets one_patrol.worth.commitment in omega (arith, ints, h)
+
+pub worked : WorkedExamples
+worked = record {
+  one_patrol = one_patrol;
+  no_patrol = no_patrol;
+  two_patrols = two_patrols;
+  three_patrols = three_patrols;
+  two_resources = two_resources;
+  one_shared = one_shared;
+  one_resource = one_resource;
+  on_both_tickets = refl;
+  one_type = one_type;
+  tie = record { first = refl; second = refl; less = refl; more = refl };
+  two_types = two_types;
+  more_than_once = refl;
+  bound = refl;
+  two_worth = refl;
+  refused = refused;
+  poor = poor;
+  not_optimal = not_optimal;
+}
