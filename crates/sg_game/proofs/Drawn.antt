@@ -68,12 +68,12 @@ module _ (p : Parts) (own : HasOwnFields p) (h : AreFielded p) where
       by_kind Security e = λ i d lt.
           let x : TypeParts = get_or p.types.items i d in
           let t = security_from (length p.goals.items) (prior_limit (is_some p.scale)) x (prior_limit-le (is_some p.scale))
-              (subst (λ (k : Kind). IsTyped k (prior_limit (is_some p.scale)) (length p.goals.items) x) e (h.types i d lt)) (own.security e i d lt) in
+          (subst (λ (k : Kind). IsTyped k (prior_limit (is_some p.scale)) (length p.goals.items) x) e (h.types i d lt)) (own.security e i d lt) in
           record { actions = omega (arith, ap length t.no_actions); payoffs = t.pays }
       by_kind Matrix e = λ i d lt.
           let x : TypeParts = get_or p.types.items i d in
           let t = matrix_from (length p.goals.items) (prior_limit (is_some p.scale)) x (prior_limit-le (is_some p.scale))
-              (subst (λ (k : Kind). IsTyped k (prior_limit (is_some p.scale)) (length p.goals.items) x) e (h.types i d lt)) ((own.matrix e).payoffs i d lt) in
+          (subst (λ (k : Kind). IsTyped k (prior_limit (is_some p.scale)) (length p.goals.items) x) e (h.types i d lt)) ((own.matrix e).payoffs i d lt) in
           record { actions = t.action_count.at_most; payoffs = rw t.no_payoffs (λ j q within. absurd (omega arith)) }
 
   pub small : IsSmall (game_of p)

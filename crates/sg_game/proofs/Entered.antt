@@ -42,11 +42,11 @@ module _ {X : Type 0} (name : X → List ℕ) (rest : Place → X → Option Gam
       let spelled : is_name (name x) ≡ true = All-head (λ (n : List ℕ). is_name n ≡ true) (name x) (map name xs) h.spelled in
       let new : stands bytes_eq before (name x) ≡ false = All-head (λ (n : List ℕ). stands bytes_eq before n ≡ false) (name x) (map name xs) h.fresh.new in
       let tail : AreEntered name P (before ++ name x ∷ []) xs =
-          record {
-            spelled = All-tail (λ (n : List ℕ). is_name n ≡ true) (name x) (map name xs) h.spelled;
-            fresh = fresh_tail bytes_eq bytes_eq-Decides before (name x) (map name xs) h.fresh;
-            each = All-tail P x xs h.each;
-          } in
+      record {
+        spelled = All-tail (λ (n : List ℕ). is_name n ≡ true) (name x) (map name xs) h.spelled;
+        fresh = fresh_tail bytes_eq bytes_eq-Decides before (name x) (map name xs) h.fresh;
+        each = All-tail P x xs h.each;
+      } in
       both (name_fault before here (name x) orelse rest here x) (entries_fault name rest place (before ++ name x ∷ []) xs)
       (both (name_fault before here (name x)) (rest here x)
       (both (unless (is_name (name x)) 9 here) (unless (not (stands bytes_eq before (name x))) 8 here)

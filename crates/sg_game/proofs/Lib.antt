@@ -9,3 +9,5 @@ pub mod Fielded
 pub mod Told
 pub mod Sound
 pub mod Drawn
+pub mod Spreads
+pub mod Choices

@@ -71,8 +71,8 @@ is-table m n lists h =
     let each = All-unmap (λ (row : List ℤ). All IsPay row) (λ (v : Vec ℤ Global). v.items) lists h.pays in
     and_from (nat_eq (length lists) m) (list_all (row_passes n) lists) (eq-eqb (length lists) m (sym (length-map lists (λ (v : Vec ℤ Global). v.items)) ∙ h.rows))
     (list_all-from_AllPass (row_passes n) lists (λ i d lt.
-      and_from (nat_eq (length (get_or lists i d).items) n) (list_all is_pay (get_or lists i d).items)
-      (eq-eqb (length (get_or lists i d).items) n (columns i d lt)) (are-pays (get_or lists i d).items (each i d lt))))
+    and_from (nat_eq (length (get_or lists i d).items) n) (list_all is_pay (get_or lists i d).items)
+    (eq-eqb (length (get_or lists i d).items) n (columns i d lt)) (are-pays (get_or lists i d).items (each i d lt))))
 
 -- names
 

@@ -133,4 +133,4 @@ acts g h l at =
     by_form g (Acts g l) h
     (λ e s. let n : action_count g l ≡ length g.goals = rw (is_security g e) refl in record { some = omega (arith, n, goals_some g h); few = omega (arith, n, goals_few g h) })
     (λ e m. let n : action_count g l ≡ length (attacker g l).actions = rw (is_a_matrix g e) refl in
-        let t = matrix_type g h e l at in record { some = omega (arith, n, t.action_count.at_least); few = omega (arith, n, t.action_count.at_most) })
+    let t = matrix_type g h e l at in record { some = omega (arith, n, t.action_count.at_least); few = omega (arith, n, t.action_count.at_most) })

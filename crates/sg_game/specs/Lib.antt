@@ -6,3 +6,5 @@ pub mod Building
 pub mod Entries
 pub mod Converting
 pub mod Drafts
+pub mod Counting
+pub mod Spreads

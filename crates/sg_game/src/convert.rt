@@ -126,10 +126,7 @@ fn named_from(alloc: Global, x: ListParts) -> Result<Named, AllocError>
 }
 
 /// Schedules or resources of their parts.
-pub(crate) fn lists_from(
-    alloc: Global,
-    lists: Vec<ListParts>,
-) -> Result<Items<Named>, AllocError>
+pub(crate) fn lists_from(alloc: Global, lists: Vec<ListParts>) -> Result<Items<Named>, AllocError>
     requires { All (λ x. FitAll x.members.items) lists.items }
     ensures { IfOk result (λ named. named ≡ map named_of lists.items) }
 {
@@ -174,10 +171,7 @@ fn names_to(alloc: Global, n: u16) -> Result<Items<Name>, AllocError>
 }
 
 /// The names of the patrols, where there are any.
-pub(crate) fn patrols_named(
-    alloc: Global,
-    patrols: Option<u16>,
-) -> Result<Items<Name>, AllocError>
+pub(crate) fn patrols_named(alloc: Global, patrols: Option<u16>) -> Result<Items<Name>, AllocError>
     requires { IsBelow (2 ^ 15) patrols }
     ensures { IfOk result (λ names. names ≡ patrol_names patrols) }
 {

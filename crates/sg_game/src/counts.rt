@@ -1,5 +1,5 @@
-ghost use Rattle.std.specs.Prelude.{◌≡◌, ◌≤◌, length, ℤ, pos, ◌≤ℤ◌, ◌^◌};
-ghost use Rattle.sg_model.specs.Games.{action_count, attacker, resource_count, schedule_count};
+ghost use Rattle.std.specs.Prelude.{◌≡◌, ◌≤◌, length, true, false, ℤ, pos, ◌≤ℤ◌, ◌^◌};
+ghost use Rattle.sg_model.specs.Games.{action_count, attacker, is_matrix, resource_count, schedule_count};
 ghost use Rattle.sg_model.specs.Limits.{IsGame};
 ghost use Rattle.sg_game.specs.Counts.{IsTypeOf, row_count, target_count};
 
@@ -38,6 +38,7 @@ impl Game {
     /// The number of targets, and 0 in matrix form.
     pub fn targets(&self) -> u16
         ensures count { result ≡ target_count self.now }
+        ensures some { is_matrix self.now ≡ false → 1 ≤ result }
         ensures few { result ≤ 10000 }
     {
         match self.kind {
@@ -49,6 +50,7 @@ impl Game {
     /// The number of rows, and 0 in security form.
     pub fn rows(&self) -> u16
         ensures count { result ≡ row_count self.now }
+        ensures some { is_matrix self.now ≡ true → 1 ≤ result }
         ensures few { result ≤ 4096 }
     {
         match self.kind {

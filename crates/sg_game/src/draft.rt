@@ -146,12 +146,7 @@ fn more_actions(types: &[Attacker]) -> usize
 }
 
 /// The rows of the largest linear program.
-pub(crate) fn rows_of(
-    kind: Kind,
-    resources: usize,
-    goals: usize,
-    types: &[Attacker],
-) -> usize
+pub(crate) fn rows_of(kind: Kind, resources: usize, goals: usize, types: &[Attacker]) -> usize
     requires few_resources { resources ≤ 200 }
     requires few_goals { goals ≤ 10000 }
     requires few_types { length types.now ≤ 8 }

@@ -3,6 +3,7 @@
 
 mod build;
 mod convert;
+mod counting;
 mod counts;
 mod draft;
 mod entries;
@@ -14,10 +15,16 @@ mod lists;
 mod names;
 mod parts;
 mod play;
+mod spread;
 
+pub use counting::{is_single, least_play, plays_count, program_rows};
 pub use fault::BuildFault;
 pub use game::Game;
 pub use laws::no_fault_is_a_game;
 pub use parts::{ListParts, Parts, TypeParts};
 pub use play::{covers, is_origami, legal, pay_a, pay_d, prior_total};
 pub use sg_model::{GameFault, Kind, Level, Place, Play};
+pub use spread::{greatest, shift};
+
+#[cfg(test)]
+mod tests;
