@@ -1,5 +1,5 @@
 -- The counts of a level, over their greatest common divisor, are the coverage that it asks.
-use Rattle.std.proofs.Common.{◌≡◌, ℕ, zero, suc, ◌-◌, ◌*◌, ◌/◌, ◌<◌, ◌≤◌, ◌^◌, Bool, true, false, cond, List, [], ◌∷◌, length, map, sym, ◌∙◌, ap, subst, refl, arith, get_or}
+use Rattle.std.proofs.Common.{◌≡◌, ℕ, zero, suc, ◌-◌, ◌*◌, ◌/◌, ◌<◌, ◌≤◌, ◌^◌, Bool, true, false, cond, List, length, map, sym, ◌∙◌, ap, subst, refl, arith, get_or}
 use Rattle.std.specs.Prelude.{ℤ, pos, negsuc, ◌-ℤ◌, ◌*ℤ◌, ◌≤ℤ◌, int_div, int_le, unsigned_abs}
 use Rattle.std.specs.Int.{◌∣◌}
 use Rattle.std.specs.List.{All}
@@ -22,6 +22,7 @@ use Rattle.sg_origami.specs.Rates.{IsFillable, IsReachable, IsCountDivisor, mult
 use Rattle.sg_origami.proofs.Bounds.{Within, within_product}
 use Rattle.sg_origami.proofs.Counts.{count_bounds, counts_few}
 use Rattle.sg_origami.proofs.Lowest.{within_factor}
+use Rattle.sg_origami.proofs.Rated.{total-map}
 
 -- counts and tickets over one number
 pub record AreOver (g : Game) (num den : ℤ) (d : ℕ) (tickets : ℤ) (count : ℕ → ℤ) : Type 0 where
@@ -155,10 +156,6 @@ lowest_over g num den d i tickets count o e p q =
     let more : e * d ∣ d = i.greatest (e * d) (times_over tickets (g.scale *ℤ den) e d o.whole p) (λ t low high. times_over (count t) (count_at g num den t) e d (o.each t low high) (q t low high)) in
     let one : d ≡ 1 * d = omega arith in
     eq-one_of_dvd-one (dvd_of_mul-dvd-mul_right {k = d} e {n = 1} (omega arith) (subst (λ (k : ℕ). e * d ∣ k) one more))
-
-total-map : {X Y : Type 0} (f : Y → ℤ) (h : X → Y) (xs : List X) → total f (map h xs) ≡ total (λ x. f (h x)) xs
-total-map f h [] = refl
-total-map f h (x ∷ xs) = omega (arith, ints, total-map f h xs)
 
 -- the counts as a list
 counts_at : (g : Game) (count : ℕ → ℤ) (t : ℕ) → 1 ≤ t → t ≤ length g.goals → nth (map count (numbers (length g.goals))) t (pos 0) ≡ count t

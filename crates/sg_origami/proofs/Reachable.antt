@@ -11,7 +11,7 @@ use Rattle.sg_model.proofs.Ints.{v, n, less, times, same_by, le_by, le_from, mul
 use Rattle.sg_model.proofs.Sums.{total-le, total-scaled}
 use Rattle.sg_origami.specs.Rates.{IsFillable, IsFirstMost, IsReachable, multiple}
 use Rattle.sg_origami.proofs.Rise.{Heavy, high, need, most_needed}
-use Rattle.sg_origami.proofs.Lags.{au, heavy}
+use Rattle.sg_origami.proofs.Rated.{au, heavy}
 
 pub reachable_spent : (g : Game) (patrols : ℕ) (num den : ℤ) → SpendsAll g patrols num den → pos 1 ≤ℤ den → (t : ℕ) (pay : ℤ) → IsFirstMost g (length g.goals) t pay → (pay *ℤ den) <ℤ num → IsReachable g patrols num den
 reachable_spent g patrols num den spends positive t pay floor below = record {

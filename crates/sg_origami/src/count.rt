@@ -1,17 +1,29 @@
 // How much each target is covered at a level, in lowest terms.
-ghost use Rattle.std.specs.Prelude.{◌≡◌, ◌≤◌, ◌^◌, length, map, pos, ◌*ℤ◌, ◌-ℤ◌, ◌≤ℤ◌, int_div, IfOk};
+ghost use Rattle.std.specs.Prelude.{◌≡◌, ◌≤◌, ◌^◌, length, map, pos, ◌*ℤ◌, ◌-ℤ◌, ◌≤ℤ◌, int_div, int_le, IfOk};
 ghost use Rattle.sg_model.specs.Sums.{numbers};
 ghost use Rattle.sg_model.specs.Games.{payoff};
 ghost use Rattle.sg_model.specs.Origami.{count_at};
 ghost use Rattle.sg_origami.specs.Fillings.{IsCoverage};
 ghost use Rattle.sg_origami.specs.Rates.{IsCountDivisor, IsFillable, IsReachable};
 
-use crate::level::{Height, is_high};
+use crate::level::Height;
 use crate::rate::{multiple, product, quotient, targets_of, uncovered};
 use sg_game::Game;
 use sg_num::gcd;
 use sqlite_items::Items;
 use std::alloc::{AllocError, Global};
+
+/// Whether the uncovered payoff of target `t` is at least the level.
+fn is_high(game: &Game, t: u16, level: &Height) -> bool
+    requires fillable { IsFillable game.now }
+    requires from_one { 1 ≤ t }
+    requires in_range { t ≤ length game.now.goals }
+    requires den_low { pos 0 ≤ℤ level.now.den }
+    requires den_high { level.now.den ≤ℤ pos (2 ^ 46) }
+    ensures { result ≡ int_le level.now.num ((payoff game.now 1 t).au *ℤ level.now.den) }
+{
+    level.num <= product(uncovered(game, t), level.den)
+}
 
 /// How far the uncovered payoff of target `t` is above the level, times the denominator.
 fn excess_of(game: &Game, t: u16, level: &Height) -> i128

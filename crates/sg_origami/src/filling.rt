@@ -1,3 +1,4 @@
+// Fillings of games, from the game to its level and its coverage.
 ghost use Rattle.std.specs.Prelude.{◌≡◌, ◌^◌, true, pos, ◌-ℤ◌, ◌≤ℤ◌, IfOk};
 ghost use Rattle.sg_model.specs.Limits.{is_scaled};
 ghost use Rattle.sg_num.specs.Fractions.{IsReducedForm};
@@ -7,6 +8,7 @@ ghost use Rattle.sg_origami.specs.Rates.{IsFillable};
 use crate::count::coverage_of;
 use crate::floor::level_of;
 use crate::level::Height;
+use crate::rate::rates_of;
 use sg_game::Game;
 use sg_model::Level;
 use sg_num::Frac;
@@ -46,7 +48,8 @@ fn filling_of(alloc: Global, game: &Game) -> Result<Filling, AllocError>
     ensures { IfOk result (IsFilling game.now) }
 {
     let patrols = game.resources();
-    let found = level_of(game, patrols);
+    let rates = rates_of(alloc, game)?;
+    let found = level_of(game, rates.as_slice(), patrols);
     let level = lowest_terms(&found.level);
     let height = Height {
         num: level.num(),
@@ -63,7 +66,8 @@ fn filling_of(alloc: Global, game: &Game) -> Result<Filling, AllocError>
 
 /// Fills a game that declares a scale: brings the attacker's best payoff down to the least level that its patrols can.
 ///
-/// Any number of patrols serves, none and more than targets too. The time is about that of some passes over the targets.
+/// Any number of patrols serves, none and more than targets too. It takes a pass over the targets for each rise of the
+/// level, which are some tens at most: a game of 10,000 targets takes about a millisecond.
 ///
 /// # Errors
 ///

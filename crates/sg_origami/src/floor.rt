@@ -1,13 +1,29 @@
 // The level below which the attacker's best payoff can't fall, and why.
-ghost use Rattle.std.specs.Prelude.{◌≤◌, ◌^◌, length, pos, ◌-ℤ◌, ◌≤ℤ◌};
-ghost use Rattle.sg_model.specs.Origami.{IsWater};
+ghost use Rattle.std.specs.Prelude.{◌≡◌, ◌≤◌, ◌^◌, length, map, pos, ◌-ℤ◌, ◌≤ℤ◌};
+ghost use Rattle.sg_model.specs.Sums.{numbers};
+ghost use Rattle.sg_model.specs.Origami.{IsWater, SpendsAll};
 ghost use Rattle.sg_origami.specs.Fillings.{IsReasonOf};
-ghost use Rattle.sg_origami.specs.Rates.{IsFillable, IsFirstMost, IsReachable};
+ghost use Rattle.sg_origami.specs.Rates.{IsFillable, IsFirstMost, IsReachable, rate_at};
 
 use crate::level::{Height, spent_level};
-use crate::rate::{covered, product, targets_of};
+use crate::rate::{Rate, covered, product, targets_of};
 use sg_game::Game;
 use sg_model::Level;
+
+/// The level to which the patrols can bring the targets that are above it.
+fn spent_of(game: &Game, rates: &[Rate], patrols: u16) -> Height
+    requires fillable { IsFillable game.now }
+    requires rates { rates.now ≡ map (rate_at game.now) (numbers (length game.now.goals)) }
+    requires few { patrols ≤ 200 }
+    ensures spends { SpendsAll game.now patrols result.num result.den }
+    ensures den_low { pos 1 ≤ℤ result.den }
+    ensures den_high { result.den ≤ℤ pos (2 ^ 46) }
+    ensures num_low { (pos 0 -ℤ pos (2 ^ 77)) ≤ℤ result.num }
+    ensures num_high { result.num ≤ℤ pos (2 ^ 77) }
+{
+    let have = product(i128::from(patrols), i128::from(game.scale()));
+    spent_level(rates, have)
+}
 
 /// A target, and what it pays the attacker where it is covered.
 #[derive(Clone, Copy)]
@@ -43,8 +59,9 @@ pub struct Found {
 }
 
 /// The least level that the attacker's best payoff can have, and why.
-pub fn level_of(game: &Game, patrols: u16) -> Found
+pub fn level_of(game: &Game, rates: &[Rate], patrols: u16) -> Found
     requires fillable { IsFillable game.now }
+    requires rates { rates.now ≡ map (rate_at game.now) (numbers (length game.now.goals)) }
     requires few { patrols ≤ 200 }
     ensures water { IsWater game.now patrols result.level.num result.level.den result.reason }
     ensures reason { IsReasonOf game.now result.level.num result.level.den result.reason }
@@ -53,7 +70,7 @@ pub fn level_of(game: &Game, patrols: u16) -> Found
     ensures num_low { (pos 0 -ℤ pos (2 ^ 77)) ≤ℤ result.level.num }
     ensures num_high { result.level.num ≤ℤ pos (2 ^ 77) }
 {
-    let spent = spent_level(game, patrols);
+    let spent = spent_of(game, rates, patrols);
     let floor = floor_of(game);
     if product(floor.pay, spent.den) < spent.num {
         Found {

@@ -1,12 +1,9 @@
 // The level to which the patrols can bring the attacker's best payoff, were each target free to be covered more than fully.
-ghost use Rattle.std.specs.Prelude.{◌≡◌, ◌≤◌, ◌^◌, length, pos, ◌*ℤ◌, ◌-ℤ◌, ◌≤ℤ◌, int_le, if◌then◌else◌};
+ghost use Rattle.std.specs.Prelude.{◌≡◌, ◌≢◌, ◌≤◌, ◌^◌, [], All, filter, length, pos, ◌*ℤ◌, ◌-ℤ◌, ◌≤ℤ◌, if◌then◌else◌};
 ghost use Rattle.sg_model.specs.Sums.{total};
-ghost use Rattle.sg_model.specs.Games.{payoff};
-ghost use Rattle.sg_model.specs.Origami.{at_level, SpendsAll};
-ghost use Rattle.sg_origami.specs.Rates.{IsFillable, multiple, weighted};
+ghost use Rattle.sg_origami.specs.Rates.{IsRate, is_above, multiple_of, need_of, weighted_of};
 
-use crate::rate::{multiple, product, targets_of, uncovered, weighted};
-use sg_game::Game;
+use crate::rate::{Rate, product};
 
 /// A level, as a fraction that need not be reduced.
 #[derive(Clone, Copy)]
@@ -15,16 +12,24 @@ pub struct Height {
     pub den: i128,
 }
 
-/// Whether the uncovered payoff of target `t` is at least the level.
-pub fn is_high(game: &Game, t: u16, level: &Height) -> bool
-    requires fillable { IsFillable game.now }
-    requires from_one { 1 ≤ t }
-    requires in_range { t ≤ length game.now.goals }
+/// Whether the uncovered payoff of a target is at least the level.
+fn is_above(rate: &Rate, level: &Height) -> bool
+    requires rate { IsRate rate.now }
     requires den_low { pos 0 ≤ℤ level.now.den }
     requires den_high { level.now.den ≤ℤ pos (2 ^ 46) }
-    ensures { result ≡ int_le level.now.num ((payoff game.now 1 t).au *ℤ level.now.den) }
+    ensures { result ≡ is_above level.now.num level.now.den rate.now }
 {
-    level.num <= product(uncovered(game, t), level.den)
+    level.num <= product(rate.uncovered, level.den)
+}
+
+/// The multiple of a target times its uncovered payoff.
+fn weighted(rate: &Rate) -> i128
+    requires { IsRate rate.now }
+    ensures value { result ≡ weighted_of rate.now }
+    ensures low { (pos 0 -ℤ pos (2 ^ 62)) ≤ℤ result }
+    ensures high { result ≤ℤ pos (2 ^ 62) }
+{
+    product(rate.multiple, rate.uncovered)
 }
 
 /// The sums over the targets of a level.
@@ -34,24 +39,22 @@ struct Sums {
     weighted: i128,
 }
 
-/// What target `t` adds to the sums of a level.
-fn part_at(game: &Game, t: u16, level: &Height) -> Sums
-    requires fillable { IsFillable game.now }
-    requires from_one { 1 ≤ t }
-    requires in_range { t ≤ length game.now.goals }
+/// What a target adds to the sums of a level.
+fn part_at(rate: &Rate, level: &Height) -> Sums
+    requires rate { IsRate rate.now }
     requires den_low { pos 0 ≤ℤ level.now.den }
     requires den_high { level.now.den ≤ℤ pos (2 ^ 46) }
-    ensures multiples { result.multiples ≡ (if int_le level.now.num ((payoff game.now 1 t).au *ℤ level.now.den) then multiple game.now t else pos 0) }
-    ensures weighted { result.weighted ≡ (if int_le level.now.num ((payoff game.now 1 t).au *ℤ level.now.den) then weighted game.now t else pos 0) }
+    ensures multiples { result.multiples ≡ (if is_above level.now.num level.now.den rate.now then multiple_of rate.now else pos 0) }
+    ensures weighted { result.weighted ≡ (if is_above level.now.num level.now.den rate.now then weighted_of rate.now else pos 0) }
     ensures multiples_low { pos 0 ≤ℤ result.multiples }
     ensures multiples_high { result.multiples ≤ℤ pos (2 ^ 32) }
     ensures weighted_low { (pos 0 -ℤ pos (2 ^ 62)) ≤ℤ result.weighted }
     ensures weighted_high { result.weighted ≤ℤ pos (2 ^ 62) }
 {
-    if is_high(game, t, level) {
+    if is_above(rate, level) {
         Sums {
-            multiples: multiple(game, t),
-            weighted: weighted(game, t),
+            multiples: rate.multiple,
+            weighted: weighted(rate),
         }
     } else {
         Sums {
@@ -62,12 +65,13 @@ fn part_at(game: &Game, t: u16, level: &Height) -> Sums
 }
 
 /// The multiples and the weighted payoffs of the targets of a level.
-fn sums_at(game: &Game, level: &Height) -> Sums
-    requires fillable { IsFillable game.now }
+fn sums_at(rates: &[Rate], level: &Height) -> Sums
+    requires rates { All IsRate rates.now }
+    requires few { length rates.now ≤ 10000 }
     requires den_low { pos 0 ≤ℤ level.now.den }
     requires den_high { level.now.den ≤ℤ pos (2 ^ 46) }
-    ensures multiples { result.multiples ≡ total (multiple game.now) (at_level game.now level.now.num level.now.den) }
-    ensures weighted { result.weighted ≡ total (weighted game.now) (at_level game.now level.now.num level.now.den) }
+    ensures multiples { result.multiples ≡ total multiple_of (filter (is_above level.now.num level.now.den) rates.now) }
+    ensures weighted { result.weighted ≡ total weighted_of (filter (is_above level.now.num level.now.den) rates.now) }
     ensures multiples_low { pos 0 ≤ℤ result.multiples }
     ensures multiples_high { result.multiples ≤ℤ pos (2 ^ 46) }
     ensures weighted_low { (pos 0 -ℤ pos (2 ^ 76)) ≤ℤ result.weighted }
@@ -75,8 +79,8 @@ fn sums_at(game: &Game, level: &Height) -> Sums
 {
     let mut multiples: i128 = 0;
     let mut weights: i128 = 0;
-    for t in 0..targets_of(game) {
-        let part = part_at(game, t + 1, level);
+    for rate in rates {
+        let part = part_at(rate, level);
         multiples += part.multiples;
         weights += part.weighted;
     }
@@ -86,31 +90,34 @@ fn sums_at(game: &Game, level: &Height) -> Sums
     }
 }
 
-/// The level to which the patrols can bring the targets that are above it.
+/// The level at which the targets that are above it need just what there is.
 ///
-/// It rises from below all payoffs: the next level is where the patrols suffice for just the targets of this one,
-/// until none of them drops out.
-pub fn spent_level(game: &Game, patrols: u16) -> Height
-    requires fillable { IsFillable game.now }
-    requires few { patrols ≤ 200 }
-    ensures spends { SpendsAll game.now patrols result.num result.den }
+/// It rises from below all payoffs: the next level is where there is enough for just the targets of this one, until
+/// none of them drops out.
+pub fn spent_level(rates: &[Rate], have: i128) -> Height
+    requires rates { All IsRate rates.now }
+    requires some { rates.now ≢ [] }
+    requires few { length rates.now ≤ 10000 }
+    requires have_low { pos 0 ≤ℤ have }
+    requires have_high { have ≤ℤ pos (2 ^ 40) }
+    ensures some { filter (is_above result.num result.den) rates.now ≢ [] }
+    ensures spends { total (need_of result.num result.den) (filter (is_above result.num result.den) rates.now) ≡ have *ℤ result.den }
     ensures den_low { pos 1 ≤ℤ result.den }
     ensures den_high { result.den ≤ℤ pos (2 ^ 46) }
     ensures num_low { (pos 0 -ℤ pos (2 ^ 77)) ≤ℤ result.num }
     ensures num_high { result.num ≤ℤ pos (2 ^ 77) }
 {
-    let have = product(i128::from(patrols), i128::from(game.scale()));
     let lowest = Height {
         num: -1073741824 - have,
         den: 1,
     };
-    let mut sums = sums_at(game, &lowest);
+    let mut sums = sums_at(rates, &lowest);
     'rise: loop {
         let next = Height {
             num: sums.weighted - have,
             den: sums.multiples,
         };
-        let kept = sums_at(game, &next);
+        let kept = sums_at(rates, &next);
         if kept.multiples >= sums.multiples {
             return next;
         }

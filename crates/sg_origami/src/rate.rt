@@ -1,10 +1,13 @@
 // What a target of a game with a scale is read for.
-ghost use Rattle.std.specs.Prelude.{◌≡◌, ◌≤◌, ◌^◌, length, pos, ◌*ℤ◌, ◌-ℤ◌, ◌≤ℤ◌, int_div, FitsSigned};
+ghost use Rattle.std.specs.Prelude.{◌≡◌, ◌≤◌, ◌^◌, length, map, pos, ◌*ℤ◌, ◌-ℤ◌, ◌≤ℤ◌, int_div, FitsSigned, IfOk};
 ghost use Rattle.std.specs.Int.{w128};
+ghost use Rattle.sg_model.specs.Sums.{numbers};
 ghost use Rattle.sg_model.specs.Games.{payoff};
-ghost use Rattle.sg_origami.specs.Rates.{IsFillable, multiple, weighted};
+ghost use Rattle.sg_origami.specs.Rates.{IsFillable, multiple, rate_at};
 
 use sg_game::Game;
+use sqlite_items::Items;
+use std::alloc::{AllocError, Global};
 
 /// The product.
 pub fn product(a: i128, b: i128) -> i128
@@ -67,14 +70,36 @@ pub fn multiple(game: &Game, t: u16) -> i128
     quotient(i128::from(game.scale()), gap)
 }
 
-/// The multiple of target `t` times its uncovered payoff.
-pub fn weighted(game: &Game, t: u16) -> i128
+/// What a target adds to the sums of a level.
+#[derive(Clone, Copy)]
+pub struct Rate {
+    /// How often its gap goes into the scale.
+    pub multiple: i128,
+    /// What the attacker gets where it is uncovered.
+    pub uncovered: i128,
+}
+
+/// The rate of target `t`.
+fn rate_of(game: &Game, t: u16) -> Rate
     requires fillable { IsFillable game.now }
     requires from_one { 1 ≤ t }
     requires in_range { t ≤ length game.now.goals }
-    ensures value { result ≡ weighted game.now t }
-    ensures low { (pos 0 -ℤ pos (2 ^ 62)) ≤ℤ result }
-    ensures high { result ≤ℤ pos (2 ^ 62) }
+    ensures { result ≡ rate_at game.now t }
 {
-    product(multiple(game, t), uncovered(game, t))
+    Rate {
+        multiple: multiple(game, t),
+        uncovered: uncovered(game, t),
+    }
+}
+
+/// The rates of all targets, read once.
+pub fn rates_of(alloc: Global, game: &Game) -> Result<Items<Rate>, AllocError>
+    requires { IsFillable game.now }
+    ensures { IfOk result (λ rates. rates ≡ map (rate_at game.now) (numbers (length game.now.goals))) }
+{
+    let mut rates = Items::new(alloc);
+    for t in 0..targets_of(game) {
+        rates.push(rate_of(game, t + 1))?;
+    }
+    Ok(rates)
 }
