@@ -1,14 +1,14 @@
 -- What it means that entries have no fault.
-use Rattle.std.proofs.Common.{◌≡◌, ◌≢◌, ◌∙◌, ℕ, suc, ◌+◌, ◌<◌, ◌≤◌, Bool, true, false, not, ◌&&◌, List, [], ◌∷◌, ◌++◌, length, map, get_or, ℤ, Option, Some, None, Decides, refl, ap, sym, arith, inl, inr}
+use Rattle.std.proofs.Common.{◌≡◌, ℕ, ◌+◌, true, false, not, ◌&&◌, List, [], ◌∷◌, ◌++◌, length, map, Option, None, refl}
 use Rattle.std.specs.Prelude.{bytes_eq, nat_eq, nat_le}
-use Rattle.std.specs.List.{All, AllPairs, list_any}
+use Rattle.std.specs.List.{All}
 use Rattle.std.proofs.lemmas.Bool.{not-true, not_from_false, leb-true, le-leb, and_from}
 use Rattle.std.proofs.lemmas.Bool.Decides.{Decides-eqb}
 use Rattle.std.proofs.lemmas.Slice.Eq.{bytes_eq-Decides}
 use Rattle.std.proofs.lemmas.List.Elements.{All-nil, All-cons, All-head, All-tail}
 use Rattle.sg_model.specs.declared.fault.GameFault.{GameFault}
 use Rattle.sg_model.specs.declared.fault.Place.{Place}
-use Rattle.sg_model.specs.Limits.{IsCount, AreMembers}
+use Rattle.sg_model.specs.Limits.{IsCount}
 use Rattle.sg_model.specs.Names.{AreNames, is_name}
 use Rattle.sg_game.specs.Faults.{◌orelse◌, unless, each_member_fault, entries_fault, member_fault, name_fault}
 use Rattle.sg_game.proofs.Fresh.{AreFresh, stands, fresh_tail, fresh_cons, fresh_nil, fresh_first}
@@ -42,11 +42,11 @@ module _ {X : Type 0} (name : X → List ℕ) (rest : Place → X → Option Gam
       let spelled : is_name (name x) ≡ true = All-head (λ (n : List ℕ). is_name n ≡ true) (name x) (map name xs) h.spelled in
       let new : stands bytes_eq before (name x) ≡ false = All-head (λ (n : List ℕ). stands bytes_eq before n ≡ false) (name x) (map name xs) h.fresh.new in
       let tail : AreEntered name P (before ++ name x ∷ []) xs =
-          record {
-            spelled = All-tail (λ (n : List ℕ). is_name n ≡ true) (name x) (map name xs) h.spelled;
-            fresh = fresh_tail bytes_eq bytes_eq-Decides before (name x) (map name xs) h.fresh;
-            each = All-tail P x xs h.each;
-          } in
+      record {
+        spelled = All-tail (λ (n : List ℕ). is_name n ≡ true) (name x) (map name xs) h.spelled;
+        fresh = fresh_tail bytes_eq bytes_eq-Decides before (name x) (map name xs) h.fresh;
+        each = All-tail P x xs h.each;
+      } in
       both (name_fault before here (name x) orelse rest here x) (entries_fault name rest place (before ++ name x ∷ []) xs)
       (both (name_fault before here (name x)) (rest here x)
       (both (unless (is_name (name x)) 9 here) (unless (not (stands bytes_eq before (name x))) 8 here)

@@ -1,8 +1,8 @@
 -- Lists whose items are other than each other and other than those before.
-use Rattle.std.proofs.Common.{◌≡◌, ◌≢◌, ◌∙◌, ℕ, suc, ◌<◌, ◌≤◌, Bool, true, false, cond, ◌||◌, List, [], ◌∷◌, ◌++◌, length, get_or, Decides, refl, ap, sym, arith}
+use Rattle.std.proofs.Common.{◌≡◌, ◌≢◌, ◌∙◌, ℕ, suc, ◌<◌, Bool, true, false, cond, ◌||◌, List, [], ◌∷◌, ◌++◌, length, get_or, Decides, refl, ap, sym, arith}
 use Rattle.std.specs.List.{All, AllPairs, list_any}
-use Rattle.std.proofs.lemmas.Bool.{cases_Bool, false_from_ne_true}
-use Rattle.std.proofs.lemmas.List.Elements.{All-nil, All-cons, All-head, All-tail}
+use Rattle.std.proofs.lemmas.Bool.{false_from_ne_true}
+use Rattle.std.proofs.lemmas.List.Elements.{All-nil, All-cons, All-tail}
 use Rattle.std.proofs.lemmas.List.Kept.{AllPairs-cons}
 
 or_false : (b : Bool) → (b || false) ≡ cond b true false
@@ -58,7 +58,7 @@ module _ {X : Type 0} (same : X → X → Bool) (decides : (a b : X) → Decides
   pub fresh_cons : (before : List X) (x : X) (xs : List X) → stands same before x ≡ false → AreFresh same (before ++ x ∷ []) xs → AreFresh same before (x ∷ xs)
   fresh_cons before x xs here h =
       let apart : (i : ℕ) (d : X) → i < length xs → (same x (get_or xs i d) ≡ false) × (stands same before (get_or xs i d) ≡ false) =
-          (λ i d lt. cond_false (same x (get_or xs i d)) (stands same before (get_or xs i d)) (sym (stands_more same (get_or xs i d) before x) ∙ h.new i d lt)) in
+      (λ i d lt. cond_false (same x (get_or xs i d)) (stands same before (get_or xs i d)) (sym (stands_more same (get_or xs i d) before x) ∙ h.new i d lt)) in
       record {
         new = All-cons (λ (x : X). stands same before x ≡ false) x xs here (λ i d lt. (apart i d lt).1);
         distinct = AllPairs-cons (λ (x y : X). x ≢ y) x xs

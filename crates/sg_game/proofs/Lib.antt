@@ -9,3 +9,4 @@ pub mod Fielded
 pub mod Told
 pub mod Sound
 pub mod Drawn
+pub mod Fitting

@@ -1,6 +1,6 @@
 -- Parts have no fault exactly where they make a game.
-use Rattle.std.proofs.Common.{◌↔◌, ◌≡◌, ◌≢◌, ◌∙◌, ℕ, zero, suc, ◌+◌, ◌<◌, ◌≤◌, ◌^◌, Bool, true, false, cond, ◌&&◌, ◌||◌, List, [], ◌∷◌, length, map, get_or, ℤ, pos, ◌≤ℤ◌, Option, Some, None, String, Global, string_bytes, refl, ap, subst, sym, arith}
-use Rattle.std.specs.Prelude.{int_lt, int_rem, nat_le, is_some, is_none, unwrap_or, option_map, Vec}
+use Rattle.std.proofs.Common.{◌↔◌, ◌≡◌, ◌≢◌, ◌∙◌, ℕ, ◌≤◌, ◌^◌, Bool, true, false, cond, ◌&&◌, ◌||◌, List, [], ◌∷◌, length, map, get_or, ℤ, pos, ◌≤ℤ◌, Option, Some, None, Global, string_bytes, refl, ap, subst, sym, arith}
+use Rattle.std.specs.Prelude.{int_lt, int_rem, nat_le, is_some, is_none, option_map, Vec}
 use Rattle.std.specs.Ordering.{int_eq}
 use Rattle.std.specs.List.{All, list_all}
 use Rattle.std.proofs.lemmas.Int.{ints}
@@ -14,19 +14,18 @@ use Rattle.sg_model.specs.declared.kind.Kind.TheVariants.{Security, Matrix}
 use Rattle.sg_model.specs.declared.fault.Place.TheVariants.{Document, Attacker}
 use Rattle.sg_model.specs.Games.{Game, Named, Payoff}
 use Rattle.sg_model.specs.Games as model
-use Rattle.sg_model.specs.Limits.{IsCount, IsWithin, AreLists, AreTypes, IsGame, IsSecurityGame, IsMatrixGame, IsScaledGame, IsSecurityType, IsMatrixType, IsDefended, ArePatrols, AreListed, is_scaled, program_rows}
+use Rattle.sg_model.specs.Limits.{IsCount, IsWithin, AreLists, AreTypes, IsGame, IsSecurityGame, IsMatrixGame, IsScaledGame, IsSecurityType, IsMatrixType, IsDefended, is_scaled, program_rows}
 use Rattle.sg_model.specs.Names.{AreNames}
 use Rattle.sg_model.specs.Origami.{IsScaled, gap}
 use Rattle.sg_game.specs.declared.parts.Parts.{Parts}
 use Rattle.sg_game.specs.declared.parts.TypeParts.{TypeParts}
-use Rattle.sg_game.specs.Building.{AreMatrixParts, HasOwnFields, IsAtLeast, IsSecurityParts, IsTold}
-use Rattle.sg_game.specs.Converting.{AreFours}
-use Rattle.sg_game.specs.Faults.{◌orelse◌, unless, fault_of, fields_fault, goal_limit, is_scaled_game, is_scaled_payoff, patrol_limit, prior_limit, type_limit, whole_fault}
-use Rattle.sg_game.specs.Seen.{attacker_of, count_of, game_of, named_of, texts, rows}
+use Rattle.sg_game.specs.Building.{HasOwnFields, IsAtLeast, IsTold}
+use Rattle.sg_game.specs.Faults.{◌orelse◌, fault_of, fields_fault, goal_limit, is_scaled_game, is_scaled_payoff, patrol_limit, prior_limit, type_limit, whole_fault}
+use Rattle.sg_game.specs.Seen.{attacker_of, count_of, game_of, named_of}
 use Rattle.sg_game.proofs.Steps.{neither, both, holds, fine, and_both}
 use Rattle.sg_game.proofs.Listed.{All-unmap}
 use Rattle.sg_game.proofs.Fielded.{AreFielded, IsOptionWithin, IsTyped, are-fielded, fielded}
-use Rattle.sg_game.proofs.Told.{at_least, count_of-within, matrix_from, matrix_to, no_lists, none_is, none_scale, patrol_limit-is, prior_limit-le, scale_range, scale_within, scaled_is, security_from, security_to, some_is, some_scale, within-count_of}
+use Rattle.sg_game.proofs.Told.{AreFours, at_least, count_of-within, matrix_from, matrix_to, no_lists, none_is, none_scale, patrol_limit-is, prior_limit-le, scale_range, scale_within, scaled_is, security_from, security_to, some_is, some_scale, within-count_of}
 use Rattle.sg_game.proofs.Promises.{by_form, security_game, matrix_game}
 
 -- patrols or lists
@@ -104,7 +103,7 @@ is-all_scaled : (g : Game) → All (AllScaled g.scale) g.types → is_scaled_gam
 is-all_scaled g h =
     list_all-from_AllPass (passes g.scale) g.types
     (λ i d lt. list_all-from_AllPass (is_scaled_payoff g.scale) (get_or g.types i d).payoffs
-      (All-weaker (IsScaled g.scale) (λ (p : Payoff). is_scaled_payoff g.scale p ≡ true) (is-scaled_payoff g.scale) (get_or g.types i d).payoffs (h i d lt)))
+    (All-weaker (IsScaled g.scale) (λ (p : Payoff). is_scaled_payoff g.scale p ≡ true) (is-scaled_payoff g.scale) (get_or g.types i d).payoffs (h i d lt)))
 
 -- limits that depend on the scale
 
@@ -137,8 +136,8 @@ module _ (p : Parts) where
         one_type = omega (arith, n, one, h.type_count.at_least);
         prior_one = All-map (λ (x : model.Attacker). x.prior ≡ pos 1) attacker_of p.types.items
             (λ i d lt. let prior = (h.types i d lt).prior in
-              let high : (get_or p.types.items i d).prior ≤ℤ prior_limit true = subst (λ (c : Bool). (get_or p.types.items i d).prior ≤ℤ prior_limit c) on prior.at_most in
-              omega (arith, ints, prior.at_least, high));
+            let high : (get_or p.types.items i d).prior ≤ℤ prior_limit true = subst (λ (c : Bool). (get_or p.types.items i d).prior ≤ℤ prior_limit c) on prior.at_most in
+            omega (arith, ints, prior.at_least, high));
         targets = all_scaled (game_of p) (holds (is_scaled_game (game_of p)) 11 (Attacker 1) w);
       }
 
@@ -160,7 +159,7 @@ module _ (p : Parts) where
         types = types_from h;
         each_type = All-map (IsSecurityType (length (game_of p).goals)) attacker_of p.types.items
             (λ i d lt. rw n (security_from (length p.goals.items) (prior_limit b) (get_or p.types.items i d) (prior_limit-le b)
-              (subst (λ (k : Kind). IsTyped k (prior_limit b) (length p.goals.items) (get_or p.types.items i d)) e (h.types i d lt)) (own.security e i d lt)));
+            (subst (λ (k : Kind). IsTyped k (prior_limit b) (length p.goals.items) (get_or p.types.items i d)) e (h.types i d lt)) (own.security e i d lt)));
         few_rows = λ none.
             let off : b ≡ false = none_is p.scale low none in
             let w : whole_fault false (game_of p) ≡ None = subst (λ (c : Bool). whole_fault c (game_of p) ≡ None) off whole in
@@ -186,7 +185,7 @@ module _ (p : Parts) where
         types = types_from h;
         each_type = All-map (IsMatrixType (length (game_of p).goals)) attacker_of p.types.items
             (λ i d lt. rw n (matrix_from (length p.goals.items) (prior_limit (is_some p.scale)) (get_or p.types.items i d) (prior_limit-le (is_some p.scale))
-              (subst (λ (k : Kind). IsTyped k (prior_limit (is_some p.scale)) (length p.goals.items) (get_or p.types.items i d)) e (h.types i d lt)) (mine.payoffs i d lt)));
+            (subst (λ (k : Kind). IsTyped k (prior_limit (is_some p.scale)) (length p.goals.items) (get_or p.types.items i d)) e (h.types i d lt)) (mine.payoffs i d lt)));
         few_rows = leb-true (program_rows (game_of p)) 1536 (holds (nat_le (program_rows (game_of p)) 1536) 10 Document w);
       }
 
@@ -292,9 +291,9 @@ module _ (p : Parts) where
   no_fault own t h =
       by_form (game_of p) ((fields_fault p orelse whole_fault (is_some p.scale) (game_of p)) ≡ None) h
       (λ e s. both (fields_fault p) (whole_fault (is_some p.scale) (game_of p)) (are-fielded p (security_fields e t s))
-        (whole_from (is_some p.scale) (λ on. (s.scaled (some_scale p.scale t.scale on)).targets) (λ off. s.few_rows (none_scale p.scale off))))
+      (whole_from (is_some p.scale) (λ on. (s.scaled (some_scale p.scale t.scale on)).targets) (λ off. s.few_rows (none_scale p.scale off))))
       (λ e m. both (fields_fault p) (whole_fault (is_some p.scale) (game_of p)) (are-fielded p (matrix_fields e own t m))
-        (whole_from (is_some p.scale) (λ on. absurd (let q : is_some p.scale ≡ false = ap (λ (o : Option ℤ). is_some o) (own.matrix e).scale in let r : true ≡ false = sym on ∙ q in cc)) (λ off. m.few_rows)))
+      (whole_from (is_some p.scale) (λ on. absurd (let q : is_some p.scale ≡ false = ap (λ (o : Option ℤ). is_some o) (own.matrix e).scale in let r : true ≡ false = sym on ∙ q in cc)) (λ off. m.few_rows)))
 
   -- a game that says all that its parts say, exactly where they have no fault
   pub fault_of-none : HasOwnFields p → (fault_of p ≡ None) ↔ (IsTold p × IsGame (game_of p))

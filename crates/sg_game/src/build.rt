@@ -8,7 +8,7 @@ ghost use Rattle.sg_game.specs.Faults.{fault_of};
 ghost use Rattle.sg_game.specs.Seen.{game_of};
 
 use crate::convert::{numbers_to, patrols_named};
-use crate::draft::{draft_from, test_whole, Draft};
+use crate::draft::{Draft, draft_from, test_whole};
 use crate::fault::BuildFault;
 use crate::fields::test_fields;
 use crate::game::Game;
@@ -16,7 +16,7 @@ use crate::parts::Parts;
 use std::alloc::{AllocError, Global};
 
 /// The game of a draft.
-fn game_from(alloc: Global, draft: Draft) -> Result<Game, AllocError>
+pub(crate) fn game_from(alloc: Global, draft: Draft) -> Result<Game, AllocError>
     requires { IsGame (drawn draft) }
     ensures { IfOk result (λ game. game ≡ drawn draft) }
 {

@@ -140,12 +140,7 @@ fn test_each_member(count: usize, place: Place, members: &[u32]) -> Result<(), G
 }
 
 /// Tests the members of a schedule or a resource.
-fn test_members(
-    count: usize,
-    limit: usize,
-    place: Place,
-    list: &ListParts,
-) -> Result<(), GameFault>
+fn test_members(count: usize, limit: usize, place: Place, list: &ListParts) -> Result<(), GameFault>
     ensures { Tells result (members_fault count limit place list.now) }
 {
     passed(1 <= list.members.len(), 6, place)?;
@@ -183,7 +178,14 @@ fn test_each_list(
 {
     let mut seen: BTreeSet<String> = BTreeSet::new(alloc);
     for (i, list) in lists.iter().enumerate() {
-        take_list(alloc, &mut seen, count, members_limit, listing.place(i as u32 + 1), list)?;
+        take_list(
+            alloc,
+            &mut seen,
+            count,
+            members_limit,
+            listing.place(i as u32 + 1),
+            list,
+        )?;
     }
     Ok(())
 }

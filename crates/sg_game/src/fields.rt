@@ -7,7 +7,7 @@ ghost use Rattle.sg_game.specs.Building.{Finds, HasOwnFields, Tells};
 ghost use Rattle.sg_game.specs.Entries.{Holds, place_of};
 ghost use Rattle.sg_game.specs.Faults.{entries_fault, names_fault, fields_fault, goal_limit, goal_place, goals_fault, is_pay, is_table, name_fault, numbers_fault, option_fault, patrol_limit, pays_fault, prior_limit, tables_fault, type_fault, type_limit, types_fault, ◌orelse◌};
 
-use crate::entries::{is_within, passed, take_name, test_lists, test_names, Listing};
+use crate::entries::{Listing, is_within, passed, take_name, test_lists, test_names};
 use crate::fault::BuildFault;
 use crate::parts::{Parts, TypeParts};
 use sg_model::{GameFault, Kind, Place};
@@ -76,7 +76,11 @@ fn test_pays(
 {
     match kind {
         Kind::Security => {
-            passed(is_table(goals, 4, x.payoffs.as_slice()), 9, Place::Attacker(l))?;
+            passed(
+                is_table(goals, 4, x.payoffs.as_slice()),
+                9,
+                Place::Attacker(l),
+            )?;
             Ok(())
         }
         Kind::Matrix => test_tables(alloc, goals, l, x),
@@ -161,13 +165,7 @@ fn goal_limit(kind: Kind, is_scaled: bool) -> usize
     ensures few { result ≤ 10000 }
 {
     match kind {
-        Kind::Security => {
-            if is_scaled {
-                10000
-            } else {
-                200
-            }
-        }
+        Kind::Security => { if is_scaled { 10000 } else { 200 } }
         Kind::Matrix => 4096,
     }
 }
@@ -191,7 +189,11 @@ fn test_goals(alloc: Global, is_scaled: bool, parts: &Parts) -> Result<(), Build
 {
     let goals = parts.goals.as_slice();
     passed(1 <= goals.len(), 6, Place::Document)?;
-    passed(goals.len() <= goal_limit(parts.kind, is_scaled), 10, Place::Document)?;
+    passed(
+        goals.len() <= goal_limit(parts.kind, is_scaled),
+        10,
+        Place::Document,
+    )?;
     test_goal_names(alloc, parts.kind, goals)
 }
 
@@ -224,7 +226,13 @@ fn test_types(alloc: Global, is_scaled: bool, parts: &Parts) -> Result<(), Build
     let types = parts.types.as_slice();
     passed(1 <= types.len(), 6, Place::Document)?;
     passed(types.len() <= type_limit(is_scaled), 10, Place::Document)?;
-    test_each_type(alloc, parts.kind, prior_limit(is_scaled), parts.goals.len(), types)
+    test_each_type(
+        alloc,
+        parts.kind,
+        prior_limit(is_scaled),
+        parts.goals.len(),
+        types,
+    )
 }
 
 /// Tests the fields, one after the other.
@@ -236,7 +244,21 @@ pub(crate) fn test_fields(alloc: Global, parts: &Parts) -> Result<(), BuildFault
     passed(!is_scaled || parts.patrols.is_some(), 3, Place::Document)?;
     test_goals(alloc, is_scaled, parts)?;
     test_numbers(is_scaled, parts)?;
-    test_lists(alloc, Listing::Schedules, parts.goals.len(), 500, 200, parts.schedules.as_slice())?;
-    test_lists(alloc, Listing::Resources, parts.schedules.len(), 32, 500, parts.resources.as_slice())?;
+    test_lists(
+        alloc,
+        Listing::Schedules,
+        parts.goals.len(),
+        500,
+        200,
+        parts.schedules.as_slice(),
+    )?;
+    test_lists(
+        alloc,
+        Listing::Resources,
+        parts.schedules.len(),
+        32,
+        500,
+        parts.resources.as_slice(),
+    )?;
     test_types(alloc, is_scaled, parts)
 }

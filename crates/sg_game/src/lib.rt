@@ -11,6 +11,7 @@ mod fields;
 mod game;
 mod laws;
 mod lists;
+mod made;
 mod names;
 mod parts;
 mod play;
