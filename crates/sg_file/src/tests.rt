@@ -45,10 +45,6 @@ fn reads_two_targets(rt: HostRuntime) -> Result<(), Fail> {
     assert_eq!(rt; parts.types[0].name.as_str(), "thief");
     assert_eq!(rt; parts.types[0].payoffs[0].as_slice(), [2, -2, 0, 4].as_slice());
     assert_eq!(rt; parts.types[0].payoffs[1].as_slice(), [1, -1, 0, 2].as_slice());
-    let alone = read_scaled_parts(rt.alloc(), TWO_TARGETS.as_bytes());
-    assert!(rt; matches!(alone, Ok(Some(_))));
-    let other = read_scaled_parts(rt.alloc(), MATRIX.as_bytes());
-    assert!(rt; matches!(other, Ok(None)));
     Ok(())
 }
 
@@ -61,6 +57,20 @@ fn reads_a_matrix_game(rt: HostRuntime) -> Result<(), Fail> {
     assert_eq!(rt; parts.types[0].actions[1].as_str(), "y");
     assert_eq!(rt; parts.types[0].leader[1].as_slice(), [1, 3].as_slice());
     assert_eq!(rt; parts.types[0].follower[1].as_slice(), [0, 2].as_slice());
+    Ok(())
+}
+
+#[test]
+fn makes_a_game(rt: HostRuntime) -> Result<(), Fail> {
+    let read = read_game(rt.alloc(), FOUR_TARGETS.as_bytes());
+    let game = read.ok().ok_or("a game")?;
+    assert_eq!(rt; game.kind(), Kind::Security);
+    assert_eq!(rt; game.scale(), 0);
+    assert_eq!(rt; game.patrols(), None);
+    assert_eq!(rt; game.targets(), 4);
+    assert_eq!(rt; game.schedules(), 4);
+    assert_eq!(rt; game.resources(), 2);
+    assert_eq!(rt; game.types(), 1);
     Ok(())
 }
 
