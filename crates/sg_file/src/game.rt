@@ -8,11 +8,11 @@ ghost use Rattle.sg_file.specs.Answers.{Gives, Tells};
 ghost use Rattle.toml.specs.Data.{get_member};
 
 use crate::document::{document, has_key, needed, value_at};
-use crate::fault::{check, fault, GameError, BAD_VERSION, MISSING_KEY, OUT_OF_RANGE, WRONG_KIND};
-use crate::keys::{known_keys, Section};
+use crate::fault::{BAD_VERSION, GameError, MISSING_KEY, OUT_OF_RANGE, WRONG_KIND, check, fault};
+use crate::keys::{Section, known_keys};
 use crate::limits::within_limits;
-use crate::lists::{lists, Group};
-use crate::names::{names, Listing};
+use crate::lists::{Group, lists};
+use crate::names::{Listing, names};
 use crate::types::{matrix_types, security_types};
 use crate::value::{integer, number};
 use sg_game::{Game, GameFault, Kind, Parts, Place};
@@ -83,21 +83,13 @@ fn most_targets(scaled: bool) -> u32
     ensures exact { result ≡ (if scaled then 10000 else 200) }
     ensures small { result < 2 ^ 32 - 1 }
 {
-    if scaled {
-        10_000
-    } else {
-        200
-    }
+    if scaled { 10_000 } else { 200 }
 }
 
 fn most_patrols(scaled: bool) -> i64
     ensures { result ≡ pos (if scaled then 200 else 32) }
 {
-    if scaled {
-        200
-    } else {
-        32
-    }
+    if scaled { 200 } else { 32 }
 }
 
 /// A game of identical patrols, whose number is given.
