@@ -1,5 +1,5 @@
 -- Names with their numbers, as they are read one after the other.
-use Rattle.std.proofs.Common.{◌≡◌, ◌≢◌, ◌∙◌, ℕ, suc, ◌+◌, Bool, true, false, cond, not, ◌||◌, List, [], ◌∷◌, ◌++◌, length, Option, Some, None, is_some, String, BTreeMap, Global, string_bytes, refl, sym, ap, inl, inr, arith, IsSome}
+use Rattle.std.proofs.Common.{◌≡◌, ◌∙◌, ℕ, suc, ◌+◌, Bool, true, false, cond, ◌||◌, List, [], ◌∷◌, ◌++◌, length, Option, Some, None, is_some, String, BTreeMap, Global, refl, sym, ap, inl, inr, arith}
 use Rattle.std.specs.Prelude.{bytes_eq}
 use Rattle.std.specs.List.{list_any, position_from}
 use Rattle.std.specs.BTreeMap.{get_by_text}
@@ -50,10 +50,10 @@ pub number_of-push : (names : List (List ℕ)) (name : List ℕ) → number_of n
 number_of-push names name absent q =
     elim (cases_Bool (bytes_eq name q)) [
       | inl same ↦
-        let e : q ≡ name = sym ((bytes_eq-Decides name q).0 same) in
-        let count : length names + 1 ≡ 1 + length names = omega arith in
-        let own : bytes_eq name name ≡ true = (bytes_eq-Decides name name).1 refl in
-        rw (same, e, position_from-absent (bytes_eq name) name 1 names absent, own, count) refl
+          let e : q ≡ name = sym ((bytes_eq-Decides name q).0 same) in
+          let count : length names + 1 ≡ 1 + length names = omega arith in
+          let own : bytes_eq name name ≡ true = (bytes_eq-Decides name name).1 refl in
+          rw (same, e, position_from-absent (bytes_eq name) name 1 names absent, own, count) refl
       | inr other ↦ rw (other, position_from-other (bytes_eq q) name 1 names (bytes_eq-sym name q other)) refl
     ]
 

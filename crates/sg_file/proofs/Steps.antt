@@ -1,5 +1,5 @@
 -- What the library's words say in the words of the format.
-use Rattle.std.proofs.Common.{◌≡◌, ℕ, Bool, true, false, ◌&&◌, cond, List, [], ◌∷◌, Option, None, Global, String, string_bytes, refl, ap, inl, inr, rules, arith}
+use Rattle.std.proofs.Common.{◌≡◌, ℕ, Bool, ◌&&◌, List, [], ◌∷◌, None, Global, String, string_bytes, refl, ap, inl, inr}
 use Rattle.std.specs.Prelude.{IsUtf8}
 use Rattle.std.specs.Map.{keys_of}
 use Rattle.std.specs.List.{list_all}

@@ -6,7 +6,7 @@ ghost use Rattle.toml.specs.Data.{get_member};
 ghost use Rattle.sg_format.specs.Documents.{document_of, needed_at};
 ghost use Rattle.sg_file.specs.Answers.{Gives, Tells};
 
-use crate::fault::{fault, GameError, MISSING_KEY, NOT_TOML};
+use crate::fault::{GameError, MISSING_KEY, NOT_TOML, fault};
 use sg_game::{GameFault, Place};
 use std::alloc::Global;
 use toml::{Table, Value};
@@ -42,11 +42,7 @@ pub(crate) fn has_key(table: &Table, key: &str) -> bool
     }
 }
 
-pub(crate) fn needed<'a>(
-    place: Place,
-    key: &str,
-    table: &'a Table,
-) -> Result<&'a Value, GameFault>
+pub(crate) fn needed<'a>(place: Place, key: &str, table: &'a Table) -> Result<&'a Value, GameFault>
     ensures { Tells (λ v. data_of v.now) result (needed_at place key.now (table_view table.now)) }
 {
     match value_at(table, key) {

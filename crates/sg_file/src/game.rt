@@ -1,22 +1,22 @@
 //! The game of a file: the order in which its parts are read.
 
-ghost use Rattle.std.specs.Prelude.{◌≡◌, IfOk, option_map, pos, if◌then◌else◌, codes, ◌<◌, ◌^◌, ◌-◌};
+ghost use Rattle.std.specs.Prelude.{◌≡◌, pos, if◌then◌else◌, codes, ◌<◌, ◌^◌, ◌-◌};
 ghost use Rattle.toml.specs.View.{view as data_of, table_view};
 ghost use Rattle.sg_game.specs.Seen.{game_of};
-ghost use Rattle.sg_format.specs.GameFiles.{version_of, form_of, kind_of, scale_at, patrols_game, listed_game, resources_game, matrix_game, game_of_form, game_of_table, game_of_bytes, has_one_patrol, is_one_patrol, of_one_patrol};
+ghost use Rattle.sg_format.specs.GameFiles.{version_of, form_of, kind_of, scale_at, patrols_game, listed_game, resources_game, matrix_game, game_of_form, game_of_table, game_of_bytes};
 ghost use Rattle.sg_file.specs.Answers.{Gives, Tells};
 ghost use Rattle.toml.specs.Data.{get_member};
 
 use crate::document::{document, has_key, needed, value_at};
-use crate::fault::{check, fault, GameError, BAD_VERSION, MISSING_KEY, OUT_OF_RANGE, WRONG_KIND};
-use crate::keys::{known_keys, Section};
+use crate::fault::{BAD_VERSION, GameError, MISSING_KEY, OUT_OF_RANGE, WRONG_KIND, check, fault};
+use crate::keys::{Section, known_keys};
 use crate::limits::within_limits;
-use crate::lists::{lists, Group};
-use crate::names::{names, Listing};
+use crate::lists::{Group, lists};
+use crate::names::{Listing, names};
 use crate::types::{matrix_types, security_types};
 use crate::value::{integer, number};
-use sg_game::{GameFault, Kind, Parts, Place};
-use std::alloc::{AllocError, Global};
+use sg_game::{Game, GameFault, Kind, Parts, Place};
+use std::alloc::Global;
 use toml::{Table, Value};
 
 #[tactic(auto, unfolding(sg_format::specs::GameFiles::version_of))]
@@ -83,21 +83,13 @@ fn most_targets(scaled: bool) -> u32
     ensures exact { result ≡ (if scaled then 10000 else 200) }
     ensures small { result < 2 ^ 32 - 1 }
 {
-    if scaled {
-        10_000
-    } else {
-        200
-    }
+    if scaled { 10_000 } else { 200 }
 }
 
 fn most_patrols(scaled: bool) -> i64
     ensures { result ≡ pos (if scaled then 200 else 32) }
 {
-    if scaled {
-        200
-    } else {
-        32
-    }
+    if scaled { 200 } else { 32 }
 }
 
 /// A game of identical patrols, whose number is given.
@@ -221,39 +213,14 @@ pub fn read_parts(alloc: Global, bytes: &[u8]) -> Result<Parts, GameError>
     game_of_table(alloc, &table)
 }
 
-/// Whether the game declares a scale and has one patrol.
-fn has_one_patrol(parts: &Parts) -> bool
-    ensures { result ≡ has_one_patrol (game_of parts.now) }
+/// The game that the bytes of a file are.
+///
+/// # Errors
+///
+/// `Refused` with the first rule of game files that they break, and its place. `Memory` where memory ran out.
+pub fn read_game(alloc: Global, bytes: &[u8]) -> Result<Game, GameError>
+    ensures { Gives (λ g. g) result (game_of_bytes bytes.now) }
 {
-    match parts.scale {
-        Some(scale) => scale > 0 && patrols_one(parts),
-        None => false,
-    }
-}
-
-fn patrols_one(parts: &Parts) -> bool
-    ensures { result ≡ is_one_patrol (game_of parts.now).patrols }
-{
-    match parts.patrols {
-        Some(patrols) => patrols == 1,
-        None => false,
-    }
-}
-
-/// The parts of the game that the bytes of a file are, where they are a game file that declares a scale and has one
-/// patrol.
-pub fn read_scaled_parts(alloc: Global, bytes: &[u8]) -> Result<Option<Parts>, AllocError>
-    ensures { IfOk result (λ o. option_map game_of o ≡ of_one_patrol (game_of_bytes bytes.now)) }
-{
-    match read_parts(alloc, bytes) {
-        Ok(parts) => {
-            if has_one_patrol(&parts) {
-                Ok(Some(parts))
-            } else {
-                Ok(None)
-            }
-        }
-        Err(GameError::Refused(_)) => Ok(None),
-        Err(GameError::Memory) => Err(AllocError),
-    }
+    let parts = read_parts(alloc, bytes)?;
+    Ok(Game::made(alloc, parts)?)
 }

@@ -11,7 +11,7 @@ ghost use Rattle.sg_format.specs.Types.{is_security_type_key, is_matrix_type_key
 ghost use Rattle.sg_format.specs.GameFiles.{is_patrols_key, is_resources_key, is_matrix_key};
 ghost use Rattle.sg_file.specs.Sections.{is_key_of};
 
-use crate::fault::{check, UNKNOWN_KEY};
+use crate::fault::{UNKNOWN_KEY, check};
 use sg_game::{GameFault, Place};
 use toml::Table;
 
@@ -115,11 +115,7 @@ fn has_only(section: Section, table: &Table) -> bool
 }
 
 /// Refuses a table with a key that it may not have.
-pub(crate) fn known_keys(
-    place: Place,
-    section: Section,
-    table: &Table,
-) -> Result<(), GameFault>
+pub(crate) fn known_keys(place: Place, section: Section, table: &Table) -> Result<(), GameFault>
     ensures { result ≡ passed (has_only (is_key_of section) (table_view table.now)) unknown_key place }
 {
     check(has_only(section, table), UNKNOWN_KEY, place)

@@ -1,7 +1,8 @@
 //! Reads game files.
 //!
-//! `read_parts` answers exactly what the definition of a game file in `sg_format` gives: the parts of the game, or the
-//! first reason for which the bytes are none, with its place. Each step of the definition is a small function here.
+//! `read_game` answers exactly what the definition of a game file in `sg_format` gives: the game, or the first reason
+//! for which the bytes are none, with its place. `read_parts` gives the parts of that game. Each step of the definition
+//! is a small function here.
 #![tactic(auto)]
 
 mod document;
@@ -15,7 +16,7 @@ mod types;
 mod value;
 
 pub use fault::GameError;
-pub use game::{read_parts, read_scaled_parts};
+pub use game::{read_game, read_parts};
 
 #[cfg(test)]
 mod tests;

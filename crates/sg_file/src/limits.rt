@@ -9,7 +9,7 @@ ghost use Rattle.sg_game.specs.Seen.{rows, payoff_of, attacker_of, game_of};
 ghost use Rattle.sg_game.specs.declared.parts.TypeParts.{TypeParts};
 ghost use Rattle.sg_format.specs.GameFiles.{is_zero, fits_scale, limits_of};
 
-use crate::fault::{check, BAD_SCALE, TOO_LARGE};
+use crate::fault::{BAD_SCALE, TOO_LARGE, check};
 use sg_game::{GameFault, Kind, Parts, Place, TypeParts};
 
 /// The number at a place, or 0 past the end.
@@ -36,9 +36,7 @@ fn target_fits(scale: i64, pays: &[i64]) -> bool
 {
     let covered = pay_at(pays, 2);
     let uncovered = pay_at(pays, 3);
-    pay_at(pays, 1) < pay_at(pays, 0)
-        && covered < uncovered
-        && divides(scale, covered, uncovered)
+    pay_at(pays, 1) < pay_at(pays, 0) && covered < uncovered && divides(scale, covered, uncovered)
 }
 
 fn targets_fit(scale: i64, payoffs: &[Vec<i64>]) -> bool
@@ -92,13 +90,7 @@ fn resource_count(parts: &Parts) -> u128
     ensures small { result < 2 ^ 64 }
 {
     match parts.patrols {
-        Some(patrols) => {
-            if patrols < 0 {
-                0
-            } else {
-                patrols as u128
-            }
-        }
+        Some(patrols) => { if patrols < 0 { 0 } else { patrols as u128 } }
         None => parts.resources.len() as u128,
     }
 }

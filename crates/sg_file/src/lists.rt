@@ -11,9 +11,9 @@ ghost use Rattle.sg_file.specs.Numbers.{Numbers, Marks};
 ghost use Rattle.sg_file.specs.Sections.{key_of, member_place, limit_of, members_limit, section_of};
 
 use crate::document::needed;
-use crate::fault::{fault, GameError, REPEATED_NAME, UNKNOWN_NAME};
-use crate::keys::{known_keys, Section};
-use crate::names::{add_name, find, Index};
+use crate::fault::{GameError, REPEATED_NAME, UNKNOWN_NAME, fault};
+use crate::keys::{Section, known_keys};
+use crate::names::{Index, add_name, find};
 use crate::value::{few, some, table, text};
 use sg_game::{GameFault, ListParts, Place};
 use std::alloc::Global;
@@ -191,7 +191,7 @@ fn lists_of(
     requires { length values.now < 2 ^ 32 - 1 }
     ensures gives { (names : List (List ℕ)) → Numbers known.now names
         → Gives (λ v. map named_of v.parts.items) result
-            (each (λ before. named_at (member_place group (length before + 1)) (key_of group) names (members_limit group) before) [] (items_view values.now)) }
+        (each (λ before. named_at (member_place group (length before + 1)) (key_of group) names (members_limit group) before) [] (items_view values.now)) }
     ensures indexed { IfOk result (λ v. Numbers v.index (map (λ (x : Named). x.name) (map named_of v.parts.items))) }
 {
     let mut parts: Vec<ListParts> = Vec::new(alloc);
@@ -216,7 +216,7 @@ pub(crate) fn lists(
 ) -> Result<NamedLists, GameError>
     ensures gives { (names : List (List ℕ)) → Numbers known.now names
         → Gives (λ v. map named_of v.parts.items) result
-            (named_lists_at (member_place group) (key_of group) names (limit_of group) (members_limit group) (data_of value.now)) }
+        (named_lists_at (member_place group) (key_of group) names (limit_of group) (members_limit group) (data_of value.now)) }
     ensures indexed { IfOk result (λ v. Numbers v.index (map (λ (x : Named). x.name) (map named_of v.parts.items))) }
 {
     let values = few(Place::Document, group.limit(), value)?;

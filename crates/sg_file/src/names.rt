@@ -9,7 +9,7 @@ ghost use Rattle.sg_file.specs.Answers.{Gives, Tells};
 ghost use Rattle.sg_file.specs.Numbers.{Numbers};
 ghost use Rattle.sg_file.specs.Sections.{whole_of, entry_of};
 
-use crate::fault::{fault, GameError, REPEATED_NAME};
+use crate::fault::{GameError, REPEATED_NAME, fault};
 use crate::value::{name, some};
 use sg_game::{GameFault, Place};
 use std::alloc::{AllocError, Global};

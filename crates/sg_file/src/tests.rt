@@ -4,13 +4,16 @@ use std::alloc::{AllocError, Global};
 use std::test::*;
 
 /// A game of one patrol and two targets.
-const TWO_TARGETS: &str = "version = 1\nform = \"security\"\nscale = 4\npatrols = 1\ntargets = [\"gate\", \"hall\"]\n\n[[type]]\nname = \"thief\"\nprior = 1\npayoffs = [[2, -2, 0, 4], [1, -1, 0, 2]]\n";
+const TWO_TARGETS: &str =
+    "version = 1\nform = \"security\"\nscale = 4\npatrols = 1\ntargets = [\"gate\", \"hall\"]\n\n[[type]]\nname = \"thief\"\nprior = 1\npayoffs = [[2, -2, 0, 4], [1, -1, 0, 2]]\n";
 
 /// A game in matrix form.
-const MATRIX: &str = "version = 1\nform = \"matrix\"\nrows = [\"A\", \"B\"]\n\n[[type]]\nname = \"thief\"\nprior = 1\nactions = [\"x\", \"y\"]\nleader = [[2, 4], [1, 3]]\nfollower = [[1, 0], [0, 2]]\n";
+const MATRIX: &str =
+    "version = 1\nform = \"matrix\"\nrows = [\"A\", \"B\"]\n\n[[type]]\nname = \"thief\"\nprior = 1\nactions = [\"x\", \"y\"]\nleader = [[2, 4], [1, 3]]\nfollower = [[1, 0], [0, 2]]\n";
 
 /// Four targets, and two resources of two schedules each.
-const FOUR_TARGETS: &str = "version = 1\nform = \"security\"\ntargets = [\"t1\", \"t2\", \"t3\", \"t4\"]\nschedule = [{name = \"a\", targets = [\"t1\", \"t2\"]}, {name = \"b\", targets = [\"t4\", \"t3\"]}, {name = \"c\", targets = [\"t1\", \"t3\"]}, {name = \"d\", targets = [\"t2\", \"t4\"]}]\n\n[[resource]]\nname = \"r1\"\nschedules = [\"a\", \"b\"]\n\n[[resource]]\nname = \"r2\"\nschedules = [\"d\", \"c\"]\n\n[[type]]\nname = \"thief\"\nprior = 1048576\npayoffs = [[0, -1, 0, 1], [0, -1, 0, 1], [0, -1, 0, 1], [0, -1, -1073741824, 1073741824]]\n";
+const FOUR_TARGETS: &str =
+    "version = 1\nform = \"security\"\ntargets = [\"t1\", \"t2\", \"t3\", \"t4\"]\nschedule = [{name = \"a\", targets = [\"t1\", \"t2\"]}, {name = \"b\", targets = [\"t4\", \"t3\"]}, {name = \"c\", targets = [\"t1\", \"t3\"]}, {name = \"d\", targets = [\"t2\", \"t4\"]}]\n\n[[resource]]\nname = \"r1\"\nschedules = [\"a\", \"b\"]\n\n[[resource]]\nname = \"r2\"\nschedules = [\"d\", \"c\"]\n\n[[type]]\nname = \"thief\"\nprior = 1048576\npayoffs = [[0, -1, 0, 1], [0, -1, 0, 1], [0, -1, 0, 1], [0, -1, -1073741824, 1073741824]]\n";
 
 /// Whether the bytes are refused for this reason at this place.
 fn refused(alloc: Global, bytes: &[u8], reason: u8, place: Place) -> bool {
@@ -43,12 +46,14 @@ fn reads_two_targets(rt: HostRuntime) -> Result<(), Fail> {
     assert_eq!(rt; parts.goals.len(), 2);
     assert_eq!(rt; parts.goals[1].as_str(), "hall");
     assert_eq!(rt; parts.types[0].name.as_str(), "thief");
-    assert_eq!(rt; parts.types[0].payoffs[0].as_slice(), [2, -2, 0, 4].as_slice());
-    assert_eq!(rt; parts.types[0].payoffs[1].as_slice(), [1, -1, 0, 2].as_slice());
-    let alone = read_scaled_parts(rt.alloc(), TWO_TARGETS.as_bytes());
-    assert!(rt; matches!(alone, Ok(Some(_))));
-    let other = read_scaled_parts(rt.alloc(), MATRIX.as_bytes());
-    assert!(rt; matches!(other, Ok(None)));
+    assert_eq!(rt;
+        parts.types[0].payoffs[0].as_slice(),
+        [2, -2, 0, 4].as_slice()
+    );
+    assert_eq!(rt;
+        parts.types[0].payoffs[1].as_slice(),
+        [1, -1, 0, 2].as_slice()
+    );
     Ok(())
 }
 
@@ -61,6 +66,20 @@ fn reads_a_matrix_game(rt: HostRuntime) -> Result<(), Fail> {
     assert_eq!(rt; parts.types[0].actions[1].as_str(), "y");
     assert_eq!(rt; parts.types[0].leader[1].as_slice(), [1, 3].as_slice());
     assert_eq!(rt; parts.types[0].follower[1].as_slice(), [0, 2].as_slice());
+    Ok(())
+}
+
+#[test]
+fn makes_a_game(rt: HostRuntime) -> Result<(), Fail> {
+    let read = read_game(rt.alloc(), FOUR_TARGETS.as_bytes());
+    let game = read.ok().ok_or("a game")?;
+    assert_eq!(rt; game.kind(), Kind::Security);
+    assert_eq!(rt; game.scale(), 0);
+    assert_eq!(rt; game.patrols(), None);
+    assert_eq!(rt; game.targets(), 4);
+    assert_eq!(rt; game.schedules(), 4);
+    assert_eq!(rt; game.resources(), 2);
+    assert_eq!(rt; game.types(), 1);
     Ok(())
 }
 
@@ -97,18 +116,54 @@ fn refuses_top_keys(rt: HostRuntime) {
         ("version = 1\nform = \"security\"\ncolour = 1\n", 5),
         ("version = 1\nform = \"security\"\n", 3),
         ("version = 1\nform = \"matrix\"\ntargets = []\n", 5),
-        ("version = 1\nform = \"security\"\npatrols = \"x\"\nschedule = []\n", 5),
-        ("version = 1\nform = \"security\"\ntargets = []\npatrols = 1\n", 3),
-        ("version = 1\nform = \"security\"\ntargets = 3\nscale = 1\nschedule = 1\nresource = []\ntype = []\n", 3),
-        ("version = 1\nform = \"security\"\ntargets = 3\nscale = 0\npatrols = 1\ntype = []\n", 4),
-        ("version = 1\nform = \"security\"\ntargets = []\nscale = 0\npatrols = 1\ntype = []\n", 6),
-        ("version = 1\nform = \"security\"\ntargets = [\"a\"]\nscale = 1.5\npatrols = -1\ntype = []\n", 4),
-        ("version = 1\nform = \"security\"\ntargets = [\"a\"]\nscale = 4294967297\npatrols = \"x\"\ntype = []\n", 9),
-        ("version = 1\nform = \"security\"\ntargets = [\"a\"]\npatrols = 33\ntype = []\n", 9),
-        ("version = 1\nform = \"security\"\ntargets = [\"a\"]\nscale = 1\npatrols = 200\ntype = []\n", 6),
-        ("version = 1\nform = \"security\"\ntargets = [\"a\"]\nscale = 1\npatrols = 1\ntype = [1, 2]\n", 10),
-        ("version = 1\nform = \"security\"\ntargets = [\"a\"]\npatrols = 1\ntype = [1, 2, 3, 4, 5, 6, 7, 8, 9]\n", 10),
-        ("version = 1\nform = \"security\"\ntargets = [\"a\"]\nschedule = {}\nresource = []\ntype = []\n", 4),
+        (
+            "version = 1\nform = \"security\"\npatrols = \"x\"\nschedule = []\n",
+            5,
+        ),
+        (
+            "version = 1\nform = \"security\"\ntargets = []\npatrols = 1\n",
+            3,
+        ),
+        (
+            "version = 1\nform = \"security\"\ntargets = 3\nscale = 1\nschedule = 1\nresource = []\ntype = []\n",
+            3,
+        ),
+        (
+            "version = 1\nform = \"security\"\ntargets = 3\nscale = 0\npatrols = 1\ntype = []\n",
+            4,
+        ),
+        (
+            "version = 1\nform = \"security\"\ntargets = []\nscale = 0\npatrols = 1\ntype = []\n",
+            6,
+        ),
+        (
+            "version = 1\nform = \"security\"\ntargets = [\"a\"]\nscale = 1.5\npatrols = -1\ntype = []\n",
+            4,
+        ),
+        (
+            "version = 1\nform = \"security\"\ntargets = [\"a\"]\nscale = 4294967297\npatrols = \"x\"\ntype = []\n",
+            9,
+        ),
+        (
+            "version = 1\nform = \"security\"\ntargets = [\"a\"]\npatrols = 33\ntype = []\n",
+            9,
+        ),
+        (
+            "version = 1\nform = \"security\"\ntargets = [\"a\"]\nscale = 1\npatrols = 200\ntype = []\n",
+            6,
+        ),
+        (
+            "version = 1\nform = \"security\"\ntargets = [\"a\"]\nscale = 1\npatrols = 1\ntype = [1, 2]\n",
+            10,
+        ),
+        (
+            "version = 1\nform = \"security\"\ntargets = [\"a\"]\npatrols = 1\ntype = [1, 2, 3, 4, 5, 6, 7, 8, 9]\n",
+            10,
+        ),
+        (
+            "version = 1\nform = \"security\"\ntargets = [\"a\"]\nschedule = {}\nresource = []\ntype = []\n",
+            4,
+        ),
     ];
     let alloc = rt.alloc();
     for (text, reason) in cases {
@@ -143,8 +198,18 @@ fn refuses_names_and_types(rt: HostRuntime) -> Result<(), Fail> {
         ("prior = 1\n", "", 3, Place::Attacker(1)),
         ("\"thief\"", "7", 4, Place::Attacker(1)),
         ("\"thief\"", "\"a/b\"", 9, Place::Attacker(1)),
-        ("[2, -2, 0, 4]", "[2, -2, 0, 1073741825]", 9, Place::Attacker(1)),
-        ("[2, -2, 0, 4]", "[-1073741825, -2, 0, 4]", 9, Place::Attacker(1)),
+        (
+            "[2, -2, 0, 4]",
+            "[2, -2, 0, 1073741825]",
+            9,
+            Place::Attacker(1),
+        ),
+        (
+            "[2, -2, 0, 4]",
+            "[-1073741825, -2, 0, 4]",
+            9,
+            Place::Attacker(1),
+        ),
         ("[2, -2, 0, 4]", "[2, -2, 0, 4.0]", 4, Place::Attacker(1)),
         ("[2, -2, 0, 4]", "[2, -2, 0]", 9, Place::Attacker(1)),
         ("[2, -2, 0, 4]", "7", 4, Place::Attacker(1)),
@@ -165,17 +230,42 @@ fn refuses_names_and_types(rt: HostRuntime) -> Result<(), Fail> {
 fn refuses_lists_and_tables(rt: HostRuntime) {
     let listed = [
         ("{name = \"b\",", "{name = \"a\",", 8, Place::Schedule(2)),
-        ("{name = \"b\",", "{name = \"a\", x = 1,", 5, Place::Schedule(2)),
+        (
+            "{name = \"b\",",
+            "{name = \"a\", x = 1,",
+            5,
+            Place::Schedule(2),
+        ),
         ("{name = \"b\",", "{", 3, Place::Schedule(2)),
         ("{name = \"b\",", "3, {name = \"a\",", 4, Place::Schedule(2)),
         ("[\"t4\", \"t3\"]", "[]", 6, Place::Schedule(2)),
         ("[\"t4\", \"t3\"]", "\"t4\"", 4, Place::Schedule(2)),
         ("[\"t4\", \"t3\"]", "[\"t4\", 3]", 4, Place::Schedule(2)),
-        ("[\"t4\", \"t3\"]", "[\"t4\", \"t5\"]", 7, Place::Schedule(2)),
-        ("[\"t4\", \"t3\"]", "[\"t4\", \"a b\"]", 7, Place::Schedule(2)),
-        ("[\"t4\", \"t3\"]", "[\"t4\", \"t4\", \"t5\"]", 8, Place::Schedule(2)),
+        (
+            "[\"t4\", \"t3\"]",
+            "[\"t4\", \"t5\"]",
+            7,
+            Place::Schedule(2),
+        ),
+        (
+            "[\"t4\", \"t3\"]",
+            "[\"t4\", \"a b\"]",
+            7,
+            Place::Schedule(2),
+        ),
+        (
+            "[\"t4\", \"t3\"]",
+            "[\"t4\", \"t4\", \"t5\"]",
+            8,
+            Place::Schedule(2),
+        ),
         ("name = \"r2\"", "name = \"r1\"", 8, Place::Resource(2)),
-        ("name = \"r2\"", "name = \"r2\"\ntargets = []", 5, Place::Resource(2)),
+        (
+            "name = \"r2\"",
+            "name = \"r2\"\ntargets = []",
+            5,
+            Place::Resource(2),
+        ),
         ("[\"d\", \"c\"]", "[\"d\", \"d\"]", 8, Place::Resource(2)),
         ("[\"d\", \"c\"]", "[\"d\", \"t1\"]", 7, Place::Resource(2)),
         ("[\"d\", \"c\"]", "[]", 6, Place::Resource(2)),
@@ -203,19 +293,18 @@ fn refuses_lists_and_tables(rt: HostRuntime) {
 }
 
 /// The text of a game of one patrol with so many targets and types.
-fn large_game(
-    alloc: Global,
-    scale: &str,
-    targets: u32,
-    types: u32,
-) -> Result<String, AllocError> {
-    let mut text = format!(in alloc; "version = 1\nform = \"security\"\n{scale}patrols = 1\ntargets = [")?;
+fn large_game(alloc: Global, scale: &str, targets: u32, types: u32) -> Result<String, AllocError> {
+    let mut text = format!(in alloc;
+        "version = 1\nform = \"security\"\n{scale}patrols = 1\ntargets = ["
+    )?;
     for t in 0..targets {
         text.push_str(format!(in alloc; "\"t{t}\", ")?.as_str())?;
     }
     text.push_str("]\n")?;
     for l in 0..types {
-        text.push_str(format!(in alloc; "[[type]]\nname = \"a{l}\"\nprior = 1\npayoffs = [")?.as_str())?;
+        text.push_str(format!(in alloc;
+            "[[type]]\nname = \"a{l}\"\nprior = 1\npayoffs = ["
+        )?.as_str())?;
         for _ in 0..targets {
             text.push_str("[1, 0, 0, 1], ")?;
         }
@@ -243,7 +332,10 @@ fn refuses_large_games(rt: HostRuntime) -> Result<(), Fail> {
         if reason == 0 {
             assert!(rt; matches!(read, Ok(_)), "{targets} targets");
         } else {
-            assert!(rt; refused(alloc, text.as_bytes(), reason, Place::Document), "{targets} targets");
+            assert!(rt;
+                refused(alloc, text.as_bytes(), reason, Place::Document),
+                "{targets} targets"
+            );
         }
     }
     Ok(())

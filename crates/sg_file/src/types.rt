@@ -11,9 +11,9 @@ ghost use Rattle.sg_file.specs.Answers.{Gives};
 ghost use Rattle.sg_file.specs.Numbers.{Numbers};
 
 use crate::document::needed;
-use crate::fault::{check, GameError, OUT_OF_RANGE};
-use crate::keys::{known_keys, Section};
-use crate::names::{add_name, names, Index, Listing};
+use crate::fault::{GameError, OUT_OF_RANGE, check};
+use crate::keys::{Section, known_keys};
+use crate::names::{Index, Listing, add_name, names};
 use crate::value::{items, number, some, table};
 use sg_game::{GameFault, Place, TypeParts};
 use std::alloc::Global;
@@ -41,12 +41,7 @@ fn pays_of(alloc: Global, place: Place, values: &[Value]) -> Result<Vec<i64>, Ga
 
 /// So many payoffs.
 #[tactic(auto, using(crate::proofs::Items::item_count_view), unfolding(sg_format::specs::Types::pays_at))]
-fn pays(
-    alloc: Global,
-    place: Place,
-    count: usize,
-    value: &Value,
-) -> Result<Vec<i64>, GameError>
+fn pays(alloc: Global, place: Place, count: usize, value: &Value) -> Result<Vec<i64>, GameError>
     ensures { Gives (λ v. v.items) result (pays_at place count (data_of value.now)) }
 {
     let values = items(place, value)?;
@@ -91,11 +86,7 @@ fn pay_table(
 fn greatest_prior(scaled: bool) -> i64
     ensures { result ≡ (if scaled then pos 1 else pos (2 ^ 20)) }
 {
-    if scaled {
-        1
-    } else {
-        1_048_576
-    }
+    if scaled { 1 } else { 1_048_576 }
 }
 
 fn prior(place: Place, scaled: bool, value: &Value) -> Result<i64, GameFault>
@@ -200,11 +191,7 @@ fn security_types_of(
 fn most_types(scaled: bool) -> usize
     ensures { result ≡ (if scaled then 1 else 8) }
 {
-    if scaled {
-        1
-    } else {
-        8
-    }
+    if scaled { 1 } else { 8 }
 }
 
 /// The types of a game in security form.

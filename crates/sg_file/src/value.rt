@@ -8,7 +8,7 @@ ghost use Rattle.sg_format.specs.Documents.{integer_at, text_at, items_at, table
 ghost use Rattle.sg_format.specs.Lists.{few_at, some_at};
 ghost use Rattle.sg_file.specs.Answers.{Tells};
 
-use crate::fault::{check, fault, EMPTY_LIST, OUT_OF_RANGE, TOO_LARGE, WRONG_KIND};
+use crate::fault::{EMPTY_LIST, OUT_OF_RANGE, TOO_LARGE, WRONG_KIND, check, fault};
 use sg_game::{GameFault, Place};
 use toml::{Table, Value};
 

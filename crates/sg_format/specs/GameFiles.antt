@@ -7,7 +7,7 @@ use Rattle.sg_model.specs.declared.fault.GameFault.{GameFault}
 use Rattle.sg_model.specs.declared.kind.Kind.{Kind}
 use Rattle.sg_model.specs.declared.kind.Kind.TheVariants.{Security, Matrix}
 use Rattle.sg_model.specs.Games.{Payoff, Attacker, Game}
-use Rattle.sg_model.specs.Limits.{program_rows, is_scaled}
+use Rattle.sg_model.specs.Limits.{program_rows}
 use Rattle.sg_model.specs.Origami.{gap}
 use Rattle.sg_format.specs.Steps.{◌>>=◌, needed, passed, refused, bad_version, missing_key, unknown_key, out_of_range, too_large, bad_scale}
 use Rattle.sg_format.specs.Documents.{document_of, has_only, needed_at, integer_at, text_at, number_at}
@@ -172,17 +172,3 @@ game_of_table table = do
 -- the game of a file's bytes, or the first reason for which they are none
 unfoldable pub game_of_bytes : List ℕ → Result Game GameFault
 game_of_bytes bytes = document_of bytes >>= game_of_table
-
--- one patrol
-abbrev pub is_one_patrol : Option ℕ → Bool
-is_one_patrol (Some n) = n == 1
-is_one_patrol None = false
-
--- the game declares a scale and has one patrol
-abbrev pub has_one_patrol : Game → Bool
-has_one_patrol g = is_scaled g && is_one_patrol g.patrols
-
--- the game that was read, where it declares a scale and has one patrol
-abbrev pub of_one_patrol : Result Game GameFault → Option Game
-of_one_patrol (Ok g) = if has_one_patrol g then Some g else None
-of_one_patrol (Err fault) = None

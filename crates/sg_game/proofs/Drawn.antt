@@ -1,38 +1,33 @@
 -- What fields with no fault give to a draft.
-use Rattle.std.proofs.Common.{◌≡◌, ◌≢◌, ◌∙◌, ℕ, ◌+◌, ◌<◌, ◌≤◌, ◌^◌, Bool, true, false, List, [], ◌∷◌, length, map, get_or, ℤ, pos, ◌≤ℤ◌, Option, Some, None, string_bytes, refl, ap, subst, sym, arith}
+use Rattle.std.proofs.Common.{◌≡◌, ℕ, ◌≤◌, Bool, true, false, List, length, map, get_or, ℤ, pos, Option, Some, None, string_bytes, refl, ap, subst, arith}
 use Rattle.std.specs.Prelude.{is_some, option_map}
 use Rattle.std.specs.List.{All}
-use Rattle.std.proofs.lemmas.Int.{ints}
 use Rattle.std.proofs.lemmas.List.{length-map}
-use Rattle.std.proofs.lemmas.List.Elements.{All-map, All-weaker}
+use Rattle.std.proofs.lemmas.List.Elements.{All-map}
 use Rattle.sg_model.specs.declared.kind.Kind.{Kind}
 use Rattle.sg_model.specs.declared.kind.Kind.TheVariants.{Security, Matrix}
 use Rattle.sg_model.specs.Games.{Game, Named}
 use Rattle.sg_model.specs.Games as model
-use Rattle.sg_model.specs.Limits.{AreLists, IsCount, IsPayoff, IsSecurityType, IsMatrixType}
+use Rattle.sg_model.specs.Limits.{AreLists, IsCount, IsPayoff}
 use Rattle.sg_game.specs.declared.parts.Parts.{Parts}
 use Rattle.sg_game.specs.declared.parts.ListParts.{ListParts}
 use Rattle.sg_game.specs.declared.parts.TypeParts.{TypeParts}
 use Rattle.sg_game.specs.Building.{HasOwnFields}
 use Rattle.sg_game.specs.Converting.{FitAll}
-use Rattle.sg_game.specs.Drafts.{FitsDraft, IsFew, IsFewPatrols, IsSmall}
+use Rattle.sg_game.specs.Drafts.{FitsDraft, IsFewPatrols, IsSmall}
 use Rattle.sg_game.specs.Faults.{goal_limit, patrol_limit, prior_limit}
 use Rattle.sg_game.specs.Seen.{attacker_of, count_of, game_of, named_of}
 use Rattle.sg_game.proofs.Listed.{All-unmap}
 use Rattle.sg_game.proofs.Fielded.{AreFielded, IsOptionWithin, IsTyped}
 use Rattle.sg_game.proofs.Told.{count_of-within, matrix_from, prior_limit-le, security_from}
-use Rattle.sg_game.proofs.Sound.{told, types_from}
+use Rattle.sg_game.proofs.Sound.{types_from}
 
-few : (b : Bool) (o : Option ℤ) → IsOptionWithin (pos 0) (patrol_limit b) o → IsFew o
+few : (b : Bool) (o : Option ℤ) → IsOptionWithin (pos 0) (patrol_limit b) o → IsFewPatrols (option_map count_of o)
 few b None h = tt
-few true (Some z) h = record { at_least = h.at_least; at_most = h.at_most }
-few false (Some z) h = record { at_least = h.at_least; at_most = omega (arith, ints, h.at_most) }
+few true (Some z) h = count_of-within z (pos 200) 200 refl h
+few false (Some z) h = let le = count_of-within z (pos 32) 32 refl h in omega (arith, le)
 
-few_patrols : (o : Option ℤ) → IsFew o → IsFewPatrols (option_map count_of o)
-few_patrols None h = tt
-few_patrols (Some z) h = count_of-within z (pos 200) 200 refl h
-
-fit_all : (count limit members_limit : ℕ) → count ≤ 10000 → (lists : List ListParts) → AreLists count limit members_limit (map named_of lists) → All (λ (x : ListParts). FitAll x.members.items) lists
+pub fit_all : (count limit members_limit : ℕ) → count ≤ 10000 → (lists : List ListParts) → AreLists count limit members_limit (map named_of lists) → All (λ (x : ListParts). FitAll x.members.items) lists
 fit_all count limit members_limit le lists h =
     let each = All-unmap (λ (x : Named). All (IsCount 1 count) x.members) named_of lists (λ i d lt. (h.members i d lt).known) in
     λ i d lt j m within. let at = (each i d lt j m within).at_most in omega (arith, at)
@@ -53,7 +48,6 @@ module _ (p : Parts) (own : HasOwnFields p) (h : AreFielded p) where
         patrols = few (is_some p.scale) p.patrols h.patrols;
         schedules = fit_all (length p.goals.items) 500 200 goals_le p.schedules.items h.schedules;
         resources = fit_all (length p.schedules.items) 32 500 (omega (arith, m, h.schedules.few)) p.resources.items h.resources;
-        types = (told p own h).payoffs;
       }
 
   -- a few actions, and payoffs in range
@@ -82,7 +76,7 @@ module _ (p : Parts) (own : HasOwnFields p) (h : AreFielded p) where
       record {
         goals = omega (arith, n, goals_le);
         resources = h.resources.few;
-        patrols = few_patrols p.patrols (few (is_some p.scale) p.patrols h.patrols);
+        patrols = few (is_some p.scale) p.patrols h.patrols;
         types = (types_from p h).count.at_most;
         actions = All-map (λ (x : model.Attacker). length x.actions ≤ 64) attacker_of p.types.items (λ i d lt. (small_types i d lt).actions);
         payoffs = All-map (λ (x : model.Attacker). All IsPayoff x.payoffs) attacker_of p.types.items (λ i d lt. (small_types i d lt).payoffs);

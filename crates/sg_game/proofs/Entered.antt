@@ -1,14 +1,14 @@
 -- What it means that entries have no fault.
-use Rattle.std.proofs.Common.{◌≡◌, ◌≢◌, ◌∙◌, ℕ, suc, ◌+◌, ◌<◌, ◌≤◌, Bool, true, false, not, ◌&&◌, List, [], ◌∷◌, ◌++◌, length, map, get_or, ℤ, Option, Some, None, Decides, refl, ap, sym, arith, inl, inr}
+use Rattle.std.proofs.Common.{◌≡◌, ℕ, ◌+◌, true, false, not, ◌&&◌, List, [], ◌∷◌, ◌++◌, length, map, Option, None, refl}
 use Rattle.std.specs.Prelude.{bytes_eq, nat_eq, nat_le}
-use Rattle.std.specs.List.{All, AllPairs, list_any}
+use Rattle.std.specs.List.{All}
 use Rattle.std.proofs.lemmas.Bool.{not-true, not_from_false, leb-true, le-leb, and_from}
 use Rattle.std.proofs.lemmas.Bool.Decides.{Decides-eqb}
 use Rattle.std.proofs.lemmas.Slice.Eq.{bytes_eq-Decides}
 use Rattle.std.proofs.lemmas.List.Elements.{All-nil, All-cons, All-head, All-tail}
 use Rattle.sg_model.specs.declared.fault.GameFault.{GameFault}
 use Rattle.sg_model.specs.declared.fault.Place.{Place}
-use Rattle.sg_model.specs.Limits.{IsCount, AreMembers}
+use Rattle.sg_model.specs.Limits.{IsCount}
 use Rattle.sg_model.specs.Names.{AreNames, is_name}
 use Rattle.sg_game.specs.Faults.{◌orelse◌, unless, each_member_fault, entries_fault, member_fault, name_fault}
 use Rattle.sg_game.proofs.Fresh.{AreFresh, stands, fresh_tail, fresh_cons, fresh_nil, fresh_first}

@@ -1,15 +1,14 @@
 -- What it means that the fields of parts have no fault.
-use Rattle.std.proofs.Common.{◌≡◌, ◌≢◌, ◌∙◌, ℕ, suc, ◌+◌, ◌<◌, ◌≤◌, ◌^◌, Bool, true, false, not, ◌&&◌, ◌||◌, List, [], ◌∷◌, length, map, get_or, ℤ, pos, ◌≤ℤ◌, ◌-ℤ◌, Option, Some, None, String, Global, string_bytes, refl, ap, sym, arith}
-use Rattle.std.specs.Prelude.{nat_eq, nat_le, int_le, is_some, is_none, Vec}
-use Rattle.std.specs.List.{All, AllPairs, list_all}
-use Rattle.std.proofs.lemmas.Bool.{leb-true, le-leb}
-use Rattle.std.proofs.lemmas.Int.{ints}
+use Rattle.std.proofs.Common.{◌≡◌, ℕ, ◌^◌, true, ◌||◌, List, [], length, map, ℤ, pos, Option, Some, None, string_bytes, refl}
+use Rattle.std.specs.Prelude.{nat_le, is_some, is_none}
+use Rattle.std.specs.List.{All}
+use Rattle.std.proofs.lemmas.Bool.{le-leb}
 use Rattle.sg_model.specs.declared.kind.Kind.{Kind}
 use Rattle.sg_model.specs.declared.kind.Kind.TheVariants.{Security, Matrix}
 use Rattle.sg_model.specs.declared.fault.GameFault.{GameFault}
 use Rattle.sg_model.specs.declared.fault.Place.{Place}
 use Rattle.sg_model.specs.declared.fault.Place.TheVariants.{Document, Schedule, Resource, Attacker}
-use Rattle.sg_model.specs.Limits.{IsCount, IsWithin, IsPay, IsTable, AreMembers, AreLists}
+use Rattle.sg_model.specs.Limits.{IsCount, IsWithin, IsTable, AreLists}
 use Rattle.sg_model.specs.Names.{AreNames}
 use Rattle.sg_game.specs.declared.parts.Parts.{Parts}
 use Rattle.sg_game.specs.declared.parts.TypeParts.{TypeParts}

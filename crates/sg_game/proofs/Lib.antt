@@ -11,3 +11,4 @@ pub mod Sound
 pub mod Drawn
 pub mod Spreads
 pub mod Choices
+pub mod Fitting

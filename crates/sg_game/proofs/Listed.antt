@@ -1,28 +1,23 @@
 -- What it means that tables, names, schedules and resources have no fault.
-use Rattle.std.proofs.Common.{◌≡◌, ◌≢◌, ◌∙◌, ℕ, suc, ◌+◌, ◌<◌, ◌≤◌, ◌^◌, Bool, true, false, not, ◌&&◌, ◌||◌, List, [], ◌∷◌, length, map, get_or, ℤ, pos, ◌≤ℤ◌, ◌-ℤ◌, Option, Some, None, String, Global, string_bytes, refl, ap, sym, arith}
-use Rattle.std.specs.Prelude.{nat_eq, nat_le, int_le, is_some, is_none, Vec}
-use Rattle.std.specs.List.{All, AllPairs, list_all}
+use Rattle.std.proofs.Common.{◌≡◌, ◌∙◌, ℕ, ◌^◌, Bool, true, ◌&&◌, List, [], ◌∷◌, length, map, get_or, ℤ, pos, ◌-ℤ◌, None, String, Global, string_bytes, refl, ap, sym, arith}
+use Rattle.std.specs.Prelude.{nat_eq, nat_le, int_le, Vec}
+use Rattle.std.specs.List.{All, list_all}
 use Rattle.std.proofs.lemmas.Bool.{leb-true, le-leb, and_from, eqb-true, eq-eqb}
 use Rattle.std.proofs.lemmas.Int.{ints}
 use Rattle.std.proofs.lemmas.List.{length-map}
 use Rattle.std.proofs.lemmas.List.Elements.{All-nil, All-cons, All-head, All-tail, All-map, All-weaker}
 use Rattle.std.proofs.lemmas.List.Sums.{AllPass-from_list_all, list_all-from_AllPass}
-use Rattle.sg_model.specs.declared.kind.Kind.{Kind}
-use Rattle.sg_model.specs.declared.kind.Kind.TheVariants.{Security, Matrix}
-use Rattle.sg_model.specs.declared.fault.GameFault.{GameFault}
 use Rattle.sg_model.specs.declared.fault.Place.{Place}
-use Rattle.sg_model.specs.declared.fault.Place.TheVariants.{Document, Schedule, Resource, Attacker}
+use Rattle.sg_model.specs.declared.fault.Place.TheVariants.{Document}
 use Rattle.sg_model.specs.Games.{Named}
 use Rattle.sg_model.specs.Limits.{IsCount, IsWithin, IsPay, IsTable, AreMembers, AreLists}
 use Rattle.sg_model.specs.Names.{AreNames}
-use Rattle.sg_game.specs.declared.parts.Parts.{Parts}
 use Rattle.sg_game.specs.declared.parts.ListParts.{ListParts}
-use Rattle.sg_game.specs.declared.parts.TypeParts.{TypeParts}
 use Rattle.sg_game.specs.Seen.{rows, texts, named_of}
-use Rattle.sg_game.specs.Faults.{◌orelse◌, unless, is_within, is_pay, is_table, name_fault, names_fault, entries_fault, each_member_fault, members_fault, lists_fault, tables_fault, pays_fault, type_fault, types_fault, goal_place, goal_limit, goals_fault, option_fault, prior_limit, patrol_limit, type_limit, numbers_fault, fields_fault}
-use Rattle.sg_game.proofs.Fresh.{AreFresh, fresh_first}
+use Rattle.sg_game.specs.Faults.{◌orelse◌, unless, is_within, is_pay, is_table, names_fault, entries_fault, each_member_fault, members_fault, lists_fault}
+use Rattle.sg_game.proofs.Fresh.{fresh_first}
 use Rattle.sg_game.proofs.Steps.{neither, both, holds, fine, and_both}
-use Rattle.sg_game.proofs.Entered.{AreEntered, AreKnown, entered, enters, entered_names, names_entered, known, knows}
+use Rattle.sg_game.proofs.Entered.{entered, enters, entered_names, names_entered, known, knows}
 use Rattle.std.proofs.lemmas.Bool.Decides.{Decides-eqb}
 
 -- numbers in range

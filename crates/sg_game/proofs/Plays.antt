@@ -1,12 +1,10 @@
 -- Steps over choices and types, and what a declared scale means.
-use Rattle.std.proofs.Common.{◌≡◌, ◌≢◌, ◌∙◌, ℕ, ◌+◌, ◌<◌, ◌≤◌, ◌-◌, Bool, true, false, List, [], ◌∷◌, length, ℤ, pos, ◌≤ℤ◌, ◌+ℤ◌, Option, Some, None, take, get_or, sym, ap, subst, refl, arith, add-one}
+use Rattle.std.proofs.Common.{◌≡◌, ◌≢◌, ◌∙◌, ℕ, ◌+◌, ◌<◌, ◌≤◌, ◌-◌, List, [], ◌∷◌, length, ℤ, pos, ◌≤ℤ◌, ◌+ℤ◌, Option, Some, None, take, get_or, sym, ap, subst, refl, arith, add-one}
 use Rattle.std.specs.List.{All}
-use Rattle.std.specs.Prelude.{int_lt}
 use Rattle.std.proofs.lemmas.Int.{ints}
 use Rattle.std.proofs.lemmas.List.{take_more}
-use Rattle.sg_model.specs.declared.kind.Kind.TheVariants.{Security, Matrix}
-use Rattle.sg_model.specs.Games.{Game, Attacker, Payoff, attacker, payoff, nobody, nothing}
-use Rattle.sg_model.specs.Limits.{IsGame, IsSecurityGame, IsScaledGame}
+use Rattle.sg_model.specs.Games.{Game, Attacker, attacker, payoff, nobody, nothing}
+use Rattle.sg_model.specs.Limits.{IsGame}
 use Rattle.sg_model.specs.Origami.{IsOrigami, IsScaled}
 use Rattle.sg_model.specs.Sums.{nth, total}
 use Rattle.sg_model.proofs.Sums.{total-append}

@@ -1,13 +1,9 @@
 -- What the promises of a game give in either form.
-use Rattle.std.proofs.Common.{get_or, ◌-◌, ◌≡◌, ◌≢◌, ℕ, ◌≤◌, ◌^◌, Bool, true, false, cond, List, [], ◌∷◌, length, ℤ, pos, ◌≤ℤ◌, Option, Some, None, sym, ◌∙◌, ap, subst, refl, arith}
-use Rattle.std.specs.Prelude.{int_lt}
+use Rattle.std.proofs.Common.{get_or, ◌-◌, ◌≡◌, ℕ, ◌≤◌, ◌^◌, Bool, true, false, cond, List, length, ℤ, pos, Option, Some, None, sym, ◌∙◌, ap, subst, refl, arith}
 use Rattle.std.specs.List.{All}
-use Rattle.std.proofs.lemmas.Int.{ints}
-use Rattle.std.proofs.lemmas.List.Elements.{All-weaker}
 use Rattle.sg_model.specs.declared.kind.Kind.{Kind}
 use Rattle.sg_model.specs.declared.kind.Kind.TheVariants.{Security, Matrix}
-use Rattle.sg_model.specs.Games.{Game, Named, Attacker, is_matrix, is_kind_matrix, resource_count, schedule_count, attacker, nobody, action_count}
-use Rattle.sg_model.specs.Sums.{nth}
+use Rattle.sg_model.specs.Games.{Game, Named, Attacker, is_matrix, is_kind_matrix, attacker, nobody, action_count}
 use Rattle.sg_model.specs.Limits.{IsGame, IsSecurityGame, IsMatrixGame, IsDefended, ArePatrols, AreListed, IsWithin, IsSecurityType, IsMatrixType, AreTypes, is_scaled}
 use Rattle.sg_model.proofs.Numbers.{nth-is}
 use Rattle.sg_game.specs.Counts.{IsTypeOf}

@@ -1,6 +1,6 @@
 -- Parts have no fault exactly where they make a game.
-use Rattle.std.proofs.Common.{◌↔◌, ◌≡◌, ◌≢◌, ◌∙◌, ℕ, zero, suc, ◌+◌, ◌<◌, ◌≤◌, ◌^◌, Bool, true, false, cond, ◌&&◌, ◌||◌, List, [], ◌∷◌, length, map, get_or, ℤ, pos, ◌≤ℤ◌, Option, Some, None, String, Global, string_bytes, refl, ap, subst, sym, arith}
-use Rattle.std.specs.Prelude.{int_lt, int_rem, nat_le, is_some, is_none, unwrap_or, option_map, Vec}
+use Rattle.std.proofs.Common.{◌↔◌, ◌≡◌, ◌≢◌, ◌∙◌, ℕ, ◌≤◌, ◌^◌, Bool, true, false, cond, ◌&&◌, ◌||◌, List, [], ◌∷◌, length, map, get_or, ℤ, pos, ◌≤ℤ◌, Option, Some, None, Global, string_bytes, refl, ap, subst, sym, arith}
+use Rattle.std.specs.Prelude.{int_lt, int_rem, nat_le, is_some, is_none, option_map, Vec}
 use Rattle.std.specs.Ordering.{int_eq}
 use Rattle.std.specs.List.{All, list_all}
 use Rattle.std.proofs.lemmas.Int.{ints}
@@ -14,19 +14,18 @@ use Rattle.sg_model.specs.declared.kind.Kind.TheVariants.{Security, Matrix}
 use Rattle.sg_model.specs.declared.fault.Place.TheVariants.{Document, Attacker}
 use Rattle.sg_model.specs.Games.{Game, Named, Payoff}
 use Rattle.sg_model.specs.Games as model
-use Rattle.sg_model.specs.Limits.{IsCount, IsWithin, AreLists, AreTypes, IsGame, IsSecurityGame, IsMatrixGame, IsScaledGame, IsSecurityType, IsMatrixType, IsDefended, ArePatrols, AreListed, is_scaled, program_rows}
+use Rattle.sg_model.specs.Limits.{IsCount, IsWithin, AreLists, AreTypes, IsGame, IsSecurityGame, IsMatrixGame, IsScaledGame, IsSecurityType, IsMatrixType, IsDefended, is_scaled, program_rows}
 use Rattle.sg_model.specs.Names.{AreNames}
 use Rattle.sg_model.specs.Origami.{IsScaled, gap}
 use Rattle.sg_game.specs.declared.parts.Parts.{Parts}
 use Rattle.sg_game.specs.declared.parts.TypeParts.{TypeParts}
-use Rattle.sg_game.specs.Building.{AreMatrixParts, HasOwnFields, IsAtLeast, IsSecurityParts, IsTold}
-use Rattle.sg_game.specs.Converting.{AreFours}
-use Rattle.sg_game.specs.Faults.{◌orelse◌, unless, fault_of, fields_fault, goal_limit, is_scaled_game, is_scaled_payoff, patrol_limit, prior_limit, type_limit, whole_fault}
-use Rattle.sg_game.specs.Seen.{attacker_of, count_of, game_of, named_of, texts, rows}
+use Rattle.sg_game.specs.Building.{HasOwnFields, IsAtLeast, IsTold}
+use Rattle.sg_game.specs.Faults.{◌orelse◌, fault_of, fields_fault, goal_limit, is_scaled_game, is_scaled_payoff, patrol_limit, prior_limit, type_limit, whole_fault}
+use Rattle.sg_game.specs.Seen.{attacker_of, count_of, game_of, named_of}
 use Rattle.sg_game.proofs.Steps.{neither, both, holds, fine, and_both}
 use Rattle.sg_game.proofs.Listed.{All-unmap}
 use Rattle.sg_game.proofs.Fielded.{AreFielded, IsOptionWithin, IsTyped, are-fielded, fielded}
-use Rattle.sg_game.proofs.Told.{at_least, count_of-within, matrix_from, matrix_to, no_lists, none_is, none_scale, patrol_limit-is, prior_limit-le, scale_range, scale_within, scaled_is, security_from, security_to, some_is, some_scale, within-count_of}
+use Rattle.sg_game.proofs.Told.{AreFours, at_least, count_of-within, matrix_from, matrix_to, no_lists, none_is, none_scale, patrol_limit-is, prior_limit-le, scale_range, scale_within, scaled_is, security_from, security_to, some_is, some_scale, within-count_of}
 use Rattle.sg_game.proofs.Promises.{by_form, security_game, matrix_game}
 
 -- patrols or lists

@@ -1,7 +1,5 @@
 -- First faults of two tests, one after the other.
-use Rattle.std.proofs.Common.{◌≡◌, ℕ, ◌≤◌, Bool, true, false, not, ◌&&◌, leb, ℤ, ◌≤ℤ◌, Option, Some, None, refl}
-use Rattle.std.specs.Prelude.{int_le}
-use Rattle.std.proofs.lemmas.Int.{ints}
+use Rattle.std.proofs.Common.{◌≡◌, ℕ, Bool, true, false, ◌&&◌, Option, Some, None, refl}
 use Rattle.sg_model.specs.declared.fault.GameFault.{GameFault}
 use Rattle.sg_model.specs.declared.fault.Place.{Place}
 use Rattle.sg_game.specs.Faults.{◌orelse◌, unless}

@@ -1,26 +1,25 @@
 -- What the fields of parts are in their game, and the other way.
-use Rattle.std.proofs.Common.{◌≡◌, ◌≢◌, ◌∙◌, ◌⊎◌, ℕ, zero, suc, ◌+◌, ◌<◌, ◌≤◌, ◌^◌, Bool, true, false, cond, ◌&&◌, ◌||◌, List, [], ◌∷◌, length, map, get_or, ℤ, pos, negsuc, ◌≤ℤ◌, ◌-ℤ◌, Option, Some, None, String, Global, string_bytes, refl, ap, subst, sym, arith, inl, inr}
-use Rattle.std.specs.Prelude.{int_lt, is_some, is_none, unwrap_or, option_map, Vec}
+use Rattle.std.proofs.Common.{◌≡◌, ◌≢◌, ◌∙◌, ℕ, ◌≤◌, ◌^◌, Bool, true, false, cond, List, [], ◌∷◌, length, map, get_or, ℤ, pos, negsuc, ◌≤ℤ◌, Option, Some, None, Global, string_bytes, refl, ap, sym, arith}
+use Rattle.std.specs.Prelude.{int_lt, is_some, unwrap_or, Vec}
 use Rattle.std.specs.List.{All}
 use Rattle.std.proofs.lemmas.Int.{ints}
 use Rattle.std.proofs.lemmas.List.{length-map}
-use Rattle.std.proofs.lemmas.List.Elements.{All-nil, All-cons, All-head, All-tail, All-map, All-weaker}
-use Rattle.sg_model.specs.declared.kind.Kind.{Kind}
+use Rattle.std.proofs.lemmas.List.Elements.{All-nil, All-cons, All-map}
 use Rattle.sg_model.specs.declared.kind.Kind.TheVariants.{Security, Matrix}
-use Rattle.sg_model.specs.Games.{Game, Named, Payoff}
-use Rattle.sg_model.specs.Games as model
-use Rattle.sg_model.specs.Limits.{IsCount, IsWithin, IsPay, IsPayoff, IsTable, AreLists, IsGame, IsSecurityGame, IsMatrixGame, IsSecurityType, IsMatrixType, IsDefended, ArePatrols, AreListed}
-use Rattle.sg_model.specs.Names.{AreNames}
+use Rattle.sg_model.specs.Limits.{IsWithin, IsPay, IsPayoff, AreLists, IsSecurityType, IsMatrixType}
 use Rattle.sg_game.specs.declared.parts.TypeParts.{TypeParts}
 use Rattle.sg_game.specs.Building.{IsAtLeast, IsSecurityParts}
-use Rattle.sg_game.specs.Converting.{AreFours}
 use Rattle.sg_game.specs.Faults.{prior_limit, patrol_limit}
 use Rattle.sg_game.specs.Seen.{attacker_of, count_of, payoff_of, rows, texts}
 use Rattle.sg_game.proofs.Listed.{All-unmap}
-use Rattle.sg_game.proofs.Fielded.{HasTables, IsOptionWithin, IsTyped}
+use Rattle.sg_game.proofs.Fielded.{IsOptionWithin, IsTyped}
 use Rattle.sg_game.proofs.Fresh.{AllPairs-nil}
 
 -- four payoffs
+
+-- each list has four numbers
+abbrev pub AreFours : List (Vec ℤ Global) → Type 0
+AreFours lists = All (λ (row : Vec ℤ Global). length row.items ≡ 4) lists
 
 pub fours : (row : List ℤ) → length row ≡ 4 → All IsPay row → IsPayoff (payoff_of row)
 fours [] n h = absurd (omega arith)

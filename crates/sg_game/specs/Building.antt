@@ -1,5 +1,5 @@
 -- Which parts may be given, what a maker of games answers, and what no fault means.
-use Rattle.std.specs.Prelude.{◌≡◌, ◌≢◌, ◌↔◌, ℕ, ◌≤◌, List, [], length, ℤ, pos, ◌≤ℤ◌, All, Option, Some, None, Result, Ok, Err, Vec}
+use Rattle.std.specs.Prelude.{◌≡◌, ◌≢◌, ◌↔◌, [], length, ℤ, pos, ◌≤ℤ◌, All, Option, Some, None, Result, Ok, Err, Vec}
 use Rattle.std.specs.declared.alloc.Global.{Global}
 use Rattle.sg_model.specs.declared.kind.Kind.TheVariants.{Security, Matrix}
 use Rattle.sg_model.specs.declared.fault.GameFault.{GameFault}

@@ -1,10 +1,5 @@
 -- Which parts can lie in a game.
-use Rattle.std.specs.Prelude.{◌≡◌, ℕ, ◌^◌, ◌<◌, List, length, ℤ, All, Option, Some, None, Vec}
-use Rattle.std.specs.declared.alloc.Global.{Global}
-
--- each list has four numbers
-abbrev pub AreFours : List (Vec ℤ Global) → Type 0
-AreFours lists = All (λ (row : Vec ℤ Global). length row.items ≡ 4) lists
+use Rattle.std.specs.Prelude.{ℕ, ◌^◌, ◌<◌, List, All, Option, Some, None}
 
 -- each number fits 16 bits
 abbrev pub FitAll : List ℕ → Type 0

@@ -1,5 +1,5 @@
 -- What a game has of each kind, by number, and how each is named.
-use Rattle.std.specs.Prelude.{ℕ, ◌+◌, ◌*◌, ◌-◌, sum_by, ◌≤◌, ◌++◌, Bool, if◌then◌else◌, List, [], ◌∷◌, map, length, ℤ, pos, Option, Some, None, codes, decimal}
+use Rattle.std.specs.Prelude.{ℕ, ◌+◌, ◌*◌, ◌-◌, sum_by, ◌≤◌, ◌++◌, if◌then◌else◌, List, [], ◌∷◌, map, length, ℤ, pos, Option, Some, None, codes, decimal}
 use Rattle.sg_model.specs.Sums.{nth, numbers}
 use Rattle.sg_model.specs.declared.kind.Kind.{Kind}
 use Rattle.sg_model.specs.declared.kind.Kind.TheVariants.{Security, Matrix}

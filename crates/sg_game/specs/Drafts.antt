@@ -1,35 +1,27 @@
 -- A game before it is tested as a whole.
-use Rattle.std.specs.Prelude.{◌≡◌, ℕ, ◌+◌, ◌*◌, ◌-◌, ◌≤◌, List, length, sum_by, ℤ, pos, ◌≤ℤ◌, All, Option, Some, None}
-use Rattle.sg_model.specs.declared.kind.Kind.{Kind}
-use Rattle.sg_model.specs.declared.kind.Kind.TheVariants.{Security, Matrix}
+use Rattle.std.specs.Prelude.{ℕ, ◌≤◌, length, All, Option, Some, None, option_map}
 use Rattle.sg_model.specs.Games.{Game, Attacker}
-use Rattle.sg_model.specs.Limits.{IsCount, IsPayoff, IsWithin}
+use Rattle.sg_model.specs.Limits.{IsPayoff}
 use Rattle.sg_game.specs.declared.parts.Parts.{Parts}
 use Rattle.sg_game.specs.declared.parts.ListParts.{ListParts}
-use Rattle.sg_game.specs.declared.parts.TypeParts.{TypeParts}
 use Rattle.sg_game.specs.declared.draft.Draft.{Draft}
-use Rattle.sg_game.specs.Converting.{AreFours, FitAll}
+use Rattle.sg_game.specs.Converting.{FitAll}
+use Rattle.sg_game.specs.Seen.{count_of}
 
 -- the game of a draft
 abbrev pub drawn : Draft → Game
 drawn d = record { kind = d.kind; scale = d.scale; patrols = d.patrols; goals = d.goals; schedules = d.schedules; resources = d.resources; types = d.types }
 
--- there is no number, or it is from 0 to 200
-abbrev pub IsFew : Option ℤ → Type 0
-IsFew None = Unit {0}
-IsFew (Some z) = IsWithin (pos 0) (pos 200) z
-
--- parts that a draft can hold
-pub record FitsDraft (p : Parts) : Type 0 where
-  pub patrols : IsFew p.patrols
-  pub schedules : All (λ (x : ListParts). FitAll x.members.items) p.schedules.items
-  pub resources : All (λ (x : ListParts). FitAll x.members.items) p.resources.items
-  pub types : All (λ (x : TypeParts). AreFours x.payoffs.items) p.types.items
-
 -- there is no number, or it is at most 200
 abbrev pub IsFewPatrols : Option ℕ → Type 0
 IsFewPatrols None = Unit {0}
 IsFewPatrols (Some n) = n ≤ 200
+
+-- parts that a draft can hold
+pub record FitsDraft (p : Parts) : Type 0 where
+  pub patrols : IsFewPatrols (option_map count_of p.patrols)
+  pub schedules : All (λ (x : ListParts). FitAll x.members.items) p.schedules.items
+  pub resources : All (λ (x : ListParts). FitAll x.members.items) p.resources.items
 
 -- so few of each that the rows of a linear program can be counted
 pub record IsSmall (g : Game) : Type 0 where

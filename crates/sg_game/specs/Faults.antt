@@ -1,5 +1,5 @@
 -- The first rule that the parts of a game break.
-use Rattle.std.specs.Prelude.{ℕ, ◌+◌, ◌*◌, ◌-◌, ◌^◌, Bool, true, false, ◌&&◌, ◌||◌, ◌==◌, nat_le, not, if◌then◌else◌, List, [], ◌∷◌, ◌++◌, length, ℤ, pos, ◌-ℤ◌, int_le, int_lt, int_rem, Option, Some, None, is_some, is_none, String, string_bytes, bytes_eq, nat_eq, Vec}
+use Rattle.std.specs.Prelude.{ℕ, ◌+◌, ◌^◌, Bool, true, false, ◌&&◌, ◌||◌, nat_le, not, if◌then◌else◌, List, [], ◌∷◌, ◌++◌, length, ℤ, pos, ◌-ℤ◌, int_le, int_lt, int_rem, Option, Some, None, is_some, is_none, String, string_bytes, bytes_eq, nat_eq, Vec}
 use Rattle.std.specs.List.{list_all, list_any}
 use Rattle.std.specs.Ordering.{int_eq}
 use Rattle.std.specs.declared.alloc.Global.{Global}
@@ -16,7 +16,7 @@ use Rattle.sg_model.specs.Origami.{gap}
 use Rattle.sg_game.specs.declared.parts.Parts.{Parts}
 use Rattle.sg_game.specs.declared.parts.ListParts.{ListParts}
 use Rattle.sg_game.specs.declared.parts.TypeParts.{TypeParts}
-use Rattle.sg_game.specs.Seen.{game_of, rows}
+use Rattle.sg_game.specs.Seen.{game_of}
 
 -- the first of two faults
 infixl 10 ◌orelse◌

@@ -1,5 +1,5 @@
 -- The game that parts describe.
-use Rattle.std.specs.Prelude.{ℕ, List, map, ℤ, pos, negsuc, Option, String, string_bytes, option_map, unwrap_or, slice_index_or, Vec}
+use Rattle.std.specs.Prelude.{ℕ, List, map, ℤ, pos, negsuc, String, string_bytes, option_map, unwrap_or, slice_index_or, Vec}
 use Rattle.std.specs.declared.alloc.Global.{Global}
 use Rattle.sg_model.specs.Games.{Payoff, Attacker, Named, Game}
 use Rattle.sg_game.specs.declared.parts.Parts.{Parts}

@@ -16,7 +16,7 @@ use crate::parts::Parts;
 use std::alloc::{AllocError, Global};
 
 /// The game of a draft.
-fn game_from(alloc: Global, draft: Draft) -> Result<Game, AllocError>
+pub(crate) fn game_from(alloc: Global, draft: Draft) -> Result<Game, AllocError>
     requires { IsGame (drawn draft) }
     ensures { IfOk result (λ game. game ≡ drawn draft) }
 {

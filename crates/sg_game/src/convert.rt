@@ -1,9 +1,9 @@
 //! Parts as they lie in a game.
 
-ghost use Rattle.std.specs.Prelude.{◌≡◌, ◌^◌, ◌<◌, All, IfOk, length, map, string_bytes};
+ghost use Rattle.std.specs.Prelude.{◌≡◌, ◌^◌, ◌<◌, All, IfOk, map, pos, slice_index_or, string_bytes};
 ghost use Rattle.sg_model.specs.Sums.{numbers};
 ghost use Rattle.sg_game.specs.Counts.{patrol_name, patrol_names};
-ghost use Rattle.sg_game.specs.Converting.{AreFours, FitAll, IsBelow};
+ghost use Rattle.sg_game.specs.Converting.{FitAll, IsBelow};
 ghost use Rattle.sg_game.specs.Seen.{attacker_of, named_of, payoff_of, rows, texts};
 
 use crate::game::{Attacker, Name, Named, Payoff};
@@ -22,22 +22,30 @@ pub(crate) fn names_from(alloc: Global, strings: Vec<String>) -> Result<Items<Na
     Ok(names)
 }
 
+/// The number at place `i`, counted from 0, and 0 where there is none.
+fn number_at(numbers: &[i64], i: usize) -> i64
+    ensures { result ≡ slice_index_or numbers.now i (pos 0) }
+{
+    match numbers.get(i) {
+        Some(number) => *number,
+        None => 0,
+    }
+}
+
 /// The payoffs of four numbers.
 fn payoff_from(numbers: &[i64]) -> Payoff
-    requires { length numbers.now ≡ 4 }
     ensures { result ≡ payoff_of numbers.now }
 {
     Payoff {
-        dc: numbers[0],
-        du: numbers[1],
-        ac: numbers[2],
-        au: numbers[3],
+        dc: number_at(numbers, 0),
+        du: number_at(numbers, 1),
+        ac: number_at(numbers, 2),
+        au: number_at(numbers, 3),
     }
 }
 
 /// The payoffs of lists of four numbers.
 fn payoffs_from(alloc: Global, lists: Vec<Vec<i64>>) -> Result<Items<Payoff>, AllocError>
-    requires { AreFours lists.items }
     ensures { IfOk result (λ payoffs. payoffs ≡ map payoff_of (rows lists.items)) }
 {
     let mut payoffs = Items::new(alloc);
@@ -60,7 +68,6 @@ fn table_from(alloc: Global, lists: Vec<Vec<i64>>) -> Result<Items<Items<i64>>, 
 
 /// An attacker of its parts.
 fn attacker_from(alloc: Global, x: TypeParts) -> Result<Attacker, AllocError>
-    requires { AreFours x.payoffs.items }
     ensures { IfOk result (λ attacker. attacker ≡ attacker_of x) }
 {
     let TypeParts {
@@ -90,7 +97,6 @@ pub(crate) fn attackers_from(
     alloc: Global,
     types: Vec<TypeParts>,
 ) -> Result<Items<Attacker>, AllocError>
-    requires { All (λ x. AreFours x.payoffs.items) types.items }
     ensures { IfOk result (λ attackers. attackers ≡ map attacker_of types.items) }
 {
     let mut attackers = Items::new(alloc);

@@ -8,7 +8,7 @@ ghost use Rattle.sg_model.specs.Origami.{gap};
 ghost use Rattle.sg_game.specs.Building.{Tells};
 ghost use Rattle.std.specs.List.{list_all};
 ghost use Rattle.sg_game.specs.Counts.{rows_by};
-ghost use Rattle.sg_game.specs.Drafts.{FitsDraft, IsFew, IsSmall, drawn};
+ghost use Rattle.sg_game.specs.Drafts.{FitsDraft, IsFewPatrols, IsSmall, drawn};
 ghost use Rattle.sg_game.specs.Faults.{is_scaled_game, is_scaled_payoff, whole_fault};
 ghost use Rattle.sg_game.specs.Seen.{count_of, game_of};
 
@@ -32,13 +32,21 @@ pub(crate) struct Draft {
     pub(crate) types: Items<Attacker>,
 }
 
-/// The number of patrols, as a short number.
+/// A number of patrols as a short number, and 0 for a number below 0.
+fn count_from(patrols: i64) -> u16
+    requires { count_of patrols ≤ 200 }
+    ensures { result ≡ count_of patrols }
+{
+    if patrols < 0 { 0 } else { patrols as u16 }
+}
+
+/// The number of patrols, where there are any.
 fn patrols_from(patrols: Option<i64>) -> Option<u16>
-    requires { IsFew patrols }
+    requires { IsFewPatrols (option_map count_of patrols) }
     ensures { result ≡ option_map count_of patrols }
 {
     match patrols {
-        Some(n) => Some(n as u16),
+        Some(n) => Some(count_from(n)),
         None => None,
     }
 }

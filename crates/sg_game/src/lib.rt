@@ -12,6 +12,7 @@ mod fields;
 mod game;
 mod laws;
 mod lists;
+mod made;
 mod names;
 mod parts;
 mod play;

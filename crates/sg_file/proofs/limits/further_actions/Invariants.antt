@@ -1,5 +1,4 @@
-use Rattle.std.proofs.Common.{◌≡◌, ◌-◌, ◌*◌, ◌^◌, ◌≤◌, length, map, take, sum_by}
-use Rattle.sg_model.specs.Games.{Attacker}
+use Rattle.std.proofs.Common.{◌≡◌, ◌-◌, ◌*◌, ◌^◌, ◌≤◌, length, take, sum_by}
 use Rattle.sg_game.specs.Seen.{attacker_of}
 use Rattle.sg_game.specs.declared.parts.TypeParts.{TypeParts}
 use Rattle.sg_file.proofs.limits.further_actions.Given as goal

@@ -1,4 +1,4 @@
-use Rattle.std.proofs.Common.{◌≡◌, ◌∙◌, ℤ, Vec, Global, map, refl, rules, FitsSigned, w64}
+use Rattle.std.proofs.Common.{◌≡◌, ◌∙◌, ℤ, Vec, Global, refl, rules, FitsSigned, w64}
 use Rattle.std.specs.List.{list_all}
 use Rattle.std.proofs.lemmas.Int.{to_z-of_z}
 use Rattle.std.proofs.lemmas.List.Folds.{list_all-map}
@@ -11,5 +11,5 @@ returns c =
     let lists = c.args.attacker.now.payoffs.items in
     let fit : FitsSigned w64 c.args.scale = search rules in
     let told : c.targets_fit.result ≡ list_all (λ (v : Vec ℤ Global). fits_scale c.args.scale (payoff_of v.items)) lists =
-        (simp to_z-of_z at c.targets_fit.ensures) ∙ rw c.deref.ensures.value refl in
+    (simp to_z-of_z at c.targets_fit.ensures) ∙ rw c.deref.ensures.value refl in
     rw (list_all-map (fits_scale c.args.scale) payoff_of (rows lists), list_all-map (λ xs. fits_scale c.args.scale (payoff_of xs)) (λ (v : Vec ℤ Global). v.items) lists) told

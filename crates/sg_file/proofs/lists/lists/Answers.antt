@@ -1,4 +1,3 @@
-use Rattle.std.proofs.Common.{refl}
 use Rattle.sg_format.specs.Lists.{named_lists_at}
 use Rattle.sg_file.proofs.lists.lists.Goals as goal
 

@@ -1,10 +1,9 @@
-use Rattle.std.proofs.Common.{◌≡◌, ◌∙◌, ◌+◌, ◌++◌, ◌∷◌, [], ℕ, List, length, map, get_or, Ok, refl, sym, ap, arith, string_bytes}
+use Rattle.std.proofs.Common.{◌≡◌, ◌∙◌, ◌+◌, ◌++◌, ◌∷◌, [], List, length, map, get_or, Ok, sym, arith}
 use Rattle.std.proofs.lemmas.List.{map_push, length-map}
-use Rattle.toml.specs.Data.{Data}
 use Rattle.toml.specs.View.{view as data_of}
 use Rattle.sg_model.specs.Games.{Named}
 use Rattle.sg_game.specs.Seen.{named_of}
-use Rattle.sg_format.specs.Lists.{each, named_at}
+use Rattle.sg_format.specs.Lists.{named_at}
 use Rattle.sg_file.specs.Answers.{Fails}
 use Rattle.sg_file.specs.Sections.{key_of, member_place, members_limit}
 use Rattle.sg_file.proofs.Items.{each-Fails, each-next, each-done}
@@ -15,7 +14,7 @@ returns-in-Err-clause-gives c = λ names known.
     let before = map named_of c.loop-i.parts.items in
     let count : length before ≡ c.loop-i.i = omega (arith, length-map c.loop-i.parts.items named_of) in
     let read : Fails c.in-Err.e (named_at (member_place c.args.group (length before + 1)) (key_of c.args.group) names (members_limit c.args.group) before (data_of (get_or c.args.values.now c.loop-i.i c.index-values-i.result))) =
-        rw (count, ← c.index-values-i.is) (c.in-Err.ensures.gives names before known c.loop-i.invariant.indexed) in
+    rw (count, ← c.index-values-i.is) (c.in-Err.ensures.gives names before known c.loop-i.invariant.indexed) in
     rw (← c.loop-i.invariant.read names known) (each-Fails _ before c.args.values.now c.loop-i.i c.index-values-i.result c.in-Err.e c.loop-i-test.true read)
 
 pub loop-i-preserved : goal.loop-i-preserved
@@ -23,14 +22,14 @@ loop-i-preserved c =
     let before = map named_of c.loop-i.parts.items in
     let count : length before ≡ c.loop-i.i = omega (arith, length-map c.loop-i.parts.items named_of) in
     let pushed : map named_of c.push.new.self.items ≡ before ++ named_of c.in-Ok.part ∷ [] =
-        rw (c.in_ok-push-in-Ok.ensures.items) (map_push named_of c.loop-i.parts.items c.in-Ok.part) in
+    rw (c.in_ok-push-in-Ok.ensures.items) (map_push named_of c.loop-i.parts.items c.in-Ok.part) in
     let names_count : c.loop-i.i + 1 ≡ length (map (λ (x : Named). x.name) before) + 1 = omega (arith, length-map before (λ (x : Named). x.name)) in
     record {
       count = rw (c.in_ok-push-in-Ok.ensures.len) (omega arith);
       indexed = rw (pushed, map_push (λ (x : Named). x.name) before (named_of c.in-Ok.part)) (c.in-Ok.ensures.indexed (map (λ (x : Named). x.name) before) c.loop-i.invariant.indexed names_count);
       read = λ names known.
           let read : named_at (member_place c.args.group (length before + 1)) (key_of c.args.group) names (members_limit c.args.group) before (data_of (get_or c.args.values.now c.loop-i.i c.index-values-i.result)) ≡ Ok (named_of c.in-Ok.part) =
-              rw (count, ← c.index-values-i.is) (c.in-Ok.ensures.gives names before known c.loop-i.invariant.indexed) in
+          rw (count, ← c.index-values-i.is) (c.in-Ok.ensures.gives names before known c.loop-i.invariant.indexed) in
           let step = each-next (λ (earlier : List Named). named_at (member_place c.args.group (length earlier + 1)) (key_of c.args.group) names (members_limit c.args.group) earlier) before c.args.values.now c.loop-i.i c.index-values-i.result _ c.loop-i-test.true read in
           rw pushed (sym step ∙ c.loop-i.invariant.read names known);
     }

@@ -1,6 +1,6 @@
-use Rattle.std.proofs.Common.{◌≡◌, ◌∙◌, get_or, Ok, refl, sym}
+use Rattle.std.proofs.Common.{◌≡◌, ◌∙◌, get_or, Ok, sym}
 use Rattle.toml.specs.View.{view as data_of}
-use Rattle.sg_format.specs.Lists.{each, member_at}
+use Rattle.sg_format.specs.Lists.{member_at}
 use Rattle.sg_file.specs.Answers.{Fails}
 use Rattle.sg_file.proofs.Items.{each-Fails, each-next, each-done}
 use Rattle.sg_file.proofs.lists.members_of.Goals as goal
@@ -9,7 +9,7 @@ pub returns-in-Err : goal.returns-in-Err
 returns-in-Err c = λ names known.
     let before = c.loop-i.members.items in
     let read : Fails c.in-Err.e (member_at c.args.place names before (data_of (get_or c.args.values.now c.loop-i.i c.index-values-i.result))) =
-        rw (← c.index-values-i.is) (c.in-Err.ensures.gives names before known c.loop-i.invariant.marked) in
+    rw (← c.index-values-i.is) (c.in-Err.ensures.gives names before known c.loop-i.invariant.marked) in
     rw (← c.loop-i.invariant.read names known) (each-Fails (member_at c.args.place names) before c.args.values.now c.loop-i.i c.index-values-i.result c.in-Err.e c.loop-i-test.true read)
 
 pub loop-i-preserved : goal.loop-i-preserved
@@ -19,7 +19,7 @@ loop-i-preserved c =
       marked = rw c.in_ok-push-in-Ok.ensures.items (c.in-Ok.ensures.marked before c.loop-i.invariant.marked);
       read = λ names known.
           let read : member_at c.args.place names before (data_of (get_or c.args.values.now c.loop-i.i c.index-values-i.result)) ≡ Ok c.in-Ok.number =
-              rw (← c.index-values-i.is) (c.in-Ok.ensures.gives names before known c.loop-i.invariant.marked) in
+          rw (← c.index-values-i.is) (c.in-Ok.ensures.gives names before known c.loop-i.invariant.marked) in
           let step = each-next (member_at c.args.place names) before c.args.values.now c.loop-i.i c.index-values-i.result _ c.loop-i-test.true read in
           rw c.in_ok-push-in-Ok.ensures.items (sym step ∙ c.loop-i.invariant.read names known);
     }

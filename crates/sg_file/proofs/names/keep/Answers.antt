@@ -1,5 +1,4 @@
-use Rattle.std.proofs.Common.{◌≡◌, ◌∙◌, string_bytes, refl}
-use Rattle.std.specs.BTreeMap.{get_by_text}
+use Rattle.std.proofs.Common.{◌∙◌, string_bytes, refl}
 use Rattle.std.proofs.lemmas.Map.Text.{btree_map_updates_text}
 use Rattle.sg_file.proofs.Numbers.{Numbers-insert}
 use Rattle.sg_file.proofs.names.keep.Goals as goal

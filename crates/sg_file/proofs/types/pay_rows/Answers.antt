@@ -1,4 +1,4 @@
-use Rattle.std.proofs.Common.{◌≡◌, ◌∙◌, ◌++◌, ◌∷◌, [], ℤ, List, Vec, Global, get_or, Ok, Err, refl, sym}
+use Rattle.std.proofs.Common.{◌≡◌, ◌∙◌, ◌++◌, ◌∷◌, [], ℤ, List, Vec, Global, get_or, Ok, sym}
 use Rattle.std.proofs.lemmas.List.{map_push}
 use Rattle.toml.specs.View.{view as data_of}
 use Rattle.sg_game.specs.Seen.{rows}
@@ -17,7 +17,7 @@ loop-i-preserved c =
     let read : pays_at c.args.place c.args.columns (data_of (get_or c.args.values.now c.loop-i.i c.index-values-i.result)) ≡ Ok c.in-Ok.row.items = rw (← c.index-values-i.is) c.in-Ok.ensures in
     let step = each-next (λ (before : List (List ℤ)). pays_at c.args.place c.args.columns) (rows c.loop-i.table.items) c.args.values.now c.loop-i.i c.index-values-i.result _ c.loop-i-test.true read in
     let pushed : rows c.push.new.self.items ≡ rows c.loop-i.table.items ++ c.in-Ok.row.items ∷ [] =
-        rw (c.in_ok-push-in-Ok.ensures.items) (map_push (λ (v : Vec ℤ Global). v.items) c.loop-i.table.items c.in-Ok.row) in
+    rw (c.in_ok-push-in-Ok.ensures.items) (map_push (λ (v : Vec ℤ Global). v.items) c.loop-i.table.items c.in-Ok.row) in
     rw pushed (sym step ∙ c.loop-i.invariant)
 
 pub returns : goal.returns

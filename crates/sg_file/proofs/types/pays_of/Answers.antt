@@ -1,4 +1,4 @@
-use Rattle.std.proofs.Common.{◌≡◌, ◌∙◌, ℤ, List, ◌++◌, ◌∷◌, [], get_or, Ok, Err, refl, sym, rules, FitsSigned, w64}
+use Rattle.std.proofs.Common.{◌≡◌, ◌∙◌, ℤ, List, ◌++◌, ◌∷◌, [], get_or, Ok, Err, sym, rules, FitsSigned, w64}
 use Rattle.std.proofs.lemmas.Int.{to_z-of_z}
 use Rattle.toml.specs.View.{view as data_of}
 use Rattle.sg_format.specs.Types.{pay_at}

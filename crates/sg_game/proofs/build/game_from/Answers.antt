@@ -1,4 +1,4 @@
-use Rattle.std.proofs.Common.{refl, ◌≡◌, ◌≤◌, ℕ, length, arith, rules, Option, Some, None, ◌<◌, ◌^◌}
+use Rattle.std.proofs.Common.{refl, ◌≡◌, ◌≤◌, ℕ, arith, rules, Option, Some, None, ◌^◌}
 use Rattle.sg_game.specs.Converting.{IsBelow}
 use Rattle.sg_game.specs.Drafts.{drawn}
 use Rattle.sg_game.proofs.Promises.{goals_few, patrols_few}

@@ -1,5 +1,4 @@
-use Rattle.std.proofs.Common.{◌++◌, ◌∷◌, [], List, ℕ, ◌+◌, ◌∙◌, sym, ap}
-use Rattle.sg_game.specs.Counts.{patrol_name}
+use Rattle.std.proofs.Common.{◌∙◌, sym}
 use Rattle.sg_game.proofs.Patrols.{names-more}
 use Rattle.sg_game.proofs.convert.names_to.Goals as goal
 

@@ -1,4 +1,4 @@
-use Rattle.std.proofs.Common.{◌≡◌, ◌≢◌, pos, ◌≤ℤ◌, arith}
+use Rattle.std.proofs.Common.{◌≢◌, pos, arith}
 use Rattle.std.proofs.lemmas.Int.{ints}
 use Rattle.sg_game.proofs.Plays.{not_negative, scaled_origami}
 use Rattle.sg_game.proofs.play.is_origami.Goals as goal

@@ -1,4 +1,3 @@
-use Rattle.std.proofs.Common.{arith}
 use Rattle.sg_game.proofs.Promises.{patrols_few}
 use Rattle.sg_game.proofs.game.Game.resources.Goals as goal
 

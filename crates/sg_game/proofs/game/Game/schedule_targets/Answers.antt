@@ -1,5 +1,4 @@
-use Rattle.std.proofs.Common.{◌≡◌, ◌≤◌, sym, ◌∙◌, ap, length, rules, List, ℕ, Some}
-use Rattle.std.specs.List.{All}
+use Rattle.std.proofs.Common.{◌≡◌, ◌≤◌, sym, ◌∙◌, ap, length, rules, Some}
 use Rattle.std.proofs.lemmas.List.Elements.{All-same}
 use Rattle.sg_model.specs.Games.{Game, schedule_targets}
 use Rattle.sg_model.specs.Sums.{numbers}
