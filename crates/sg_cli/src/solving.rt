@@ -1,7 +1,6 @@
 //! What `solve` does: reads a game, solves it, and writes its report.
 
 ghost use Rattle.std.specs.Prelude.{◌≡◌, ◌≤◌, ◌⊎◌, ◌↔◌, IfOk, IfErr, OnOk, IsTrue, IsErrOf, Ok, Err, length, map, string_bytes, vec_len, Some, option_map};
-ghost use Rattle.sg_file.specs.Answers.{Gives};
 ghost use Rattle.sg_format.specs.GameFiles.{game_of_bytes};
 ghost use Rattle.sg_shelf.specs.Files.{Reads};
 ghost use Rattle.sg_words.specs.Commands.{command_given, solve};
@@ -10,7 +9,7 @@ ghost use Rattle.sg_cli.specs.Runs.{scene, texts, ComesOf, Solves, FileFails, Ga
 
 use crate::refusal::Refusal;
 use crate::solution::report_on;
-use sg_file::GameError;
+use sg_file::{GameError, read_game};
 use sg_game::{Game, is_origami};
 use sg_shelf::{Shelf, ShelfError, Sink};
 use sg_words::{Command, command_of};
@@ -31,12 +30,6 @@ fn bytes_named<S: Shelf>(alloc: Global, shelf: &mut S, name: &str) -> Result<Vec
         Err(ShelfError::TooLong { seen: _ }) => Err(Refusal::GameTooLong),
         Err(ShelfError::Memory) => Err(Refusal::Memory),
     }
-}
-
-fn read_game(alloc: Global, bytes: &[u8]) -> Result<Game, GameError>
-    ensures { Gives (λ g. g) result (game_of_bytes bytes.now) }
-{
-    Err(GameError::Memory)
 }
 
 /// The game of the bytes, where it is one that is solved.
