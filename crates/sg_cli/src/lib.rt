@@ -4,14 +4,16 @@
 //! `specs/Solutions.antt`, and the status and line of each refusal in `specs/Refusals.antt`.
 #![tactic(auto)]
 
-mod refusal;
 mod call;
+mod refusal;
 mod report;
 mod solution;
-
 mod solving;
 mod tickets;
 mod value;
 
-pub use refusal::Refusal;
 pub use call::run;
+pub use refusal::Refusal;
+
+#[cfg(test)]
+mod tests;
