@@ -98,8 +98,8 @@ solved_complete s status e v =
       long = λ name names k calm. absurd (read_long s _ name r names k);
       refused = λ bytes fault h calm is. absurd (game_fault v.reports.game fault (game_of_bytes bytes) (reads_same s _ bytes r h) is);
       not_yet = λ bytes game h calm is not.
-      let same : v.reports.game ≡ game = one_game v.reports.game game (game_of_bytes bytes) (reads_same s _ bytes r h) is in
-      absurd (not (subst IsSolved same v.reports.is_solved));
+          let same : v.reports.game ≡ game = one_game v.reports.game game (game_of_bytes bytes) (reads_same s _ bytes r h) is in
+          absurd (not (subst IsSolved same v.reports.is_solved));
       solved = λ bytes game h calm quiet is yes. inl e;
     }
 
@@ -121,10 +121,10 @@ refused_complete s status GameNotRead e c =
       words = λ none. absurd (no_words s why.name none why.names);
       missing = λ name names k. inl e;
       long = λ name names k calm.
-      absurd (elim why.cause [
-        | inl risen ↦ risen_not s.reads_before s.reads_after risen calm
-        | inr gone ↦ missing_long s.files name (subst (λ (n : List ℕ). IsMissing s.files n) (same_name s why.name name why.names names) gone) k
-      ]);
+          absurd (elim why.cause [
+            | inl risen ↦ risen_not s.reads_before s.reads_after risen calm
+            | inr gone ↦ missing_long s.files name (subst (λ (n : List ℕ). IsMissing s.files n) (same_name s why.name name why.names names) gone) k
+          ]);
       refused = λ bytes fault h calm is. absurd (never bytes h calm);
       not_yet = λ bytes game h calm is not. absurd (never bytes h calm);
       solved = λ bytes game h calm quiet is yes. absurd (never bytes h calm);
@@ -135,7 +135,7 @@ refused_complete s status GameTooLong e c =
     record {
       words = λ none. absurd (no_words s why.name none why.names);
       missing = λ name names k.
-      absurd (long_missing s.files name s.reads_before s.reads_after (subst (λ (n : List ℕ). MayBeLong s.files n s.reads_before s.reads_after) (same_name s why.name name why.names names) why.cause) k);
+          absurd (long_missing s.files name s.reads_before s.reads_after (subst (λ (n : List ℕ). MayBeLong s.files n s.reads_before s.reads_after) (same_name s why.name name why.names names) why.cause) k);
       long = λ name names k calm. inl e;
       refused = λ bytes fault h calm is. absurd (never bytes h);
       not_yet = λ bytes game h calm is not. absurd (never bytes h);
@@ -161,8 +161,8 @@ refused_complete s status NotYet e c =
       refused = λ bytes fault h calm is. absurd (game_fault v.game fault (game_of_bytes bytes) (reads_same s _ bytes r h) is);
       not_yet = λ bytes game h calm is not. inl e;
       solved = λ bytes game h calm quiet is yes.
-      let same : game ≡ v.game = one_game game v.game (game_of_bytes bytes) is (reads_same s _ bytes r h) in
-      absurd (v.not_solved (subst IsSolved same yes));
+          let same : game ≡ v.game = one_game game v.game (game_of_bytes bytes) is (reads_same s _ bytes r h) in
+          absurd (v.not_solved (subst IsSolved same yes));
     }
 refused_complete s status NotWritten e c =
     let r = c.reports.reads in
@@ -172,8 +172,8 @@ refused_complete s status NotWritten e c =
       long = λ name names k calm. absurd (read_long s _ name r names k);
       refused = λ bytes fault h calm is. absurd (game_fault c.reports.game fault (game_of_bytes bytes) (reads_same s _ bytes r h) is);
       not_yet = λ bytes game h calm is not.
-      let same : c.reports.game ≡ game = one_game c.reports.game game (game_of_bytes bytes) (reads_same s _ bytes r h) is in
-      absurd (not (subst IsSolved same c.reports.is_solved));
+          let same : c.reports.game ≡ game = one_game c.reports.game game (game_of_bytes bytes) (reads_same s _ bytes r h) is in
+          absurd (not (subst IsSolved same c.reports.is_solved));
       solved = λ bytes game h calm quiet is yes. absurd (risen_not s.writes_before s.writes_after c.fault quiet);
     }
 refused_complete s status Memory e c =

@@ -141,7 +141,7 @@ All-covering a (c ∷ cs) =
     All-append (IsOne a (a + length (c ∷ cs))) (some_ticket a c) (covering_tickets (a + 1) cs)
     (All-some a (a + length (c ∷ cs)) a c (omega arith) (omega (arith, long)))
     (All-weaker (IsOne (a + 1) (a + 1 + length cs)) (IsOne a (a + length (c ∷ cs))) (IsOne-wider a (a + length (c ∷ cs)) (a + 1) (a + 1 + length cs) (omega arith) (omega (arith, long)))
-      (covering_tickets (a + 1) cs) (All-covering (a + 1) cs))
+    (covering_tickets (a + 1) cs) (All-covering (a + 1) cs))
 
 All-spread : (counts : List ℤ) (tickets : ℤ) → All (IsOne 0 (length counts + 1)) (spread counts tickets)
 All-spread counts tickets =

@@ -37,4 +37,3 @@ spread counts tickets = some_ticket 0 (tickets -ℤ total (λ c. c) counts) ++ c
 -- a play stands before another, in the order of lists of choices
 abbrev pub IsBefore : Ticket → Ticket → Type 0
 IsBefore x y = slice_cmp nat_cmp x.play.code y.play.code ≡ Less
-

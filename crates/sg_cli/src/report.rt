@@ -108,12 +108,7 @@ fn put_reason(text: &mut Vec<u8>, why: Level) -> Result<(), AllocError>
 }
 
 /// Adds the line of a level.
-fn put_level_line(
-    text: &mut Vec<u8>,
-    num: i128,
-    den: i128,
-    why: Level,
-) -> Result<(), AllocError>
+fn put_level_line(text: &mut Vec<u8>, num: i128, den: i128, why: Level) -> Result<(), AllocError>
     ensures { OnOk result (text.new.items ≡ text.old.items ++ line (codes "water") (signed_decimal num ∷ signed_decimal den ∷ reason_fields why)) }
 {
     text.extend_from_slice(b"water")?;
@@ -136,12 +131,7 @@ fn put_head(text: &mut Vec<u8>, tickets: &[Ticket], total: i128) -> Result<(), A
 }
 
 /// Adds the lines from that of the value to that of the upper bound.
-fn put_bounds(
-    text: &mut Vec<u8>,
-    value: Frac,
-    level: Frac,
-    why: Level,
-) -> Result<(), AllocError>
+fn put_bounds(text: &mut Vec<u8>, value: Frac, level: Frac, why: Level) -> Result<(), AllocError>
     ensures { OnOk result (text.new.items ≡ text.old.items ++ bounds_text value level why) }
 {
     put_pair_line(text, b"value", value.num(), value.den())?;

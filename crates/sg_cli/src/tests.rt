@@ -5,7 +5,9 @@ use std::test::*;
 
 /// A game of the given top keys, whose one attacker has these payoffs.
 fn game_text(alloc: Global, keys: &str, payoffs: &str) -> Result<String, AllocError> {
-    format!(in alloc; "version = 1\nform = \"security\"\n{keys}\n\n[[type]]\nname = \"thief\"\nprior = 1\npayoffs = {payoffs}\n")
+    format!(in alloc;
+        "version = 1\nform = \"security\"\n{keys}\n\n[[type]]\nname = \"thief\"\nprior = 1\npayoffs = {payoffs}\n"
+    )
 }
 
 /// The words, as a program is given them.
@@ -48,41 +50,77 @@ fn answers(
 /// Games of one patrol, worked out by hand: the top keys, the payoffs, and the report.
 const SOLVED: [(&str, &str, &str); 12] = [
     // Two targets, the first worth twice the second.
-    ("scale = 4\npatrols = 1\ntargets = [\"t1\", \"t2\"]", "[[2, -2, 0, 4], [1, -1, 0, 2]]",
-     "patrol-report 1\ntickets 2 3\nt 2 1\nt 1 2\nvalue 2 3\nwater 4 3 resources\nupper 2 3\nverdict optimal\nend\n"),
+    (
+        "scale = 4\npatrols = 1\ntargets = [\"t1\", \"t2\"]",
+        "[[2, -2, 0, 4], [1, -1, 0, 2]]",
+        "patrol-report 1\ntickets 2 3\nt 2 1\nt 1 2\nvalue 2 3\nwater 4 3 resources\nupper 2 3\nverdict optimal\nend\n",
+    ),
     // A single target, always covered.
-    ("scale = 1\npatrols = 1\ntargets = [\"t1\"]", "[[1, -1, 0, 1]]",
-     "patrol-report 1\ntickets 1 1\nt 1 1\nvalue 1 1\nwater 0 1 target 1\nupper 1 1\nverdict optimal\nend\n"),
+    (
+        "scale = 1\npatrols = 1\ntargets = [\"t1\"]",
+        "[[1, -1, 0, 1]]",
+        "patrol-report 1\ntickets 1 1\nt 1 1\nvalue 1 1\nwater 0 1 target 1\nupper 1 1\nverdict optimal\nend\n",
+    ),
     // Two targets alike.
-    ("scale = 1\npatrols = 1\ntargets = [\"t1\", \"t2\"]", "[[0, -1, 0, 1], [0, -1, 0, 1]]",
-     "patrol-report 1\ntickets 2 2\nt 1 1\nt 1 2\nvalue -1 2\nwater 1 2 resources\nupper -1 2\nverdict optimal\nend\n"),
+    (
+        "scale = 1\npatrols = 1\ntargets = [\"t1\", \"t2\"]",
+        "[[0, -1, 0, 1], [0, -1, 0, 1]]",
+        "patrol-report 1\ntickets 2 2\nt 1 1\nt 1 2\nvalue -1 2\nwater 1 2 resources\nupper -1 2\nverdict optimal\nend\n",
+    ),
     // A level that spends the patrol and is a covered payoff.
-    ("scale = 2\npatrols = 1\ntargets = [\"t1\", \"t2\"]", "[[1, -1, 1, 3], [0, -1, -1, 1]]",
-     "patrol-report 1\ntickets 1 1\nt 1 1\nvalue 1 1\nwater 1 1 target 1\nupper 1 1\nverdict optimal\nend\n"),
+    (
+        "scale = 2\npatrols = 1\ntargets = [\"t1\", \"t2\"]",
+        "[[1, -1, 1, 3], [0, -1, -1, 1]]",
+        "patrol-report 1\ntickets 1 1\nt 1 1\nvalue 1 1\nwater 1 1 target 1\nupper 1 1\nverdict optimal\nend\n",
+    ),
     // A target that is never worth an attack.
-    ("scale = 4\npatrols = 1\ntargets = [\"t1\", \"t2\"]", "[[2, -2, 0, 4], [1, -1, -3, -1]]",
-     "patrol-report 1\ntickets 1 1\nt 1 1\nvalue 2 1\nwater 0 1 target 1\nupper 2 1\nverdict optimal\nend\n"),
+    (
+        "scale = 4\npatrols = 1\ntargets = [\"t1\", \"t2\"]",
+        "[[2, -2, 0, 4], [1, -1, -3, -1]]",
+        "patrol-report 1\ntickets 1 1\nt 1 1\nvalue 2 1\nwater 0 1 target 1\nupper 2 1\nverdict optimal\nend\n",
+    ),
     // A covered payoff below the level.
-    ("scale = 4\npatrols = 1\ntargets = [\"t1\", \"t2\"]", "[[1, -3, 2, 6], [0, -1, 0, 4]]",
-     "patrol-report 1\ntickets 2 4\nt 3 1\nt 1 2\nvalue 0 1\nwater 3 1 resources\nupper 0 1\nverdict optimal\nend\n"),
+    (
+        "scale = 4\npatrols = 1\ntargets = [\"t1\", \"t2\"]",
+        "[[1, -3, 2, 6], [0, -1, 0, 4]]",
+        "patrol-report 1\ntickets 2 4\nt 3 1\nt 1 2\nvalue 0 1\nwater 3 1 resources\nupper 0 1\nverdict optimal\nend\n",
+    ),
     // A covered payoff above what the patrol can reach.
-    ("scale = 4\npatrols = 1\ntargets = [\"t1\", \"t2\"]", "[[1, -3, 5, 6], [0, -1, 0, 4]]",
-     "patrol-report 1\ntickets 1 1\nt 1 1\nvalue 1 1\nwater 5 1 target 1\nupper 1 1\nverdict optimal\nend\n"),
+    (
+        "scale = 4\npatrols = 1\ntargets = [\"t1\", \"t2\"]",
+        "[[1, -3, 5, 6], [0, -1, 0, 4]]",
+        "patrol-report 1\ntickets 1 1\nt 1 1\nvalue 1 1\nwater 5 1 target 1\nupper 1 1\nverdict optimal\nend\n",
+    ),
     // One target with the largest payoffs.
-    ("scale = 4294967296\npatrols = 1\ntargets = [\"t1\"]", "[[1073741824, -1073741824, -1073741824, 1073741824]]",
-     "patrol-report 1\ntickets 1 1\nt 1 1\nvalue 1073741824 1\nwater -1073741824 1 target 1\nupper 1073741824 1\nverdict optimal\nend\n"),
+    (
+        "scale = 4294967296\npatrols = 1\ntargets = [\"t1\"]",
+        "[[1073741824, -1073741824, -1073741824, 1073741824]]",
+        "patrol-report 1\ntickets 1 1\nt 1 1\nvalue 1073741824 1\nwater -1073741824 1 target 1\nupper 1073741824 1\nverdict optimal\nend\n",
+    ),
     // Two targets with the largest payoffs and scale.
-    ("scale = 4294967296\npatrols = 1\ntargets = [\"t1\", \"t2\"]", "[[1073741824, -1073741824, 0, 1073741824], [1073741824, -1073741824, 0, 1073741824]]",
-     "patrol-report 1\ntickets 2 2\nt 1 1\nt 1 2\nvalue 0 1\nwater 536870912 1 resources\nupper 0 1\nverdict optimal\nend\n"),
+    (
+        "scale = 4294967296\npatrols = 1\ntargets = [\"t1\", \"t2\"]",
+        "[[1073741824, -1073741824, 0, 1073741824], [1073741824, -1073741824, 0, 1073741824]]",
+        "patrol-report 1\ntickets 2 2\nt 1 1\nt 1 2\nvalue 0 1\nwater 536870912 1 resources\nupper 0 1\nverdict optimal\nend\n",
+    ),
     // Three gaps, the smallest target left alone.
-    ("scale = 6\npatrols = 1\ntargets = [\"t1\", \"t2\", \"t3\"]", "[[0, -1, 0, 1], [0, -2, 0, 2], [0, -3, 0, 3]]",
-     "patrol-report 1\ntickets 2 5\nt 2 2\nt 3 3\nvalue -6 5\nwater 6 5 resources\nupper -6 5\nverdict optimal\nend\n"),
+    (
+        "scale = 6\npatrols = 1\ntargets = [\"t1\", \"t2\", \"t3\"]",
+        "[[0, -1, 0, 1], [0, -2, 0, 2], [0, -3, 0, 3]]",
+        "patrol-report 1\ntickets 2 5\nt 2 2\nt 3 3\nvalue -6 5\nwater 6 5 resources\nupper -6 5\nverdict optimal\nend\n",
+    ),
     // An attacker who loses everywhere.
-    ("scale = 2\npatrols = 1\ntargets = [\"t1\", \"t2\"]", "[[0, -1, -4, -2], [0, -1, -3, -2]]",
-     "patrol-report 1\ntickets 2 3\nt 1 1\nt 2 2\nvalue -1 3\nwater -8 3 resources\nupper -1 3\nverdict optimal\nend\n"),
+    (
+        "scale = 2\npatrols = 1\ntargets = [\"t1\", \"t2\"]",
+        "[[0, -1, -4, -2], [0, -1, -3, -2]]",
+        "patrol-report 1\ntickets 2 3\nt 1 1\nt 2 2\nvalue -1 3\nwater -8 3 resources\nupper -1 3\nverdict optimal\nend\n",
+    ),
     // Four targets, two of them a tie at the top.
-    ("scale = 12\npatrols = 1\ntargets = [\"t1\", \"t2\", \"t3\", \"t4\"]", "[[1, -4, -2, 4], [1, -4, -2, 4], [0, -1, -1, 2], [2, -9, 0, 1]]",
-     "patrol-report 1\ntickets 3 12\nt 5 1\nt 5 2\nt 2 3\nvalue -5 6\nwater 3 2 resources\nupper -5 6\nverdict optimal\nend\n"),
+    (
+        "scale = 12\npatrols = 1\ntargets = [\"t1\", \"t2\", \"t3\", \"t4\"]",
+        "[[1, -4, -2, 4], [1, -4, -2, 4], [0, -1, -1, 2], [2, -9, 0, 1]]",
+        "patrol-report 1\ntickets 3 12\nt 5 1\nt 5 2\nt 2 3\nvalue -5 6\nwater 3 2 resources\nupper -5 6\nverdict optimal\nend\n",
+    ),
 ];
 
 #[test]
@@ -90,7 +128,14 @@ fn solves_games_of_one_patrol(rt: HostRuntime) -> Result<(), AllocError> {
     let alloc = rt.alloc();
     for (keys, payoffs, report) in SOLVED {
         let text = game_text(alloc, keys, payoffs)?;
-        let is_right = answers(alloc, &["solve", "game.toml"], text.as_bytes(), 0, report, "")?;
+        let is_right = answers(
+            alloc,
+            &["solve", "game.toml"],
+            text.as_bytes(),
+            0,
+            report,
+            "",
+        )?;
         assert!(rt; is_right, "{keys}");
     }
     Ok(())
@@ -98,15 +143,60 @@ fn solves_games_of_one_patrol(rt: HostRuntime) -> Result<(), AllocError> {
 
 /// Games that are refused or not solved yet: the top keys, the payoffs, the status and the line.
 const REFUSED: [(&str, &str, u8, &str); 9] = [
-    ("scale = 6\npatrols = 1\ntargets = [\"gate\", \"hall\"]", "[[2, -2, 0, 4], [1, -1, 0, 2]]", 6, "game refused 11 at type 1\n"),
-    ("scale = 4\npatrols = 1\ntargets = [\"gate\", \"hall\"]", "[[2, -2, 0, 1073741825], [1, -1, 0, 2]]", 6, "game refused 9 at type 1\n"),
-    ("scale = 4\npatrols = 1\ncolour = 1\ntargets = [\"gate\", \"hall\"]", "[[2, -2, 0, 4], [1, -1, 0, 2]]", 6, "game refused 5 at document\n"),
-    ("scale = 4\npatrols = 1\ntargets = [\"gate\", \"gate\"]", "[[2, -2, 0, 4], [1, -1, 0, 2]]", 6, "game refused 8 at target 2\n"),
-    ("scale = 4\ntargets = [\"gate\", \"hall\"]", "[[2, -2, 0, 4], [1, -1, 0, 2]]", 6, "game refused 3 at document\n"),
-    ("targets = [\"a\"]\nresource = []\nschedule = [{name = \"s\", targets = [\"b\"]}]", "[[2, -2, 0, 4]]", 6, "game refused 7 at schedule 1\n"),
-    ("patrols = 1\ntargets = [\"gate\", \"hall\"]", "[[2, -2, 0, 4], [1, -1, 0, 2]]", 3, "not yet\n"),
-    ("scale = 4\npatrols = 2\ntargets = [\"gate\", \"hall\"]", "[[2, -2, 0, 4], [1, -1, 0, 2]]", 3, "not yet\n"),
-    ("targets = [\"a\"]\nresource = []\nschedule = []", "[[2, -2, 0, 4]]", 3, "not yet\n"),
+    (
+        "scale = 6\npatrols = 1\ntargets = [\"gate\", \"hall\"]",
+        "[[2, -2, 0, 4], [1, -1, 0, 2]]",
+        6,
+        "game refused 11 at type 1\n",
+    ),
+    (
+        "scale = 4\npatrols = 1\ntargets = [\"gate\", \"hall\"]",
+        "[[2, -2, 0, 1073741825], [1, -1, 0, 2]]",
+        6,
+        "game refused 9 at type 1\n",
+    ),
+    (
+        "scale = 4\npatrols = 1\ncolour = 1\ntargets = [\"gate\", \"hall\"]",
+        "[[2, -2, 0, 4], [1, -1, 0, 2]]",
+        6,
+        "game refused 5 at document\n",
+    ),
+    (
+        "scale = 4\npatrols = 1\ntargets = [\"gate\", \"gate\"]",
+        "[[2, -2, 0, 4], [1, -1, 0, 2]]",
+        6,
+        "game refused 8 at target 2\n",
+    ),
+    (
+        "scale = 4\ntargets = [\"gate\", \"hall\"]",
+        "[[2, -2, 0, 4], [1, -1, 0, 2]]",
+        6,
+        "game refused 3 at document\n",
+    ),
+    (
+        "targets = [\"a\"]\nresource = []\nschedule = [{name = \"s\", targets = [\"b\"]}]",
+        "[[2, -2, 0, 4]]",
+        6,
+        "game refused 7 at schedule 1\n",
+    ),
+    (
+        "patrols = 1\ntargets = [\"gate\", \"hall\"]",
+        "[[2, -2, 0, 4], [1, -1, 0, 2]]",
+        3,
+        "not yet\n",
+    ),
+    (
+        "scale = 4\npatrols = 2\ntargets = [\"gate\", \"hall\"]",
+        "[[2, -2, 0, 4], [1, -1, 0, 2]]",
+        3,
+        "not yet\n",
+    ),
+    (
+        "targets = [\"a\"]\nresource = []\nschedule = []",
+        "[[2, -2, 0, 4]]",
+        3,
+        "not yet\n",
+    ),
 ];
 
 #[test]
@@ -114,12 +204,33 @@ fn refuses_games(rt: HostRuntime) -> Result<(), AllocError> {
     let alloc = rt.alloc();
     for (keys, payoffs, status, line) in REFUSED {
         let text = game_text(alloc, keys, payoffs)?;
-        let is_right = answers(alloc, &["solve", "game.toml"], text.as_bytes(), status, "", line)?;
+        let is_right = answers(
+            alloc,
+            &["solve", "game.toml"],
+            text.as_bytes(),
+            status,
+            "",
+            line,
+        )?;
         assert!(rt; is_right, "{line}");
     }
-    let bad = answers(alloc, &["solve", "game.toml"], b"\xff", 6, "", "game refused 1 at document\n")?;
+    let bad = answers(
+        alloc,
+        &["solve", "game.toml"],
+        b"\xff",
+        6,
+        "",
+        "game refused 1 at document\n",
+    )?;
     assert!(rt; bad);
-    let empty = answers(alloc, &["solve", "game.toml"], b"", 6, "", "game refused 3 at document\n")?;
+    let empty = answers(
+        alloc,
+        &["solve", "game.toml"],
+        b"",
+        6,
+        "",
+        "game refused 3 at document\n",
+    )?;
     assert!(rt; empty);
     Ok(())
 }
@@ -140,7 +251,16 @@ fn refuses_words_and_names(rt: HostRuntime) -> Result<(), AllocError> {
     for words in lists {
         assert!(rt; answers(alloc, words, b"", 2, "", "words refused\n")?);
     }
-    assert!(rt; answers(alloc, &["solve", "other.toml"], b"", 4, "", "game not read\n")?);
+    assert!(rt;
+        answers(
+            alloc,
+            &["solve", "other.toml"],
+            b"",
+            4,
+            "",
+            "game not read\n"
+        )?
+    );
     Ok(())
 }
 
@@ -148,7 +268,16 @@ fn refuses_words_and_names(rt: HostRuntime) -> Result<(), AllocError> {
 fn refuses_a_long_file(rt: HostRuntime) -> Result<(), AllocError> {
     let alloc = rt.alloc();
     let bytes = vec![in alloc; b'#'; 4_194_305]?;
-    assert!(rt; answers(alloc, &["solve", "game.toml"], bytes.as_slice(), 5, "", "game too long\n")?);
+    assert!(rt;
+        answers(
+            alloc,
+            &["solve", "game.toml"],
+            bytes.as_slice(),
+            5,
+            "",
+            "game too long\n"
+        )?
+    );
     Ok(())
 }
 

@@ -109,13 +109,7 @@ fn top_with(game: &Game, filling: &Filling, t: u16, best: Option<i128>) -> Optio
     let here = gain_at(game, filling, t);
     match best {
         None => Some(here),
-        Some(gain) => {
-            if gain < here {
-                Some(here)
-            } else {
-                Some(gain)
-            }
-        }
+        Some(gain) => { if gain < here { Some(here) } else { Some(gain) } }
     }
 }
 

@@ -48,7 +48,6 @@ abbrev pub bad_scale : ℕ
 bad_scale = 11
 
 infixl 10 ◌>>=◌
-
 -- a step, and then the next one with its value
 abbrev pub ◌>>=◌ : {A B : Type 0} → Result A GameFault → (A → Result B GameFault) → Result B GameFault
 (Ok x) >>= next = next x
