@@ -1,5 +1,5 @@
 -- A run that tells a refusal answers by it.
-use Rattle.std.proofs.Common.{◌≡◌, ◌⊎◌, ℕ, List, Option, sym, subst, inl, inr}
+use Rattle.std.proofs.Common.{◌≡◌, ◌≢◌, ◌⊎◌, ℕ, List, Option, sym, ◌∙◌, ap, subst, arith, inl, inr}
 use Rattle.sg_cli.specs.Refusals.{status_of, IsGameRefused}
 use Rattle.sg_cli.specs.Runs.{Scene, ComesOf, Tells, Answers}
 use Rattle.sg_cli.specs.declared.refusal.Refusal.{Refusal}
@@ -21,3 +21,18 @@ tells_answer s fb fa eb ea asked told status c (inl same) t e =
     inr (record { refusal = told; is_status = e; cause = subst (ComesOf s) (sym same) c; tells = t })
 tells_answer s fb fa eb ea asked told status c (inr memory) t e =
     inr (record { refusal = told; is_status = e; cause = subst (ComesOf s) (sym memory.0) (memory_comes s asked memory.1 c); tells = t })
+
+-- a run that ends with another status than 9 was not refused by the output
+pub not_by_output : (asked told : Refusal) (status : ℕ) → (told ≡ asked) ⊎ ((told ≡ Memory) × IsGameRefused asked) → status ≡ status_of told → status ≢ 9 → asked ≢ NotWritten
+not_by_output asked told status (inl same) e other is = other (e ∙ ap status_of (same ∙ is))
+not_by_output asked told status (inr memory) e other is = subst IsGameRefused is memory.1
+
+-- no refusal has the status 0
+pub not_zero : (told : Refusal) (status : ℕ) → status ≡ status_of told → status ≢ 0
+not_zero Words status e z = absurd (omega (arith, e, z))
+not_zero GameNotRead status e z = absurd (omega (arith, e, z))
+not_zero GameTooLong status e z = absurd (omega (arith, e, z))
+not_zero (GameRefused fault) status e z = absurd (omega (arith, e, z))
+not_zero NotYet status e z = absurd (omega (arith, e, z))
+not_zero NotWritten status e z = absurd (omega (arith, e, z))
+not_zero Memory status e z = absurd (omega (arith, e, z))

@@ -1,6 +1,6 @@
 //! The program's one call.
 
-ghost use Rattle.std.specs.Prelude.{◌≡◌, ◌≤◌, ◌⊎◌, MatchOption};
+ghost use Rattle.std.specs.Prelude.{◌≡◌, ◌≢◌, ◌≤◌, ◌⊎◌, MatchOption};
 ghost use Rattle.sg_words.specs.Commands.{command_given};
 ghost use Rattle.sg_cli.specs.Refusals.{IsGameRefused, line_of};
 ghost use Rattle.sg_cli.specs.Runs.{scene, texts, Answers, IsComplete, Tells};
@@ -50,6 +50,10 @@ pub fn run<S: Shelf, O: Sink, E: Sink>(
     // Where nothing fails outside, it answers what the files say: but for want of memory it never gives up.
     ensures complete { IsComplete (scene (command_given (texts words.now.items)) (S.files shelf.old) (S.faults shelf.old) (S.faults shelf.new)
         (O.faults out.old) (O.faults out.new) (O.taken out.old) (O.taken out.new)) result }
+
+    // With 0 nothing is told; with any refusal but a failing output that is not touched at all.
+    ensures silent { result ≡ 0 → err.new ≡ err.old }
+    ensures kept { result ≢ 0 → result ≢ 9 → out.new ≡ out.old }
 
     // The shelf's files are as they were, and no count falls.
     ensures files { S.files shelf.new ≡ S.files shelf.old }

@@ -1,6 +1,6 @@
 //! What `solve` does: reads a game, solves it, and writes its report.
 
-ghost use Rattle.std.specs.Prelude.{◌≡◌, ◌≤◌, ◌⊎◌, ◌↔◌, IfOk, IfErr, OnOk, IsTrue, IsErrOf, Ok, Err, length, map, string_bytes, vec_len, Some, option_map};
+ghost use Rattle.std.specs.Prelude.{◌≡◌, ◌≢◌, ◌≤◌, ◌⊎◌, ◌↔◌, IfOk, IfErr, OnOk, IsTrue, IsErrOf, Ok, Err, length, map, string_bytes, vec_len, Some, option_map};
 ghost use Rattle.sg_format.specs.GameFiles.{game_of_bytes};
 ghost use Rattle.sg_shelf.specs.Files.{Reads};
 ghost use Rattle.sg_words.specs.Commands.{command_given, solve};
@@ -81,6 +81,7 @@ fn solve_named<S: Shelf, O: Sink>(
     ensures files { S.files shelf.new ≡ S.files shelf.old }
     ensures reads { S.faults shelf.old ≤ S.faults shelf.new }
     ensures writes { O.faults out.old ≤ O.faults out.new }
+    ensures kept { IfErr result (λ e. e ≢ Refusal.NotWritten → out.new ≡ out.old) }
     ensures ok { OnOk result (Solves (scene (Some (solve name.now)) (S.files shelf.old) (S.faults shelf.old) (S.faults shelf.new)
         (O.faults out.old) (O.faults out.new) (O.taken out.old) (O.taken out.new))) }
     ensures err { IfErr result (ComesOf (scene (Some (solve name.now)) (S.files shelf.old) (S.faults shelf.old) (S.faults shelf.new)
@@ -110,6 +111,7 @@ pub fn solve<S: Shelf, O: Sink>(
     ensures files { S.files shelf.new ≡ S.files shelf.old }
     ensures reads { S.faults shelf.old ≤ S.faults shelf.new }
     ensures writes { O.faults out.old ≤ O.faults out.new }
+    ensures kept { IfErr result (λ e. e ≢ Refusal.NotWritten → out.new ≡ out.old) }
     ensures ok { OnOk result (Solves (scene (command_given (texts words.now)) (S.files shelf.old) (S.faults shelf.old) (S.faults shelf.new)
         (O.faults out.old) (O.faults out.new) (O.taken out.old) (O.taken out.new))) }
     ensures err { IfErr result (ComesOf (scene (command_given (texts words.now)) (S.files shelf.old) (S.faults shelf.old) (S.faults shelf.new)
