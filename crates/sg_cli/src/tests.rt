@@ -142,7 +142,7 @@ fn solves_games_of_one_patrol(rt: HostRuntime) -> Result<(), AllocError> {
 }
 
 /// Games that are refused or not solved yet: the top keys, the payoffs, the status and the line.
-const REFUSED: [(&str, &str, u8, &str); 9] = [
+const REFUSED: [(&str, &str, u8, &str); 10] = [
     (
         "scale = 6\npatrols = 1\ntargets = [\"gate\", \"hall\"]",
         "[[2, -2, 0, 4], [1, -1, 0, 2]]",
@@ -178,6 +178,12 @@ const REFUSED: [(&str, &str, u8, &str); 9] = [
         "[[2, -2, 0, 4]]",
         6,
         "game refused 7 at schedule 1\n",
+    ),
+    (
+        "targets = [\"a\", \"b\"]\nresource = []\nschedule = [{name = \"s\", targets = [\"a\"]}, {name = \"s\", targets = [\"b\"]}]",
+        "[[0, -1, 0, 1], [0, -1, 0, 1]]",
+        6,
+        "game refused 8 at schedule 2\n",
     ),
     (
         "patrols = 1\ntargets = [\"gate\", \"hall\"]",
@@ -294,22 +300,22 @@ fn tells_a_fault_of_the_outside(rt: HostRuntime) -> Result<(), AllocError> {
     let mut err = MemSink::new(alloc, Vec::new(alloc), 0)?;
     assert_eq!(rt; run(alloc, &words, &mut shelf, &mut out, &mut err), 4);
     assert!(rt; out.bytes().is_empty());
-    assert!(rt; err.bytes() == b"game not read\n");
+    assert!(rt; err.bytes() == "game not read\n".as_bytes());
 
     // An output that fails after two bytes: the whole report is one piece.
     let mut shelf = shelf_of(alloc, text.as_bytes(), &[])?;
     let mut out = MemSink::new(alloc, Vec::from_slice(alloc, &[1])?, 2)?;
     let mut err = MemSink::new(alloc, Vec::new(alloc), 0)?;
     assert_eq!(rt; run(alloc, &words, &mut shelf, &mut out, &mut err), 9);
-    assert!(rt; out.bytes() == b"pa");
-    assert!(rt; err.bytes() == b"write failed\n");
+    assert!(rt; out.bytes() == "pa".as_bytes());
+    assert!(rt; err.bytes() == "write failed\n".as_bytes());
 
     // A second output that fails changes no status.
     let mut shelf = shelf_of(alloc, text.as_bytes(), &[1])?;
     let mut out = MemSink::new(alloc, Vec::new(alloc), 0)?;
     let mut err = MemSink::new(alloc, Vec::from_slice(alloc, &[1])?, 4)?;
     assert_eq!(rt; run(alloc, &words, &mut shelf, &mut out, &mut err), 4);
-    assert!(rt; err.bytes() == b"game");
+    assert!(rt; err.bytes() == "game".as_bytes());
     let mut shelf = shelf_of(alloc, text.as_bytes(), &[])?;
     assert_eq!(rt; run(alloc, &words, &mut shelf, &mut out, &mut err), 0);
     assert!(rt; out.bytes() == report.as_bytes());
