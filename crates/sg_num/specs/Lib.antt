@@ -1,0 +1,4 @@
+pub mod Exact
+pub mod Fractions
+pub mod Multiples
+pub mod Signed
