@@ -1,0 +1,40 @@
+-- What a shelf in memory holds, and what a read of it answers and leaves.
+use Rattle.std.specs.Prelude.{◌≡◌, ℕ, ◌+◌, List, length, Bool, ◌||◌, nat_lt, Option, Some, None, Result, Ok, Err, IsOk, if◌then◌else◌}
+use Rattle.sg_shelf.specs.declared.shelf.ShelfError.{ShelfError}
+use Rattle.sg_shelf.specs.declared.shelf.ShelfError.TheVariants.{Failed, TooLong, Memory}
+use Rattle.sg_shelf.specs.Faults.{raised}
+use Rattle.sg_shelf.specs.Files.{Files, held}
+use Rattle.sg_shelf.specs.Calls.{is_spent, is_to_fail}
+
+-- the files, the numbers of the reads that are to fail, and the reads and faults so far
+pub record ShelfState : Type 0 where
+  pub files : Files
+  pub fails : List ℕ
+  pub calls : ℕ
+  pub faults : ℕ
+
+-- The next read is a fault: it is to fail, or a count stands at its last value.
+abbrev pub read_is_fault : ShelfState → Bool
+read_is_fault shelf = is_spent shelf.calls shelf.faults || is_to_fail shelf.fails (shelf.calls + 1)
+
+-- what a read up to the limit answers of the bytes under a name
+abbrev pub answer_of : Option (List ℕ) → ℕ → Result (List ℕ) ShelfError
+answer_of None limit = Err Failed
+answer_of (Some bytes) limit = if nat_lt limit (length bytes) then Err (TooLong (length bytes)) else Ok bytes
+
+-- what the next read answers, if there is memory for it
+abbrev pub read_answer : ShelfState → List ℕ → ℕ → Result (List ℕ) ShelfError
+read_answer shelf name limit = if read_is_fault shelf then Err Failed else answer_of (held shelf.files name) limit
+
+-- the shelf after the read: one more call, and one more fault where it is one
+abbrev pub after_read : ShelfState → ShelfState
+after_read shelf = record shelf {
+  calls = raised shelf.calls;
+  faults = if read_is_fault shelf then raised shelf.faults else shelf.faults;
+}
+
+-- The read fails so. Want of memory comes only in place of bytes, and leaves the shelf as it was.
+abbrev pub ReadFails : ShelfState → ShelfState → List ℕ → ℕ → ShelfError → Type 0
+ReadFails before after name limit Failed = (read_answer before name limit ≡ Err Failed) × (after ≡ after_read before)
+ReadFails before after name limit (TooLong seen) = (read_answer before name limit ≡ Err (TooLong seen)) × (after ≡ after_read before)
+ReadFails before after name limit Memory = IsOk (read_answer before name limit) × (after ≡ before)

@@ -1,0 +1,19 @@
+//! The outside of the program: where files are read and text is written.
+//!
+//! [`Shelf`] and [`Sink`] say what the rest of the program may count on. Each counts its faults, so that an
+//! answer of a failure has a cause that a contract can name. [`MemShelf`] and [`MemSink`] stand in memory and
+//! tell all that they hold; [`FileShelf`] and [`OutSink`] adapt the files and writers of std, and tell nothing
+//! of content.
+#![tactic(auto)]
+
+mod mem_shelf;
+mod mem_sink;
+mod out_sink;
+mod shelf;
+mod sink;
+
+pub use mem_shelf::{MemShelf, NamedBytes};
+pub use mem_sink::MemSink;
+pub use out_sink::OutSink;
+pub use shelf::{Shelf, ShelfError};
+pub use sink::{Sink, SinkError};
