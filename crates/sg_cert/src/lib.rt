@@ -1,13 +1,15 @@
-// A library with one function.
+//! The text of a report, line by line.
 #![tactic(auto)]
 
-ghost use Rattle.std.specs.Prelude.{◌≡◌};
-ghost use Rattle.sg_cert.specs.Echo.{echo_of};
+mod fact;
+mod fault;
+mod field;
+mod fraction;
+mod lines;
+mod node;
+mod reading;
+mod ticket;
+mod verdict;
 
-// The `ensures` clause is the contract: what `echo` returns is `echo_of` of its argument, a definition
-// in `specs/Echo.antt`, which a caller's clause can cite too.
-pub fn echo(x: usize) -> usize
-    ensures { result ≡ echo_of x }
-{
-    x
-}
+pub use fault::{ReportError, ReportFault};
+pub use reading::read_report;

@@ -1,0 +1,9 @@
+pub mod Cut
+pub mod Lining
+pub mod NumberLists
+pub mod Repeats
+pub mod Nodes
+pub mod Common
+pub mod CapLists
+pub mod Heads
+pub mod Rising
