@@ -7,3 +7,4 @@ pub mod Common
 pub mod CapLists
 pub mod Heads
 pub mod Rising
+pub mod Adding

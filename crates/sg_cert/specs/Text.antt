@@ -1,9 +1,9 @@
 -- The text of a report: its lines, each a list of fields, with one spelling for each number.
 use Rattle.std.specs.Prelude.{ℕ, List, [], ◌∷◌, ◌++◌, length, map, Option, Some, None, codes, decimal}
 use Rattle.std.specs.Fmt.{signed_decimal}
-use Rattle.std.specs.List.{flat_map, join_with_byte}
+use Rattle.std.specs.List.{flat_map}
 use Rattle.sg_model.specs.declared.ticket.Ticket.{Ticket}
-use Rattle.sg_model.specs.ReportText.{reason_fields}
+use Rattle.sg_model.specs.ReportText.{line, reason_fields}
 use Rattle.sg_num.specs.Fractions.{Fraction}
 use Rattle.sg_num.specs.declared.step.Op.{Op}
 use Rattle.sg_num.specs.declared.step.Op.TheVariants.{Sum, Less, Times}
@@ -111,9 +111,10 @@ tail_rows r = fraction_row (codes "upper") r.upper ∷ verdict_row r.ending ∷ 
 abbrev pub report_rows : Report → List Row
 report_rows r = head_rows r ++ (flat_map cap_rows r.caps ++ (node_rows r.tree ++ tail_rows r))
 
--- the bytes of a line: a space between fields, and a newline at the end
+-- the bytes of a line: a space before each field but the first, and a newline at the end
 abbrev pub spell : Row → List ℕ
-spell fs = join_with_byte 32 fs ++ 10 ∷ []
+spell [] = 10 ∷ []
+spell (word ∷ fs) = line word fs
 
 abbrev pub text_of : List Row → List ℕ
 text_of rows = flat_map spell rows
@@ -121,3 +122,7 @@ text_of rows = flat_map spell rows
 -- the text of a report
 abbrev pub report_text : Report → List ℕ
 report_text r = text_of (report_rows r)
+
+-- fields, each behind a space
+abbrev pub spaced : List (List ℕ) → List ℕ
+spaced fs = flat_map (λ f. 32 ∷ f) fs

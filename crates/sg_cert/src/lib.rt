@@ -1,6 +1,7 @@
 //! The text of a report, line by line.
 #![tactic(auto)]
 
+mod block;
 mod fact;
 mod fault;
 mod field;

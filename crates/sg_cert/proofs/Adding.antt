@@ -1,0 +1,81 @@
+-- Texts that are added to a sink one after the other.
+use Rattle.std.proofs.Common.{◌≡◌, ℕ, zero, suc, ◌+◌, ◌≤◌, List, [], ◌∷◌, ◌++◌, length, take, Option, Some, None, Result, Ok, Err, refl, sym, ap, ◌∙◌, subst, arith, append_assoc}
+use Rattle.std.proofs.lemmas.List.{append-nil}
+use Rattle.sg_shelf.specs.declared.sink.SinkError.{SinkError}
+use Rattle.sg_shelf.specs.Faults.{HasRisen}
+use Rattle.sg_shelf.specs.Taken.{Takes, TakesFront}
+use Rattle.sg_cert.specs.Writing.{Shown, Adds, Stops, Writes}
+
+Takes-none : (a : Option (List ℕ)) → Takes a a []
+Takes-none None = refl
+Takes-none (Some xs) = ap Some (sym (append-nil xs))
+
+Takes-both : (a b c : Option (List ℕ)) (x y : List ℕ) → Takes a b x → Takes b c y → Takes a c (x ++ y)
+Takes-both None b c x y p q = q ∙ rw p refl
+Takes-both (Some xs) b c x y p q = q ∙ rw p (ap Some (append_assoc xs x y))
+
+-- nothing is added
+pub Adds-none : (a : Shown) (p : List ℕ) → Adds a p a p []
+Adds-none a p = record { put = []; taken = Takes-none a.0; all = sym (append-nil p); count = omega arith }
+
+-- a text that only joins what is pending
+pub Adds-pending : (a : Shown) (p q t : List ℕ) → q ≡ p ++ t → Adds a p a q t
+Adds-pending a p q t e = record { put = []; taken = Takes-none a.0; all = e; count = omega arith }
+
+-- all that is pending is put
+pub Adds-put : (a b : Shown) (p q : List ℕ) → Takes a.0 b.0 p → a.1 ≤ b.1 → q ≡ [] → Adds a p b q []
+Adds-put a b p q t n e = record { put = p; taken = t; all = ap (λ (xs : List ℕ). p ++ xs) e; count = n }
+
+pub Adds-trans : (a b c : Shown) (p q r t u : List ℕ) → Adds a p b q t → Adds b q c r u → Adds a p c r (t ++ u)
+Adds-trans a b c p q r t u x y = record {
+  put = x.put ++ y.put;
+  taken = Takes-both a.0 b.0 c.0 x.put y.put x.taken y.taken;
+  all = append_assoc x.put y.put r ∙ ap (λ (xs : List ℕ). x.put ++ xs) y.all ∙ sym (append_assoc x.put q u) ∙ ap (λ (xs : List ℕ). xs ++ u) x.all ∙ append_assoc p t u;
+  count = omega (arith, x.count, y.count);
+}
+
+take_past : (xs ys : List ℕ) (n : ℕ) → take (length xs + n) (xs ++ ys) ≡ xs ++ take n ys
+take_past [] ys n = let k : 0 + n ≡ n = omega arith in rw k refl
+take_past (x ∷ xs) ys n = let k : length (x ∷ xs) + n ≡ suc (length xs + n) = omega arith in rw k (ap (λ (zs : List ℕ). x ∷ zs) (take_past xs ys n))
+
+pub Stops-trans : (a b c : Shown) (p q t u : List ℕ) → Adds a p b q t → Stops b q c u → Stops a p c (t ++ u)
+Stops-trans a b c p q t u x y =
+    let all : x.put ++ (q ++ u) ≡ p ++ (t ++ u) = sym (append_assoc x.put q u) ∙ ap (λ (xs : List ℕ). xs ++ u) x.all ∙ append_assoc p t u in
+    record {
+      size = length x.put + y.size;
+      taken = subst (λ (xs : List ℕ). Takes a.0 c.0 xs) (sym (take_past x.put (q ++ u) y.size) ∙ ap (take (length x.put + y.size)) all) (Takes-both a.0 b.0 c.0 x.put (take y.size (q ++ u)) x.taken y.taken);
+      count = omega (arith, x.count, y.count);
+      risen = omega (arith, x.count, y.risen);
+    }
+
+-- a front of a text's front
+least : ℕ → ℕ → ℕ
+least n zero = 0
+least zero (suc m) = 0
+least (suc n) (suc m) = suc (least n m)
+
+take_front : (xs ys : List ℕ) (n : ℕ) → take (least n (length xs)) (xs ++ ys) ≡ take n xs
+take_front [] ys n = rw (none n) refl
+  where
+    none : (n : ℕ) → least n 0 ≡ 0
+    none zero = refl
+    none (suc n) = refl
+take_front (x ∷ xs) ys zero = refl
+take_front (x ∷ xs) ys (suc n) = ap (λ (zs : List ℕ). x ∷ zs) (take_front xs ys n)
+
+pub Stops-early : (a c : Shown) (p t u : List ℕ) → Stops a p c t → Stops a p c (t ++ u)
+Stops-early a c p t u x = record {
+  size = least x.size (length (p ++ t));
+  taken = subst (λ (xs : List ℕ). Takes a.0 c.0 xs) (sym (take_front (p ++ t) u x.size) ∙ ap (take (least x.size (length (p ++ t)))) (append_assoc p t u)) x.taken;
+  count = x.count;
+  risen = x.risen;
+}
+
+-- a text after one that was added
+pub Writes-trans : (r : Result (Unit {0}) SinkError) (a b c : Shown) (p q s t u : List ℕ) → Adds a p b q t → Writes r b q c s u → Writes r a p c s (t ++ u)
+Writes-trans (Ok v) a b c p q s t u x y = Adds-trans a b c p q s t u x y
+Writes-trans (Err e) a b c p q s t u x y = Stops-trans a b c p q t u x y
+
+-- the same for a text that is written otherwise
+pub Writes-as : (r : Result (Unit {0}) SinkError) (a c : Shown) (p s t u : List ℕ) → t ≡ u → Writes r a p c s t → Writes r a p c s u
+Writes-as r a c p s t u e w = subst (λ (xs : List ℕ). Writes r a p c s xs) e w
