@@ -1,9 +1,11 @@
 -- Texts that are added to a sink one after the other.
-use Rattle.std.proofs.Common.{◌≡◌, ℕ, zero, suc, ◌+◌, ◌≤◌, List, [], ◌∷◌, ◌++◌, length, take, Option, Some, None, Result, Ok, Err, refl, sym, ap, ◌∙◌, subst, arith, append_assoc}
-use Rattle.std.proofs.lemmas.List.{append-nil}
+use Rattle.std.proofs.Common.{◌≡◌, ℕ, zero, suc, ◌+◌, ◌≤◌, List, [], ◌∷◌, ◌++◌, ◌<◌, length, map, get_or, take, drop, Option, Some, None, Result, Ok, Err, refl, sym, ap, ◌∙◌, subst, arith, append_assoc}
+use Rattle.std.proofs.lemmas.List.{append-nil, take_more, take_all}
 use Rattle.sg_shelf.specs.declared.sink.SinkError.{SinkError}
 use Rattle.sg_shelf.specs.Faults.{HasRisen}
 use Rattle.sg_shelf.specs.Taken.{Takes, TakesFront}
+use Rattle.std.proofs.Common.{take-append-drop}
+use Rattle.sg_cert.specs.Text.{spaced}
 use Rattle.sg_cert.specs.Writing.{Shown, Adds, Stops, Writes}
 
 Takes-none : (a : Option (List ℕ)) → Takes a a []
@@ -55,11 +57,9 @@ least zero (suc m) = 0
 least (suc n) (suc m) = suc (least n m)
 
 take_front : (xs ys : List ℕ) (n : ℕ) → take (least n (length xs)) (xs ++ ys) ≡ take n xs
-take_front [] ys n = rw (none n) refl
-  where
-    none : (n : ℕ) → least n 0 ≡ 0
-    none zero = refl
-    none (suc n) = refl
+unfolding least
+take_front [] ys zero = refl
+take_front [] ys (suc n) = refl
 take_front (x ∷ xs) ys zero = refl
 take_front (x ∷ xs) ys (suc n) = ap (λ (zs : List ℕ). x ∷ zs) (take_front xs ys n)
 
@@ -79,3 +79,51 @@ Writes-trans (Err e) a b c p q s t u x y = Stops-trans a b c p q t u x y
 -- the same for a text that is written otherwise
 pub Writes-as : (r : Result (Unit {0}) SinkError) (a c : Shown) (p s t u : List ℕ) → t ≡ u → Writes r a p c s t → Writes r a p c s u
 Writes-as r a c p s t u e w = subst (λ (xs : List ℕ). Writes r a p c s xs) e w
+
+-- ---- loops over lists
+
+-- the text of a list, item by item
+pub record Folds {A : Type 0} (F : List A → List ℕ) (k : A → List ℕ) : Type 0 where
+  pub nil : F [] ≡ []
+  pub cons : (x : A) (xs : List A) → F (x ∷ xs) ≡ k x ++ F xs
+
+folds_push : {A : Type 0} (F : List A → List ℕ) (k : A → List ℕ) → Folds F k → (xs : List A) (x : A) → F (xs ++ x ∷ []) ≡ F xs ++ k x
+folds_push F k f [] x = f.cons x [] ∙ ap (λ (ys : List ℕ). k x ++ ys) f.nil ∙ append-nil (k x) ∙ ap (λ (ys : List ℕ). ys ++ k x) (sym f.nil)
+folds_push F k f (y ∷ ys) x =
+    f.cons y (ys ++ x ∷ []) ∙ ap (λ (zs : List ℕ). k y ++ zs) (folds_push F k f ys x) ∙ sym (append_assoc (k y) (F ys) (k x)) ∙ ap (λ (zs : List ℕ). zs ++ k x) (sym (f.cons y ys))
+
+folds_append : {A : Type 0} (F : List A → List ℕ) (k : A → List ℕ) → Folds F k → (xs ys : List A) → F (xs ++ ys) ≡ F xs ++ F ys
+folds_append F k f [] ys = ap (λ (zs : List ℕ). zs ++ F ys) (sym f.nil)
+folds_append F k f (x ∷ xs) ys = f.cons x (xs ++ ys) ∙ ap (λ (zs : List ℕ). k x ++ zs) (folds_append F k f xs ys) ∙ sym (append_assoc (k x) (F xs) (F ys)) ∙ ap (λ (zs : List ℕ). zs ++ F ys) (sym (f.cons x xs))
+
+split_here : {A : Type 0} (xs : List A) (i : ℕ) (d : A) → i < length xs → (take i xs ++ get_or xs i d ∷ []) ++ drop (i + 1) xs ≡ xs
+split_here {A = A} xs i d lt = ap (λ (ys : List A). ys ++ drop (i + 1) xs) (sym (take_more xs i d lt)) ∙ take-append-drop (i + 1) xs
+
+-- one more item
+pub folds_more : {A : Type 0} (F : List A → List ℕ) (k : A → List ℕ) → Folds F k → (xs : List A) (i : ℕ) (x d : A) → i < length xs → x ≡ get_or xs i d
+    → (a b c : Shown) (p q r : List ℕ) → Adds a p b q (F (take i xs)) → Adds b q c r (k x) → Adds a p c r (F (take (i + 1) xs))
+folds_more {A = A} F k f xs i x d lt is a b c p q r so_far more =
+    let e : F (take i xs) ++ k x ≡ F (take (i + 1) xs) = sym (folds_push F k f (take i xs) x) ∙ ap F (ap (λ (y : A). take i xs ++ y ∷ []) is ∙ sym (take_more xs i d lt)) in
+    subst (λ (t : List ℕ). Adds a p c r t) e (Adds-trans a b c p q r (F (take i xs)) (k x) so_far more)
+
+-- an item that stopped
+pub folds_stop : {A : Type 0} (F : List A → List ℕ) (k : A → List ℕ) → Folds F k → (xs : List A) (i : ℕ) (x d : A) → i < length xs → x ≡ get_or xs i d
+    → (a b c : Shown) (p q : List ℕ) → Adds a p b q (F (take i xs)) → Stops b q c (k x) → Stops a p c (F xs)
+folds_stop {A = A} F k f xs i x d lt is a b c p q so_far stop =
+    let e : (F (take i xs) ++ k x) ++ F (drop (i + 1) xs) ≡ F xs =
+    ap (λ (t : List ℕ). t ++ F (drop (i + 1) xs)) (sym (folds_push F k f (take i xs) x)) ∙ sym (folds_append F k f (take i xs ++ x ∷ []) (drop (i + 1) xs))
+    ∙ ap F (ap (λ (y : A). (take i xs ++ y ∷ []) ++ drop (i + 1) xs) is ∙ split_here xs i d lt) in
+    subst (λ (t : List ℕ). Stops a p c t) e (Stops-early a c p (F (take i xs) ++ k x) (F (drop (i + 1) xs)) (Stops-trans a b c p q (F (take i xs)) (k x) so_far stop))
+
+pub folds_end : {A : Type 0} (F : List A → List ℕ) (xs : List A) (i : ℕ) → length xs ≤ i → (a b : Shown) (p q : List ℕ) → Adds a p b q (F (take i xs)) → Adds a p b q (F xs)
+folds_end {A = A} F xs i le a b p q so_far = subst (λ (ys : List A). Adds a p b q (F ys)) (take_all i xs le) so_far
+
+pub folds_start : {A : Type 0} (F : List A → List ℕ) (k : A → List ℕ) → Folds F k → (xs : List A) (a : Shown) (p : List ℕ) → Adds a p a p (F (take 0 xs))
+folds_start F k f xs a p = subst (λ (t : List ℕ). Adds a p a p t) (sym f.nil) (Adds-none a p)
+
+-- bytes, and fields behind spaces
+pub folds_bytes : Folds (λ (xs : List ℕ). xs) (λ (x : ℕ). x ∷ [])
+folds_bytes = record { nil = refl; cons = λ x xs. refl }
+
+pub folds_spaced : {A : Type 0} (h : A → List ℕ) → Folds (λ (xs : List A). spaced (map h xs)) (λ (x : A). 32 ∷ h x)
+folds_spaced h = record { nil = refl; cons = λ x xs. refl }

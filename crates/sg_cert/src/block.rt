@@ -116,13 +116,26 @@ pub fn put_bytes<O: Sink>(out: &mut O, block: &mut Block, text: &[u8]) -> Result
 }
 
 /// Adds a number behind a space.
-fn put_number<O: Sink>(out: &mut O, block: &mut Block, number: i128) -> Result<(), SinkError>
-    ensures { Writes result (O.taken out.old, O.faults out.old) block.old (O.taken out.new, O.faults out.new) block.new (32 ∷ signed_decimal number) }
+fn put_number<O: Sink>(out: &mut O, block: &mut Block, number: &i128) -> Result<(), SinkError>
+    ensures { Writes result (O.taken out.old, O.faults out.old) block.old (O.taken out.new, O.faults out.new) block.new (32 ∷ signed_decimal number.now) }
 {
     match put_byte(out, block, b' ') {
         Ok(()) => {
             let mut buffer = Buffer::new();
-            put_bytes(out, block, buffer.format(number).as_bytes())
+            put_bytes(out, block, buffer.format(*number).as_bytes())
+        }
+        Err(error) => Err(error),
+    }
+}
+
+/// Adds a choice or action behind a space.
+fn put_choice<O: Sink>(out: &mut O, block: &mut Block, choice: u16) -> Result<(), SinkError>
+    ensures { Writes result (O.taken out.old, O.faults out.old) block.old (O.taken out.new, O.faults out.new) block.new (32 ∷ decimal choice) }
+{
+    match put_byte(out, block, b' ') {
+        Ok(()) => {
+            let mut buffer = Buffer::new();
+            put_bytes(out, block, buffer.format(choice).as_bytes())
         }
         Err(error) => Err(error),
     }
@@ -133,7 +146,7 @@ fn put_numbers<O: Sink>(out: &mut O, block: &mut Block, numbers: &[i128]) -> Res
     ensures { Writes result (O.taken out.old, O.faults out.old) block.old (O.taken out.new, O.faults out.new) block.new (spaced (map signed_decimal numbers.now)) }
 {
     for number in numbers {
-        match put_number(out, block, *number) {
+        match put_number(out, block, number) {
             Ok(()) => {}
             Err(error) => return Err(error),
         }
@@ -146,7 +159,7 @@ pub fn put_choices<O: Sink>(out: &mut O, block: &mut Block, choices: &[u16]) -> 
     ensures { Writes result (O.taken out.old, O.faults out.old) block.old (O.taken out.new, O.faults out.new) block.new (spaced (map decimal choices.now)) }
 {
     for choice in choices {
-        match put_number(out, block, i128::from(*choice)) {
+        match put_choice(out, block, *choice) {
             Ok(()) => {}
             Err(error) => return Err(error),
         }
