@@ -127,3 +127,6 @@ folds_bytes = record { nil = refl; cons = λ x xs. refl }
 
 pub folds_spaced : {A : Type 0} (h : A → List ℕ) → Folds (λ (xs : List A). spaced (map h xs)) (λ (x : A). 32 ∷ h x)
 folds_spaced h = record { nil = refl; cons = λ x xs. refl }
+
+pub Stops-as : (a c : Shown) (p t u : List ℕ) → t ≡ u → Stops a p c t → Stops a p c u
+Stops-as a c p t u e w = subst (λ (xs : List ℕ). Stops a p c xs) e w

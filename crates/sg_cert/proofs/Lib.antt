@@ -8,3 +8,5 @@ pub mod CapLists
 pub mod Heads
 pub mod Rising
 pub mod Adding
+pub mod Rows
+pub mod Trees

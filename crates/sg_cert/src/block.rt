@@ -14,6 +14,7 @@ use std::marker::Model;
 const SIZE: usize = 4_096;
 
 /// Bytes that are not put yet.
+#[derive(Drop)]
 pub struct Block {
     bytes: [u8; 4096],
     len: usize,

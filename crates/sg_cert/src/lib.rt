@@ -9,8 +9,11 @@ mod fraction;
 mod lines;
 mod node;
 mod reading;
+mod row;
 mod ticket;
 mod verdict;
+mod writing;
 
 pub use fault::{ReportError, ReportFault};
 pub use reading::read_report;
+pub use writing::write_report;
