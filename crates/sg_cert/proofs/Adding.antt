@@ -1,6 +1,7 @@
 -- Texts that are added to a sink one after the other.
 use Rattle.std.proofs.Common.{◌≡◌, ℕ, zero, suc, ◌+◌, ◌≤◌, List, [], ◌∷◌, ◌++◌, ◌<◌, length, map, get_or, take, drop, Option, Some, None, Result, Ok, Err, refl, sym, ap, ◌∙◌, subst, arith, append_assoc}
 use Rattle.std.proofs.lemmas.List.{append-nil, take_more, take_all}
+use Rattle.std.specs.Prelude.{OnOk, OnErr}
 use Rattle.sg_shelf.specs.declared.sink.SinkError.{SinkError}
 use Rattle.sg_shelf.specs.Faults.{HasRisen}
 use Rattle.sg_shelf.specs.Taken.{Takes, TakesFront}
@@ -47,6 +48,7 @@ Stops-trans a b c p q t u x y =
       size = length x.put + y.size;
       taken = subst (λ (xs : List ℕ). Takes a.0 c.0 xs) (sym (take_past x.put (q ++ u) y.size) ∙ ap (take (length x.put + y.size)) all) (Takes-both a.0 b.0 c.0 x.put (take y.size (q ++ u)) x.taken y.taken);
       count = omega (arith, x.count, y.count);
+      last_count = y.last_count;
       risen = omega (arith, x.count, y.risen);
     }
 
@@ -68,6 +70,7 @@ Stops-early a c p t u x = record {
   size = least x.size (length (p ++ t));
   taken = subst (λ (xs : List ℕ). Takes a.0 c.0 xs) (sym (take_front (p ++ t) u x.size) ∙ ap (take (least x.size (length (p ++ t)))) (append_assoc p t u)) x.taken;
   count = x.count;
+  last_count = x.last_count;
   risen = x.risen;
 }
 
@@ -130,3 +133,27 @@ folds_spaced h = record { nil = refl; cons = λ x xs. refl }
 
 pub Stops-as : (a c : Shown) (p t u : List ℕ) → t ≡ u → Stops a p c t → Stops a p c u
 Stops-as a c p t u e w = subst (λ (xs : List ℕ). Stops a p c xs) e w
+
+-- ---- a whole text, from an empty block
+
+Takes-as : (a b : Option (List ℕ)) (t u : List ℕ) → t ≡ u → Takes a b t → Takes a b u
+Takes-as a b t u e h = subst (λ (xs : List ℕ). Takes a b xs) e h
+
+-- all was put: the text was added, and then the block
+whole_put : (a b c : Shown) (q t : List ℕ) → Adds a [] b q t → Adds b q c [] [] → Takes a.0 c.0 t
+whole_put a b c q t x y =
+    let e : y.put ≡ q = sym (append-nil y.put) ∙ y.all ∙ append-nil q in
+    Takes-as a.0 c.0 (x.put ++ y.put) t (ap (λ (zs : List ℕ). x.put ++ zs) e ∙ x.all) (Takes-both a.0 b.0 c.0 x.put y.put x.taken y.taken)
+
+last_front : (a b c : Shown) (q t : List ℕ) → Adds a [] b q t → Stops b q c [] → TakesFront a.0 c.0 t
+last_front a b c q t x y =
+    let s = Stops-trans a b c [] q t [] x y in
+    (s.size, subst (λ (xs : List ℕ). Takes a.0 c.0 (take s.size xs)) (append-nil t) s.taken)
+
+pub whole_end : (r : Result (Unit {0}) SinkError) (a b c : Shown) (p q s t : List ℕ) → p ≡ [] → Adds a p b q t → Writes r b q c s [] → OnOk r (s ≡ []) → OnOk r (Takes a.0 c.0 t)
+whole_end (Ok u) a b c p q s t e x y f = whole_put a b c q t (subst (λ (xs : List ℕ). Adds a xs b q t) e x) (subst (λ (xs : List ℕ). Adds b q c xs []) f y)
+whole_end (Err w) a b c p q s t e x y f = tt
+
+pub front_end : (r : Result (Unit {0}) SinkError) (a b c : Shown) (p q s t : List ℕ) → p ≡ [] → Adds a p b q t → Writes r b q c s [] → OnErr r (TakesFront a.0 c.0 t)
+front_end (Ok u) a b c p q s t e x y = tt
+front_end (Err w) a b c p q s t e x y = last_front a b c q t (subst (λ (xs : List ℕ). Adds a xs b q t) e x) y

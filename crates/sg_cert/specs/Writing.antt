@@ -1,5 +1,5 @@
 -- What a text adds to a sink, when it is formed in a block that is put when it is full.
-use Rattle.std.specs.Prelude.{◌≡◌, ℕ, ◌≤◌, List, ◌++◌, take, Option, Result, Ok, Err}
+use Rattle.std.specs.Prelude.{◌≡◌, ℕ, ◌-◌, ◌^◌, ◌≤◌, List, ◌++◌, take, Option, Result, Ok, Err}
 use Rattle.sg_shelf.specs.declared.sink.SinkError.{SinkError}
 use Rattle.sg_shelf.specs.Faults.{HasRisen}
 use Rattle.sg_shelf.specs.Taken.{Takes}
@@ -20,6 +20,7 @@ pub record Stops (before : Shown) (pending : List ℕ) (after : Shown) (text : L
   pub size : ℕ
   pub taken : Takes before.0 after.0 (take size (pending ++ text))
   pub count : before.1 ≤ after.1
+  pub last_count : after.1 ≤ 2 ^ 64 - 1
   pub risen : HasRisen before.1 after.1
 
 -- one of the two, by the answer

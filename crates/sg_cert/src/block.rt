@@ -1,6 +1,6 @@
 //! Text that is formed in a block of memory and put when the block is full.
 
-ghost use Rattle.std.specs.Prelude.{◌≡◌, ◌++◌, ◌∷◌, [], ◌<◌, ◌≤◌, length, map, IsTrue, OnOk};
+ghost use Rattle.std.specs.Prelude.{◌≡◌, ◌++◌, ◌∷◌, [], ◌<◌, ◌≤◌, ◌-◌, ◌^◌, length, map, IsTrue, OnOk};
 ghost use Rattle.std.specs.Fmt.{signed_decimal};
 ghost use Rattle.std.specs.Prelude.{decimal};
 ghost use Rattle.sg_cert.specs.Text.{spaced};
@@ -76,6 +76,7 @@ impl Block {
 pub fn flush<O: Sink>(out: &mut O, block: &mut Block) -> Result<(), SinkError>
     ensures text { Writes result (O.taken out.old, O.faults out.old) block.old (O.taken out.new, O.faults out.new) block.new [] }
     ensures empty { OnOk result (block.new ≡ []) }
+    ensures last_count { O.faults out.new ≤ 2 ^ 64 - 1 }
 {
     match out.put(block.as_slice()) {
         Ok(()) => {

@@ -5,7 +5,7 @@ ghost use Rattle.std.specs.Fmt.{signed_decimal};
 ghost use Rattle.sg_model.specs.ReportText.{line};
 ghost use Rattle.sg_tree.specs.declared.fact.Fact.TheVariants.{Water};
 ghost use Rattle.sg_tree.specs.declared.report.Cause.TheVariants as causes;
-ghost use Rattle.sg_cert.specs.Text.{spell, spaced, text_of, fraction_row, ticket_row, mark_row, line_row, fact_rows, cap_row, split_row, op_word, cause_fields, verdict_row};
+ghost use Rattle.sg_cert.specs.Text.{spell, spaced, text_of, fraction_row, ticket_row, mark_row, line_row, fact_rows, cap_row, split_row, op_word, fix_fields, cause_fields, verdict_row};
 ghost use Rattle.sg_cert.specs.Writing.{Writes};
 
 use crate::block::{Block, put_bytes, put_choices, put_part};
@@ -244,32 +244,34 @@ fn word_of(op: Op) -> &'static [u8]
     }
 }
 
-/// A budget of nodes that was spent.
-fn put_spent_nodes<O: Sink>(
+/// A line of words and a number.
+fn put_number_line<O: Sink>(
     out: &mut O,
     block: &mut Block,
-    budget: u64,
+    words: &[u8],
+    number: u64,
 ) -> Result<(), SinkError>
-    ensures { Writes result (O.taken out.old, O.faults out.old) block.old (O.taken out.new, O.faults out.new) block.new (spell (codes "verdict" ∷ codes "gap" ∷ cause_fields (causes.Nodes budget))) }
+    ensures { Writes result (O.taken out.old, O.faults out.old) block.old (O.taken out.new, O.faults out.new) block.new (line words.now (decimal number ∷ [])) }
 {
-    put_line(out, block, b"verdict gap nodes", &[i128::from(budget)])
+    put_line(out, block, words, &[i128::from(number)])
 }
 
-/// A budget of pivots that a node spent.
-fn put_spent_pivots<O: Sink>(
+/// A line of words, a number and a node.
+fn put_node_line<O: Sink>(
     out: &mut O,
     block: &mut Block,
-    budget: u64,
+    words: &[u8],
+    number: u64,
     fix: &Fix,
 ) -> Result<(), SinkError>
-    ensures { Writes result (O.taken out.old, O.faults out.old) block.old (O.taken out.new, O.faults out.new) block.new (spell (codes "verdict" ∷ codes "gap" ∷ cause_fields (causes.Pivots budget fix.now))) }
+    ensures { Writes result (O.taken out.old, O.faults out.old) block.old (O.taken out.new, O.faults out.new) block.new (line words.now (decimal number ∷ fix_fields fix.now)) }
 {
     put_list_line(
         out,
         block,
-        b"verdict gap pivots",
+        words,
         &[
-            i128::from(budget),
+            i128::from(number),
             i128::from(fix.first),
             fix.acts.len() as i128,
         ],
@@ -277,22 +279,23 @@ fn put_spent_pivots<O: Sink>(
     )
 }
 
-/// A budget of looks that a node spent.
-fn put_spent_looks<O: Sink>(
+/// A line of words, a number, a count of steps and a node.
+fn put_step_line<O: Sink>(
     out: &mut O,
     block: &mut Block,
-    budget: u64,
+    words: &[u8],
+    number: u64,
     step: u64,
     fix: &Fix,
 ) -> Result<(), SinkError>
-    ensures { Writes result (O.taken out.old, O.faults out.old) block.old (O.taken out.new, O.faults out.new) block.new (spell (codes "verdict" ∷ codes "gap" ∷ cause_fields (causes.Looks budget step fix.now))) }
+    ensures { Writes result (O.taken out.old, O.faults out.old) block.old (O.taken out.new, O.faults out.new) block.new (line words.now (decimal number ∷ decimal step ∷ fix_fields fix.now)) }
 {
     put_list_line(
         out,
         block,
-        b"verdict gap looks",
+        words,
         &[
-            i128::from(budget),
+            i128::from(number),
             i128::from(step),
             i128::from(fix.first),
             fix.acts.len() as i128,
@@ -301,21 +304,22 @@ fn put_spent_looks<O: Sink>(
     )
 }
 
-/// A value of a node that lies outside `i128`.
-fn put_wide<O: Sink>(
+/// A line of words, the name of a value, its operation and operands, a count of steps and a node.
+fn put_value_line<O: Sink>(
     out: &mut O,
     block: &mut Block,
+    words: &[u8],
     name: u8,
     wide: &Wide,
     step: u64,
     fix: &Fix,
 ) -> Result<(), SinkError>
-    ensures { Writes result (O.taken out.old, O.faults out.old) block.old (O.taken out.new, O.faults out.new) block.new (spell (codes "verdict" ∷ codes "gap" ∷ cause_fields (causes.Wide name wide.now step fix.now))) }
+    ensures { Writes result (O.taken out.old, O.faults out.old) block.old (O.taken out.new, O.faults out.new) block.new (line words.now (decimal name ∷ op_word wide.now.op ∷ signed_decimal wide.now.left ∷ signed_decimal wide.now.right ∷ decimal step ∷ fix_fields fix.now)) }
 {
     put_word_line(
         out,
         block,
-        b"verdict gap wide",
+        words,
         word_of(wide.op),
         Around {
             before: &[i128::from(name)],
@@ -329,6 +333,56 @@ fn put_wide<O: Sink>(
             choices: fix.acts.as_slice(),
         },
     )
+}
+
+/// A budget of nodes that was spent.
+fn put_spent_nodes<O: Sink>(
+    out: &mut O,
+    block: &mut Block,
+    budget: u64,
+) -> Result<(), SinkError>
+    ensures { Writes result (O.taken out.old, O.faults out.old) block.old (O.taken out.new, O.faults out.new) block.new (spell (codes "verdict" ∷ codes "gap" ∷ cause_fields (causes.Nodes budget))) }
+{
+    put_number_line(out, block, b"verdict gap nodes", budget)
+}
+
+/// A budget of pivots that a node spent.
+fn put_spent_pivots<O: Sink>(
+    out: &mut O,
+    block: &mut Block,
+    budget: u64,
+    fix: &Fix,
+) -> Result<(), SinkError>
+    ensures { Writes result (O.taken out.old, O.faults out.old) block.old (O.taken out.new, O.faults out.new) block.new (spell (codes "verdict" ∷ codes "gap" ∷ cause_fields (causes.Pivots budget fix.now))) }
+{
+    put_node_line(out, block, b"verdict gap pivots", budget, fix)
+}
+
+/// A budget of looks that a node spent.
+fn put_spent_looks<O: Sink>(
+    out: &mut O,
+    block: &mut Block,
+    budget: u64,
+    step: u64,
+    fix: &Fix,
+) -> Result<(), SinkError>
+    ensures { Writes result (O.taken out.old, O.faults out.old) block.old (O.taken out.new, O.faults out.new) block.new (spell (codes "verdict" ∷ codes "gap" ∷ cause_fields (causes.Looks budget step fix.now))) }
+{
+    put_step_line(out, block, b"verdict gap looks", budget, step, fix)
+}
+
+/// A value of a node that lies outside `i128`.
+fn put_wide<O: Sink>(
+    out: &mut O,
+    block: &mut Block,
+    name: u8,
+    wide: &Wide,
+    step: u64,
+    fix: &Fix,
+) -> Result<(), SinkError>
+    ensures { Writes result (O.taken out.old, O.faults out.old) block.old (O.taken out.new, O.faults out.new) block.new (spell (codes "verdict" ∷ codes "gap" ∷ cause_fields (causes.Wide name wide.now step fix.now))) }
+{
+    put_value_line(out, block, b"verdict gap wide", name, wide, step, fix)
 }
 
 /// The verdict of a gap.
