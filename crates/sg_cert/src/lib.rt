@@ -17,3 +17,6 @@ mod writing;
 pub use fault::{ReportError, ReportFault};
 pub use reading::read_report;
 pub use writing::write_report;
+
+#[cfg(test)]
+mod tests;
