@@ -10,3 +10,7 @@ pub mod Rising
 pub mod Adding
 pub mod Rows
 pub mod Trees
+pub mod Numbers
+pub mod Spelled
+pub mod LinesAgain
+pub mod BlocksAgain

@@ -6,6 +6,7 @@ mod fact;
 mod fault;
 mod field;
 mod fraction;
+mod laws;
 mod lines;
 mod node;
 mod reading;
@@ -15,6 +16,7 @@ mod verdict;
 mod writing;
 
 pub use fault::{ReportError, ReportFault};
+pub use laws::{read_is_text, text_reads_back};
 pub use reading::read_report;
 pub use writing::write_report;
 
