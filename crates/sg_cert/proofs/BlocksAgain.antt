@@ -5,6 +5,9 @@ use Rattle.std.specs.Fmt.{signed_decimal}
 use Rattle.std.specs.Option.{option_map}
 use Rattle.std.specs.List.{list_all, AllByRecursion, flat_map, join_with_byte}
 use Rattle.std.proofs.lemmas.List.{length-append, append-nil}
+use Rattle.std.proofs.lemmas.Bool.{lt-ltb}
+use Rattle.std.proofs.lemmas.Int.{ints}
+use Rattle.std.specs.Prelude.{◌≤ℤ◌}
 use Rattle.sg_model.specs.declared.level.Level.{Level}
 use Rattle.sg_model.specs.declared.level.Level.TheVariants.{Resources, Target}
 use Rattle.sg_model.specs.declared.ticket.Ticket.{Ticket}
@@ -257,3 +260,79 @@ pub record CapBack (c : Cap) : Type 0 where
   pub all : cap_row c ≡ codes "cap" ∷ fs
   pub plain : list_all is_plain (codes "cap" ∷ fs) ≡ true
   pub back : BackFrom cap_from (codes "cap" ∷ fs) (flat_map fact_rows c.proof) c
+
+cap_line : (l n : ℕ) (v : ℤ) (proof : List Fact) (fs : Row) → cap_of (codes "cap" ∷ fs) ≡ Ok (l, v, length proof) → AllByRecursion IsFact proof
+    → BackFrom cap_from (codes "cap" ∷ fs) (flat_map fact_rows proof) (record { l = l; v = v; proof = proof })
+unfolding cap_from
+cap_line l n v proof fs parsed h more line = rw (parsed, repeat_again (λ done q. fact_at q) fact_rows [] proof (facts_each [] proof h) more line) refl
+
+cap_fits : (v : ℤ) → (negsuc (2 ^ 63 - 1) ≤ℤ v) × (v ≤ℤ pos (2 ^ 63 - 1)) → fits v ≡ true
+cap_fits (pos n) h = lt-ltb n (2 ^ 127) (omega (arith, ints, h))
+cap_fits (negsuc n) h = lt-ltb n (2 ^ 127) (omega (arith, ints, h))
+
+cap_cases : (l : ℕ) (v : ℤ) (proof : List Fact) → IsCap (record { l = l; v = v; proof = proof }) → CapBack (record { l = l; v = v; proof = proof })
+cap_cases l v [] h = record {
+  fs = decimal l ∷ codes "plain" ∷ signed_decimal v ∷ [];
+  all = refl;
+  plain = rw (decimal_plain l (omega (arith, h.l)), signed_plain v (cap_fits v h.v)) refl;
+  back = cap_line l 0 v [] (decimal l ∷ codes "plain" ∷ signed_decimal v ∷ []) (plain_again l v h.l h.v) tt;
+}
+cap_cases l v (f ∷ fs) h =
+    let some : 1 ≤ length (f ∷ fs) = omega arith in
+    record {
+      fs = decimal l ∷ codes "proved" ∷ signed_decimal v ∷ decimal (length (f ∷ fs)) ∷ [];
+      all = refl;
+      plain = rw (decimal_plain l (omega (arith, h.l)), signed_plain v (cap_fits v h.v), decimal_plain (length (f ∷ fs)) (omega (arith, h.count))) refl;
+      back = cap_line l 0 v (f ∷ fs) (decimal l ∷ codes "proved" ∷ signed_decimal v ∷ decimal (length (f ∷ fs)) ∷ []) (proved_again l (length (f ∷ fs)) v h.l h.v (some, h.count)) h.proof;
+    }
+
+pub cap_back : (c : Cap) → IsCap c → CapBack c
+cap_back c h = cap_cases c.l c.v c.proof h
+
+pub cap_again : (c : Cap) → IsCap c → Back cap_at (cap_rows c) c
+unfolding cap_at
+cap_again c h =
+    let b = cap_back c h in
+    subst (λ (row : Row). Back cap_at (row ∷ flat_map fact_rows c.proof) c) (sym b.all) (at_from cap_at cap_from (codes "cap") b.fs (flat_map fact_rows c.proof) c (λ p. refl) b.plain b.back)
+
+text_front : (w : List ℕ) (fs : Row) (rows : List Row) (more : List ℕ) → text_of ((w ∷ fs) ∷ rows) ++ more ≡ spell (w ∷ fs) ++ (text_of rows ++ more)
+text_front w fs rows more = append_assoc (spell (w ∷ fs)) (text_of rows) more
+
+-- whether what follows begins with a cap
+pub begins_row : (w : List ℕ) (fs : Row) (rows : List Row) (more : List ℕ) (line : ℕ) (word : List ℕ) → list_all is_plain (w ∷ fs) ≡ true
+    → line_begins word (next_line (place (text_of ((w ∷ fs) ∷ rows) ++ more) line)) ≡ has_word 0 word (w ∷ fs)
+begins_row w fs rows more line word plain =
+    ap (λ (t : List ℕ). line_begins word (next_line (place t line))) (text_front w fs rows more)
+    ∙ ap (line_begins word) (next_again w fs (text_of rows ++ more) line plain)
+    ∙ ap (has_word 0 word) (fields_again w fs plain)
+
+pub caps_again : (done cs : List Cap) (n : ℕ) (more : List ℕ) (line : ℕ) → length cs ≤ n → AllByRecursion IsCap cs → line_begins (codes "cap") (next_line (place more (line + length (flat_map cap_rows cs)))) ≡ false
+    → caps_at done n (place (text_of (flat_map cap_rows cs) ++ more) line) ≡ Ok (done ++ cs, place more (line + length (flat_map cap_rows cs)))
+unfolding caps_at
+caps_again done [] zero more line le h stop = rw (append-nil done, add-zero line) refl
+caps_again done [] (suc n) more line le h stop =
+    let s : line_begins (codes "cap") (next_line (place more line)) ≡ false = stop in
+    rw (s, append-nil done, add-zero line) refl
+caps_again done (c ∷ cs) zero more line le h stop = absurd (omega (arith, le))
+caps_again done (c ∷ cs) (suc n) more line le h stop =
+    let rest = text_of (flat_map cap_rows cs) ++ more in
+    let text : text_of (flat_map cap_rows (c ∷ cs)) ++ more ≡ text_of (cap_rows c) ++ rest =
+    ap (λ (t : List ℕ). t ++ more) (text_then (cap_rows c) (flat_map cap_rows cs)) ∙ append_assoc (text_of (cap_rows c)) (text_of (flat_map cap_rows cs)) more in
+    let b = cap_back c h.0 in
+    let begins : line_begins (codes "cap") (next_line (place (text_of (cap_rows c) ++ rest) line)) ≡ true =
+    subst (λ (row : Row). line_begins (codes "cap") (next_line (place (text_of (row ∷ flat_map fact_rows c.proof) ++ rest) line)) ≡ true) (sym b.all) (begins_row (codes "cap") b.fs (flat_map fact_rows c.proof) rest line (codes "cap") b.plain) in
+    let lines : (line + length (cap_rows c)) + length (flat_map cap_rows cs) ≡ line + length (flat_map cap_rows (c ∷ cs)) = omega (arith, length-append (cap_rows c) (flat_map cap_rows cs)) in
+    let stop2 : line_begins (codes "cap") (next_line (place more ((line + length (cap_rows c)) + length (flat_map cap_rows cs)))) ≡ false = stop in
+    let ih = caps_again (done ++ c ∷ []) cs n more (line + length (cap_rows c)) (omega (arith, le)) h.1 stop2 in
+    rw (text, begins, cap_again c h.0 rest line) (ih ∙ rw (append_assoc done (c ∷ []) cs, lines) refl)
+
+-- each cap has a byte at least
+pub caps_fuel : (cs : List Cap) (more : List ℕ) → AllByRecursion IsCap cs → length cs ≤ length (text_of (flat_map cap_rows cs) ++ more)
+caps_fuel [] more h = omega arith
+caps_fuel (c ∷ cs) more h =
+    let b = cap_back c h.0 in
+    let text : text_of (flat_map cap_rows (c ∷ cs)) ++ more ≡ text_of (cap_rows c) ++ (text_of (flat_map cap_rows cs) ++ more) =
+    ap (λ (t : List ℕ). t ++ more) (text_then (cap_rows c) (flat_map cap_rows cs)) ∙ append_assoc (text_of (cap_rows c)) (text_of (flat_map cap_rows cs)) more in
+    let ih = caps_fuel cs more h.1 in
+    let some : 1 ≤ length (text_of (cap_rows c)) = subst (λ (row : Row). 1 ≤ length (text_of (row ∷ flat_map fact_rows c.proof))) (sym b.all) (omega arith) in
+    rw text (omega (arith, length-append (text_of (cap_rows c)) (text_of (flat_map cap_rows cs) ++ more), ih, some))

@@ -14,3 +14,4 @@ pub mod Numbers
 pub mod Spelled
 pub mod LinesAgain
 pub mod BlocksAgain
+pub mod WholeAgain

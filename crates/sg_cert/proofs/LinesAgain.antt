@@ -234,7 +234,7 @@ split_line_again l n h k =
 
 -- ---- the verdict
 
-acts_from : (xs : List ℕ) → AllByRecursion (λ a. IsFrom 1 65535 a) xs → AllByRecursion (λ a. a ≤ 65535) xs
+pub acts_from : (xs : List ℕ) → AllByRecursion (λ a. IsFrom 1 65535 a) xs → AllByRecursion (λ a. a ≤ 65535) xs
 acts_from [] h = tt
 acts_from (x ∷ xs) h = (h.0.1, acts_from xs h.1)
 

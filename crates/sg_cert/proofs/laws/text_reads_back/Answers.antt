@@ -1,5 +1,5 @@
-use Rattle.sg_cert.proofs.BlocksAgain.{fact_again}
+use Rattle.sg_cert.proofs.WholeAgain.{whole_again}
 use Rattle.sg_cert.proofs.laws.text_reads_back.Goals as goal
 
 pub returns : goal.returns
-returns c = ?
+returns c = whole_again
