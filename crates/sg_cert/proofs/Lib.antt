@@ -15,3 +15,4 @@ pub mod Spelled
 pub mod LinesAgain
 pub mod BlocksAgain
 pub mod WholeAgain
+pub mod LinesBack
