@@ -16,3 +16,5 @@ pub mod LinesAgain
 pub mod BlocksAgain
 pub mod WholeAgain
 pub mod LinesBack
+pub mod VerdictBack
+pub mod BlocksBack

@@ -41,28 +41,28 @@ use Rattle.sg_cert.proofs.LinesAgain.{IsWord}
 pub ok_same : {A : Type 0} (x y : A) → ◌≡◌ {A = Result A ℕ} (Ok x) (Ok y) → x ≡ y
 ok_same x y e = cc
 
-no_err : {A : Type 0} (n : ℕ) (x : A) → ◌≡◌ {A = Result A ℕ} (Err n) (Ok x) → ⊥
+pub no_err : {A : Type 0} (n : ℕ) (x : A) → ◌≡◌ {A = Result A ℕ} (Err n) (Ok x) → ⊥
 no_err n x e = absurd cc
 
 -- ---- shapes
 
-abbrev Judged : Type 0
+abbrev pub Judged : Type 0
 Judged = Result (Unit {0}) ℕ
 
-abbrev count_then : Bool → Bool → Judged
+abbrev pub count_then : Bool → Bool → Judged
 count_then counted good = if counted then (if good then Ok tt else Err 5) else Err 4
 
 tested : (counted good : Bool) (x : Unit {0}) → count_then counted good ≡ Ok x → counted ≡ true
 tested true good x e = refl
 tested false good x e = absurd (no_err 4 x e)
 
-shape_back : (counted : Bool) (words : List ℕ) (fs : Row) (x : Unit {0}) → shaped_if counted words fs ≡ Ok x → (counted ≡ true) × (words_of (fields words) fs ≡ Ok tt)
+pub shape_back : (counted : Bool) (words : List ℕ) (fs : Row) (x : Unit {0}) → shaped_if counted words fs ≡ Ok x → (counted ≡ true) × (words_of (fields words) fs ≡ Ok tt)
 unfolding shaped_if
 shape_back counted words fs x h =
     let b = bound (words_of (fields words) fs) (λ _. count_then counted (spelled_of (fields words) fs)) x h in
     (tested counted (spelled_of (fields words) fs) x b.1.1, b.1.0)
 
-count_back : (n : ℕ) (fs : Row) → count_is n n fs ≡ true → length fs ≡ n
+pub count_back : (n : ℕ) (fs : Row) → count_is n n fs ≡ true → length fs ≡ n
 count_back n fs h =
     let t = both (nat_le n (length fs)) (nat_le (length fs) n) h in
     let a : n ≤ length fs = grind (arith, nat_tests) in
@@ -72,14 +72,14 @@ count_back n fs h =
 same_word : (a b : List ℕ) → bytes_eq a b ≡ true → a ≡ b
 same_word a b h = (bytes_eq-Decides a b).0 h
 
-abbrev word_none : Bool → Judged
+abbrev pub word_none : Bool → Judged
 word_none t = if t then Ok tt else Err 4
 
-abbrev word_some : Bool → Bool → Judged
+abbrev pub word_some : Bool → Bool → Judged
 word_some s t = if s || t then Ok tt else Err 3
 
 -- a fixed word stands where it is due
-word_here : (w : List ℕ) (ws fs : Row) → bytes_eq w (codes "#") ≡ false → words_of (w ∷ ws) fs ≡ Ok tt → (fs ≡ w ∷ drop 1 fs) × (words_of ws (drop 1 fs) ≡ Ok tt)
+pub word_here : (w : List ℕ) (ws fs : Row) → bytes_eq w (codes "#") ≡ false → words_of (w ∷ ws) fs ≡ Ok tt → (fs ≡ w ∷ drop 1 fs) × (words_of ws (drop 1 fs) ≡ Ok tt)
 unfolding words_of
 word_here w ws [] other h = absurd (none (bytes_eq w (codes "#")) other (bound (word_at w None) (λ _. words_of ws (drop 1 [])) tt h).0 (bound (word_at w None) (λ _. words_of ws (drop 1 [])) tt h).1.0)
   where
@@ -95,12 +95,12 @@ word_here w ws (f ∷ fs) other h =
     one true false e x k = absurd (let w : true ≡ false = e in cc)
     one false false e x k = absurd (no_err 3 x k)
 
-place_here : (ws fs : Row) → words_of (codes "#" ∷ ws) fs ≡ Ok tt → words_of ws (drop 1 fs) ≡ Ok tt
+pub place_here : (ws fs : Row) → words_of (codes "#" ∷ ws) fs ≡ Ok tt → words_of ws (drop 1 fs) ≡ Ok tt
 unfolding words_of
 place_here ws fs h = (bound (word_at (codes "#") (slice_get fs 0)) (λ _. words_of ws (drop 1 fs)) tt h).1.1
 
 -- one word, and a count of fields
-one_word : (word : List ℕ) (n : ℕ) (fs : Row) (x : Unit {0}) → IsWord word → shaped_as word n n fs ≡ Ok x → (fs ≡ word ∷ drop 1 fs) × (length fs ≡ n)
+pub one_word : (word : List ℕ) (n : ℕ) (fs : Row) (x : Unit {0}) → IsWord word → shaped_as word n n fs ≡ Ok x → (fs ≡ word ∷ drop 1 fs) × (length fs ≡ n)
 one_word word n fs x w h =
     let s = shape_back (count_is n n fs) word fs x h in
     ((word_here word [] fs w.no_place (ap (λ (ws : Row). words_of ws fs) (sym w.one) ∙ s.1)).0, count_back n fs s.0)
@@ -111,10 +111,10 @@ pub exact : (front rest fs : Row) → fs ≡ front ++ rest → length fs ≡ len
 exact front [] fs e n = e ∙ append-nil front
 exact front (x ∷ xs) fs e n = absurd (omega (arith, ap length e, length-append front (x ∷ xs), n))
 
-behind : (w : List ℕ) (fs rest : Row) → fs ≡ w ∷ drop 1 fs → drop 1 fs ≡ rest → fs ≡ w ∷ rest
+pub behind : (w : List ℕ) (fs rest : Row) → fs ≡ w ∷ drop 1 fs → drop 1 fs ≡ rest → fs ≡ w ∷ rest
 behind w fs rest e k = e ∙ ap (λ (r : Row). w ∷ r) k
 
-two : (a : List ℕ) {x y : Row} → x ≡ y → a ∷ x ≡ a ∷ y
+pub two : (a : List ℕ) {x y : Row} → x ≡ y → a ∷ x ≡ a ∷ y
 two a e = ap (λ (r : Row). a ∷ r) e
 
 in_order_back : (t : Bool) (x : Unit {0}) → in_order t ≡ Ok x → t ≡ true
@@ -268,14 +268,14 @@ pub decimals_length : (xs : List ℕ) → length (map decimal xs) ≡ length xs
 decimals_length [] = refl
 decimals_length (x ∷ xs) = ap (λ (n : ℕ). suc n) (decimals_length xs)
 
-below : (low : ℕ) (xs : List ℕ) → AllByRecursion (λ x. IsFrom low 65535 x) xs → AllByRecursion (λ x. x ≤ 65535) xs
+pub below : (low : ℕ) (xs : List ℕ) → AllByRecursion (λ x. IsFrom low 65535 x) xs → AllByRecursion (λ x. x ≤ 65535) xs
 below low [] h = tt
 below low (x ∷ xs) h = (h.0.1, below low xs h.1)
 
 int_le_from : (z : ℤ) → pos 1 ≤ℤ z → int_le (pos 1) z ≡ true
 int_le_from z h = sym (omega (arith, ints, h))
 
-most : (high : ℕ) (fs : Row) → count_is 2 high fs ≡ true → length fs ≤ high
+pub most : (high : ℕ) (fs : Row) → count_is 2 high fs ≡ true → length fs ≤ high
 most high fs h = let t = both (nat_le 2 (length fs)) (nat_le (length fs) high) h in let u = t.1 in grind (arith, nat_tests)
 
 pub ticket_back : (before : Option (List ℕ)) (fs : Row) (t : Ticket) → ticket_of before fs ≡ Ok t → (IsTicket t × MayStand before t) × (fs ≡ ticket_row t)
@@ -300,7 +300,7 @@ ticket_back before fs t h =
 
 -- ---- water
 
-spent_back : (fs : Row) (f : Fact) → spent_of fs ≡ Ok f → (x : Fraction) × ((Water x Resources ≡ f) × (IsFraction x × (fs ≡ codes "water" ∷ signed_decimal x.num ∷ signed_decimal x.den ∷ codes "resources" ∷ [])))
+pub spent_back : (fs : Row) (f : Fact) → spent_of fs ≡ Ok f → (x : Fraction) × ((Water x Resources ≡ f) × (IsFraction x × (fs ≡ codes "water" ∷ signed_decimal x.num ∷ signed_decimal x.den ∷ codes "resources" ∷ [])))
 unfolding spent_of
 spent_back fs f h =
     let a = bound (shaped_as (codes "water # # resources") 4 4 fs) _ f h in
@@ -317,7 +317,7 @@ spent_back fs f h =
             (behind (codes "water") fs _ w.0 (n.1 ∙ two (signed_decimal b.0.0.num) (two (signed_decimal b.0.0.den) rest))) (count_back 4 fs s.0)
         ) ) )
 
-target_back : (fs : Row) (f : Fact) → target_of fs ≡ Ok f
+pub target_back : (fs : Row) (f : Fact) → target_of fs ≡ Ok f
     → (x : Fraction) × ((j : ℕ) × ((Water x (Target j) ≡ f) × ((IsFraction x × IsFrom 1 65535 j) × (fs ≡ codes "water" ∷ signed_decimal x.num ∷ signed_decimal x.den ∷ codes "target" ∷ decimal j ∷ []))))
 unfolding target_of
 target_back fs f h =
@@ -361,9 +361,9 @@ split_back fs x h =
       )
 
 -- the row of a cap with so many facts
-pub cap_line : ℕ × ℤ × ℕ → Row
-cap_line x = kind x.2
-  where
-    kind : ℕ → Row
-    kind zero = codes "cap" ∷ decimal x.0 ∷ codes "plain" ∷ signed_decimal x.1 ∷ []
-    kind (suc n) = codes "cap" ∷ decimal x.0 ∷ codes "proved" ∷ signed_decimal x.1 ∷ decimal (suc n) ∷ []
+abbrev kind_line : ℕ → ℤ → ℕ → Row
+kind_line l v zero = codes "cap" ∷ decimal l ∷ codes "plain" ∷ signed_decimal v ∷ []
+kind_line l v (suc n) = codes "cap" ∷ decimal l ∷ codes "proved" ∷ signed_decimal v ∷ decimal (suc n) ∷ []
+
+abbrev pub cap_line : ℕ × ℤ × ℕ → Row
+cap_line x = kind_line x.0 x.1 x.2
