@@ -53,10 +53,10 @@ use Rattle.sg_cert.proofs.LinesAgain.{IsWord}
 use Rattle.sg_cert.proofs.LinesBack.{fraction_back_of, mark_back, row_back, header_back, counts_back, ticket_back, spent_back, target_back, split_back, one_word, cap_line}
 use Rattle.sg_cert.proofs.VerdictBack.{IsBound, cap_line_back, verdict_back}
 
-ok_is : {A E : Type 0} (x y : A) → ◌≡◌ {A = Result A E} (Ok x) (Ok y) → x ≡ y
+pub ok_is : {A E : Type 0} (x y : A) → ◌≡◌ {A = Result A E} (Ok x) (Ok y) → x ≡ y
 ok_is x y e = cc
 
-never : {A E : Type 0} (e : E) (x : A) → ◌≡◌ {A = Result A E} (Err e) (Ok x) → ⊥
+pub never : {A E : Type 0} (e : E) (x : A) → ◌≡◌ {A = Result A E} (Err e) (Ok x) → ⊥
 never e x k = absurd cc
 
 -- ---- lines
@@ -76,16 +76,16 @@ line_rest (Some parts) n bs l e h =
     let k = ok_is _ l h in
     subst (λ (x : List ℕ × Place). bs ≡ x.0 ++ 10 ∷ x.1.rest) k (cut_back 10 bs (position (λ x. x == 10) bs) parts refl e)
 
-line_forth : (p : Place) (l : List ℕ × Place) → line_at p ≡ Ok l → p.rest ≡ l.0 ++ 10 ∷ l.1.rest
+pub line_forth : (p : Place) (l : List ℕ × Place) → line_at p ≡ Ok l → p.rest ≡ l.0 ++ 10 ∷ l.1.rest
 unfolding line_at
 line_forth p l h = line_rest (split_once 10 p.rest) (p.line + 1) p.rest l refl h
 
-row_forth : (p : Place) (l : List ℕ × Place) (w : List ℕ) (fs : Row) → line_at p ≡ Ok l → fields l.0 ≡ w ∷ fs → p.rest ≡ spell (w ∷ fs) ++ l.1.rest
+pub row_forth : (p : Place) (l : List ℕ × Place) (w : List ℕ) (fs : Row) → line_at p ≡ Ok l → fields l.0 ≡ w ∷ fs → p.rest ≡ spell (w ∷ fs) ++ l.1.rest
 row_forth p l w fs h e =
     let joined : l.0 ≡ join_with_byte 32 (w ∷ fs) = sym (join_with_byte-slice_split 32 l.0) ∙ ap (join_with_byte 32) e in
     line_forth p l h ∙ ap (λ (t : List ℕ). t ++ 10 ∷ l.1.rest) joined ∙ sym (append_assoc (join_with_byte 32 (w ∷ fs)) (10 ∷ []) l.1.rest) ∙ ap (λ (t : List ℕ). t ++ l.1.rest) (sym (spell_join w fs))
 
-at_line_back : {A : Type 0} (p : Place) (r : Result A ℕ) (x : A) → at_line p r ≡ Ok x → r ≡ Ok x
+pub at_line_back : {A : Type 0} (p : Place) (r : Result A ℕ) (x : A) → at_line p r ≡ Ok x → r ≡ Ok x
 at_line_back p (Ok y) x h = ap Ok (ok_is y x h)
 at_line_back p (Err e) x h = absurd (never _ x h)
 
@@ -93,11 +93,11 @@ at_line_back p (Err e) x h = absurd (never _ x h)
 abbrev pub Took : Type 0 → List ℕ → List Row → List ℕ → Type 0
 Took P before rows after = P × (before ≡ text_of rows ++ after)
 
-behind_row : (p : Place) (l : List ℕ × Place) (w : List ℕ) (fs : Row) (rows : List Row) (after : List ℕ) → line_at p ≡ Ok l → fields l.0 ≡ w ∷ fs → l.1.rest ≡ text_of rows ++ after → p.rest ≡ text_of ((w ∷ fs) ∷ rows) ++ after
+pub behind_row : (p : Place) (l : List ℕ × Place) (w : List ℕ) (fs : Row) (rows : List Row) (after : List ℕ) → line_at p ≡ Ok l → fields l.0 ≡ w ∷ fs → l.1.rest ≡ text_of rows ++ after → p.rest ≡ text_of ((w ∷ fs) ∷ rows) ++ after
 behind_row p l w fs rows after h e k = row_forth p l w fs h e ∙ ap (λ (t : List ℕ). spell (w ∷ fs) ++ t) k ∙ sym (append_assoc (spell (w ∷ fs)) (text_of rows) after)
 
 -- a reader of one line
-one_forth : {A : Type 0} (parse : Row → Result A ℕ) (p : Place) (x : A × Place) (P : Type 0) (w : List ℕ) (fs : Row)
+pub one_forth : {A : Type 0} (parse : Row → Result A ℕ) (p : Place) (x : A × Place) (P : Type 0) (w : List ℕ) (fs : Row)
     → (line_at p >>= λ l. at_line l.1 (parse (fields l.0)) >>= λ y. Ok (y, l.1)) ≡ Ok x
     → ((gs : Row) → parse gs ≡ Ok x.0 → P × (gs ≡ w ∷ fs)) → Took P p.rest ((w ∷ fs) ∷ []) x.1.rest
 one_forth parse p x P w fs h back =
@@ -110,18 +110,18 @@ one_forth parse p x P w fs h back =
 
 -- ---- items one after the other
 
-abbrev Chain : {A : Type 0} → (List A → A → Type 0) → List A → List A → Type 0
+abbrev pub Chain : {A : Type 0} → (List A → A → Type 0) → List A → List A → Type 0
 Chain P done [] = Unit {0}
 Chain P done (x ∷ xs) = P done x × Chain P (done ++ x ∷ []) xs
 
-record Items {A : Type 0} (P : List A → A → Type 0) (rows : A → List Row) (done xs : List A) (n : ℕ) (before after : List ℕ) : Type 0 where
-  more : List A
-  all : done ++ more ≡ xs
-  count : length more ≡ n
-  chain : Chain P done more
-  text : before ≡ text_of (flat_map rows more) ++ after
+pub record Items {A : Type 0} (P : List A → A → Type 0) (rows : A → List Row) (done xs : List A) (n : ℕ) (before after : List ℕ) : Type 0 where
+  pub more : List A
+  pub all : done ++ more ≡ xs
+  pub count : length more ≡ n
+  pub chain : Chain P done more
+  pub text : before ≡ text_of (flat_map rows more) ++ after
 
-repeat_forth : {A : Type 0} (item : List A → Place → Read A) (P : List A → A → Type 0) (rows : A → List Row)
+pub repeat_forth : {A : Type 0} (item : List A → Place → Read A) (P : List A → A → Type 0) (rows : A → List Row)
     → ((done : List A) (p : Place) (x : A × Place) → item done p ≡ Ok x → Took (P done x.0) p.rest (rows x.0) x.1.rest)
     → (done : List A) (n : ℕ) (p : Place) (xs : List A × Place) → repeat item done n p ≡ Ok xs → Items P rows done xs.0 n p.rest xs.1.rest
 unfolding repeat
@@ -141,7 +141,7 @@ repeat_forth item P rows forth done (suc n) p xs h =
       ∙ ap (λ (t : List ℕ). t ++ xs.1.rest) (sym (text_then (rows a.0.0) (flat_map rows ih.more)));
     }
 
-single_rows : {A : Type 0} (row : A → Row) (xs : List A) → flat_map (λ (x : A). row x ∷ []) xs ≡ map row xs
+pub single_rows : {A : Type 0} (row : A → Row) (xs : List A) → flat_map (λ (x : A). row x ∷ []) xs ≡ map row xs
 single_rows row [] = refl
 single_rows row (x ∷ xs) = ap (λ (rs : List Row). row x ∷ rs) (single_rows row xs)
 
@@ -162,7 +162,7 @@ each_ticket : (done ts : List Ticket) → Chain StandsTicket done ts → AllByRe
 each_ticket done [] c = tt
 each_ticket done (t ∷ ts) c = (c.0.0, each_ticket (done ++ t ∷ []) ts c.1)
 
-claim_forth : (p : Place) (x : Claimed × Place) → claim_at p ≡ Ok x → Took (IsClaim x.0) p.rest (claim_rows x.0) x.1.rest
+pub claim_forth : (p : Place) (x : Claimed × Place) → claim_at p ≡ Ok x → Took (IsClaim x.0) p.rest (claim_rows x.0) x.1.rest
 unfolding claim_at
 claim_forth p x h =
     let a = bound (line_at p) _ x h in

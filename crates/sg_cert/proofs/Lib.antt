@@ -18,3 +18,5 @@ pub mod WholeAgain
 pub mod LinesBack
 pub mod VerdictBack
 pub mod BlocksBack
+pub mod FactsBack
+pub mod WholeBack
