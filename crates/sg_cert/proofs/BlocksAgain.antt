@@ -100,8 +100,8 @@ ticket_back : (done : List Ticket) (t : Ticket) → IsTicket t → int_le (pos 1
 unfolding ticket_at
 ticket_back done t h low order =
     at_from (ticket_at done) (λ fs p. at_line p (ticket_of (last_play done) fs) >>= λ y. Ok (y, p)) (codes "t") (signed_decimal t.weight ∷ map decimal t.play.code) [] t (λ p. refl)
-      (plain_front (signed_decimal t.weight) (map decimal t.play.code) (signed_plain t.weight h.weight) (decimals_plain t.play.code h.choices))
-      (one_from (λ fs p. at_line p (ticket_of (last_play done) fs) >>= λ y. Ok (y, p)) (ticket_of (last_play done)) (ticket_row t) t (λ p. refl) (ticket_again (last_play done) t h low order))
+    (plain_front (signed_decimal t.weight) (map decimal t.play.code) (signed_plain t.weight h.weight) (decimals_plain t.play.code h.choices))
+    (one_from (λ fs p. at_line p (ticket_of (last_play done) fs) >>= λ y. Ok (y, p)) (ticket_of (last_play done)) (ticket_row t) t (λ p. refl) (ticket_again (last_play done) t h low order))
 
 tickets_each : (done : List Ticket) (t : Ticket) (ts : List Ticket) → follows (last_play done) t.play.code ≡ true → is_rising (t ∷ ts) ≡ true → are_positive (t ∷ ts) ≡ true → AllByRecursion IsTicket (t ∷ ts)
     → Each ticket_at (λ (x : Ticket). ticket_row x ∷ []) done (t ∷ ts)
@@ -130,8 +130,8 @@ claim_back c h =
     let small : length c.tickets < 2 ^ 128 = omega (arith, h.count) in
     let plain : list_all is_plain (decimal (length c.tickets) ∷ signed_decimal c.total ∷ []) ≡ true = rw (decimal_plain (length c.tickets) small, signed_plain c.total h.total) refl in
     at_from claim_at (λ fs p. at_line p (counts_of fs) >>= λ n. (repeat ticket_at [] n.0 p >>= λ ts. Ok (record { tickets = ts.0; total = n.1 }, ts.1)))
-      (codes "tickets") (decimal (length c.tickets) ∷ signed_decimal c.total ∷ []) (map ticket_row c.tickets) c (λ p. refl) plain
-      (λ more line. rw (counts_again (length c.tickets) c.total (some, h.count) h.total, repeat_lines ticket_at ticket_row c.tickets (tickets_all c.tickets h.rules h.each) more line) refl)
+    (codes "tickets") (decimal (length c.tickets) ∷ signed_decimal c.total ∷ []) (map ticket_row c.tickets) c (λ p. refl) plain
+    (λ more line. rw (counts_again (length c.tickets) c.total (some, h.count) h.total, repeat_lines ticket_at ticket_row c.tickets (tickets_all c.tickets h.rules h.each) more line) refl)
 
 -- ---- facts
 
@@ -141,7 +141,7 @@ mark_back done m h =
     let plain : list_all is_plain (decimal m.l ∷ decimal m.a ∷ signed_decimal m.v ∷ []) ≡ true =
     rw (decimal_plain m.l (omega (arith, h.l)), decimal_plain m.a (omega (arith, h.a)), signed_plain m.v h.v.1) refl in
     at_from (mark_at done) (λ fs p. at_line p (mark_of (last done) fs) >>= λ y. Ok (y, p)) (codes "m") (decimal m.l ∷ decimal m.a ∷ signed_decimal m.v ∷ []) [] m (λ p. refl) plain
-      (one_from (λ fs p. at_line p (mark_of (last done) fs) >>= λ y. Ok (y, p)) (mark_of (last done)) (mark_row m) m (λ p. refl) (mark_again (last done) m h))
+    (one_from (λ fs p. at_line p (mark_of (last done) fs) >>= λ y. Ok (y, p)) (mark_of (last done)) (mark_row m) m (λ p. refl) (mark_again (last done) m h))
 
 marks_each : (done ms : List Mark) → Rises IsMark (last done) ms → Each mark_at (λ (x : Mark). mark_row x ∷ []) done ms
 marks_each done [] h = tt
@@ -152,7 +152,7 @@ unfolding row_at
 row_back done c h =
     let plain : list_all is_plain (decimal c.row ∷ signed_decimal c.v ∷ []) ≡ true = rw (decimal_plain c.row (omega (arith, h.row)), signed_plain c.v h.v.1) refl in
     at_from (row_at done) (λ fs p. at_line p (row_of (last done) fs) >>= λ y. Ok (y, p)) (codes "c") (decimal c.row ∷ signed_decimal c.v ∷ []) [] c (λ p. refl) plain
-      (one_from (λ fs p. at_line p (row_of (last done) fs) >>= λ y. Ok (y, p)) (row_of (last done)) (line_row c) c (λ p. refl) (row_again (last done) c h))
+    (one_from (λ fs p. at_line p (row_of (last done) fs) >>= λ y. Ok (y, p)) (row_of (last done)) (line_row c) c (λ p. refl) (row_again (last done) c h))
 
 rows_each : (done cs : List Line) → Rises IsRow (last done) cs → Each row_at (λ (x : Line). line_row x ∷ []) done cs
 rows_each done [] h = tt

@@ -68,7 +68,7 @@ cut_back b bs (Some i) parts e h =
     let same : get_or bs i 0 ≡ b = eqb-true (get_or bs i 0) b t.1 in
     let k : (take i bs, drop (i + 1) bs) ≡ parts = cc in
     subst (λ (x : List ℕ × List ℕ). bs ≡ x.0 ++ b ∷ x.1) k
-      (sym (take-append-drop i bs) ∙ ap (λ (r : List ℕ). take i bs ++ r) (drop_more bs i 0 t.0 ∙ ap (λ (x : ℕ). x ∷ drop (i + 1) bs) same))
+    (sym (take-append-drop i bs) ∙ ap (λ (r : List ℕ). take i bs ++ r) (drop_more bs i 0 t.0 ∙ ap (λ (x : ℕ). x ∷ drop (i + 1) bs) same))
 
 line_rest : (o : Option (List ℕ × List ℕ)) (n : ℕ) (bs : List ℕ) (l : List ℕ × Place) → split_once 10 bs ≡ o → line_cut n o ≡ Ok l → bs ≡ l.0 ++ 10 ∷ l.1.rest
 line_rest None n bs l e h = absurd (never _ l h)
@@ -138,7 +138,7 @@ repeat_forth item P rows forth done (suc n) p xs h =
       count = ap (λ (k : ℕ). suc k) ih.count;
       chain = (f.0, ih.chain);
       text = f.1 ∙ ap (λ (t : List ℕ). text_of (rows a.0.0) ++ t) ih.text ∙ sym (append_assoc (text_of (rows a.0.0)) (text_of (flat_map rows ih.more)) xs.1.rest)
-      ∙ ap (λ (t : List ℕ). t ++ xs.1.rest) (sym (text_then (rows a.0.0) (flat_map rows ih.more)));
+          ∙ ap (λ (t : List ℕ). t ++ xs.1.rest) (sym (text_then (rows a.0.0) (flat_map rows ih.more)));
     }
 
 pub single_rows : {A : Type 0} (row : A → Row) (xs : List A) → flat_map (λ (x : A). row x ∷ []) xs ≡ map row xs
@@ -181,4 +181,4 @@ claim_forth p x h =
     let head : fields a.0.0 ≡ codes "tickets" ∷ decimal (length c.0.0) ∷ signed_decimal b.0.1 ∷ [] = n.1 ∙ ap (λ (k : ℕ). codes "tickets" ∷ decimal k ∷ signed_decimal b.0.1 ∷ []) (sym count) in
     let text : a.0.1.rest ≡ text_of (map ticket_row c.0.0) ++ c.0.1.rest = i.text ∙ ap (λ (rows : List Row). text_of rows ++ c.0.1.rest) (single_rows ticket_row i.more ∙ ap (map ticket_row) i.all) in
     subst (λ (y : Claimed × Place). Took (IsClaim y.0) p.rest (claim_rows y.0) y.1.rest) e
-      (claim, behind_row p a.0 (codes "tickets") (decimal (length c.0.0) ∷ signed_decimal b.0.1 ∷ []) (map ticket_row c.0.0) c.0.1.rest a.1.0 head text)
+    (claim, behind_row p a.0 (codes "tickets") (decimal (length c.0.0) ∷ signed_decimal b.0.1 ∷ []) (map ticket_row c.0.0) c.0.1.rest a.1.0 head text)

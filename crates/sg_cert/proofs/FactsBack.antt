@@ -52,7 +52,6 @@ use Rattle.sg_cert.proofs.Rising.{last_push, rises, rises_push, claim_from_rises
 use Rattle.sg_cert.proofs.LinesAgain.{IsWord}
 use Rattle.sg_cert.proofs.LinesBack.{fraction_back_of, mark_back, row_back, header_back, counts_back, ticket_back, spent_back, target_back, split_back, one_word, cap_line}
 use Rattle.sg_cert.proofs.VerdictBack.{IsBound, cap_line_back, verdict_back}
-
 use Rattle.sg_cert.specs.Ranges.{IsReport}
 use Rattle.sg_cert.proofs.LinesBack.{exact}
 use Rattle.sg_cert.proofs.Trees.{rows_split, rows_open, rows_closed, out_is, out_open, out_closed}
@@ -184,9 +183,9 @@ water_forth fs p x h =
 pub fact_forth : (fs : Row) (p : Place) (x : Fact × Place) → fact_from fs p ≡ Ok x → FactFrom fs p x
 fact_forth fs p x =
     either (has_word 0 (codes "plays") fs) (plays_from fs p) _ x (FactFrom fs p x) (plays_forth fs p x)
-      (either (has_word 0 (codes "cover") fs) (cover_from fs p) _ x (FactFrom fs p x) (cover_forth fs p x)
-        (either (has_word 0 (codes "water") fs) (water_from fs p) _ x (FactFrom fs p x) (water_forth fs p x)
-          (λ h. absurd (never _ x h))))
+    (either (has_word 0 (codes "cover") fs) (cover_from fs p) _ x (FactFrom fs p x) (cover_forth fs p x)
+    (either (has_word 0 (codes "water") fs) (water_from fs p) _ x (FactFrom fs p x) (water_forth fs p x)
+    (λ h. absurd (never _ x h))))
 
 fact_at_forth : (p : Place) (x : Fact × Place) → fact_at p ≡ Ok x → Took (IsFact x.0) p.rest (fact_rows x.0) x.1.rest
 unfolding fact_at
@@ -217,11 +216,11 @@ cap_forth p x h =
     let f = cap_front b.0.0 b.0.1 c.0.0 in
     let head : fields a.0.0 ≡ codes "cap" ∷ f.0 = n.1 ∙ ap (λ (k : ℕ). cap_line (b.0.0, b.0.1, k)) (sym count) ∙ f.1.1 in
     let text : a.0.1.rest ≡ text_of (flat_map fact_rows c.0.0) ++ c.0.1.rest = i.text ∙ ap (λ (fs : List Fact). text_of (flat_map fact_rows fs) ++ c.0.1.rest) i.all in
-    subst (λ (y : Cap × Place). Took (IsCap y.0) p.rest (cap_rows y.0) y.1.rest) e
-      ( record { l = n.0.0; v = n.0.1; count = omega (arith, count, n.0.2); proof = subst (λ (fs : List Fact). AllByRecursion IsFact fs) i.all (each_fact [] i.more i.chain) }
-      , behind_row p a.0 (codes "cap") f.0 (flat_map fact_rows c.0.0) c.0.1.rest a.1.0 head text
-        ∙ ap (λ (row : Row). text_of (row ∷ flat_map fact_rows c.0.0) ++ c.0.1.rest) (sym f.1.0)
-      )
+    subst (λ (y : Cap × Place). Took (IsCap y.0) p.rest (cap_rows y.0) y.1.rest) e (
+      record { l = n.0.0; v = n.0.1; count = omega (arith, count, n.0.2); proof = subst (λ (fs : List Fact). AllByRecursion IsFact fs) i.all (each_fact [] i.more i.chain) },
+      behind_row p a.0 (codes "cap") f.0 (flat_map fact_rows c.0.0) c.0.1.rest a.1.0 head text
+          ∙ ap (λ (row : Row). text_of (row ∷ flat_map fact_rows c.0.0) ++ c.0.1.rest) (sym f.1.0),
+    )
 
 pub record CapsBack (done cs : List Cap) (before after : List ℕ) : Type 0 where
   pub more : List Cap
@@ -237,15 +236,15 @@ unfolding caps_at
 caps_forth done zero p x h = caps_stop done p x h
 caps_forth done (suc n) p x h =
     either (line_begins (codes "cap") (next_line p)) (cap_at p >>= λ c. caps_at (done ++ c.0 ∷ []) n c.1) (Ok (done, p)) x (CapsBack done x.0 p.rest x.1.rest)
-      (λ k.
-      let a = bound (cap_at p) (λ c. caps_at (done ++ c.0 ∷ []) n c.1) x k in
-      let f = cap_forth p a.0 a.1.0 in
-      let ih = caps_forth (done ++ a.0.0 ∷ []) n a.0.1 x a.1.1 in
-      record {
-        more = a.0.0 ∷ ih.more;
-        all = sym (append_assoc done (a.0.0 ∷ []) ih.more) ∙ ih.all;
-        each = (f.0, ih.each);
-        text = f.1 ∙ ap (λ (t : List ℕ). text_of (cap_rows a.0.0) ++ t) ih.text ∙ sym (append_assoc (text_of (cap_rows a.0.0)) (text_of (flat_map cap_rows ih.more)) x.1.rest)
-        ∙ ap (λ (t : List ℕ). t ++ x.1.rest) (sym (text_then (cap_rows a.0.0) (flat_map cap_rows ih.more)));
-      })
-      (caps_stop done p x) h
+    (λ k.
+    let a = bound (cap_at p) (λ c. caps_at (done ++ c.0 ∷ []) n c.1) x k in
+    let f = cap_forth p a.0 a.1.0 in
+    let ih = caps_forth (done ++ a.0.0 ∷ []) n a.0.1 x a.1.1 in
+    record {
+      more = a.0.0 ∷ ih.more;
+      all = sym (append_assoc done (a.0.0 ∷ []) ih.more) ∙ ih.all;
+      each = (f.0, ih.each);
+      text = f.1 ∙ ap (λ (t : List ℕ). text_of (cap_rows a.0.0) ++ t) ih.text ∙ sym (append_assoc (text_of (cap_rows a.0.0)) (text_of (flat_map cap_rows ih.more)) x.1.rest)
+          ∙ ap (λ (t : List ℕ). t ++ x.1.rest) (sym (text_then (cap_rows a.0.0) (flat_map cap_rows ih.more)));
+    })
+    (caps_stop done p x) h

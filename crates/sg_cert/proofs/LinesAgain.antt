@@ -72,10 +72,10 @@ shaped_again word low high fs w numbers from to =
 pub fraction_next_again : (f : Fraction) (fs : Row) → IsFraction f → fraction_next (signed_decimal f.num ∷ signed_decimal f.den ∷ fs) ≡ Ok (f, fs)
 unfolding fraction_next
 fraction_next_again f fs h = rw (
-      whole_next_again lowest highest f.num (signed_decimal f.den ∷ fs) h.num (fits_low f.num h.num) (fits_high f.num h.num),
-      whole_next_again (pos 1) highest f.den fs h.den h.reduced.positive (fits_high f.den h.den),
-      shares_from_reduced f h.reduced,
-    ) refl
+  whole_next_again lowest highest f.num (signed_decimal f.den ∷ fs) h.num (fits_low f.num h.num) (fits_high f.num h.num),
+  whole_next_again (pos 1) highest f.den fs h.den h.reduced.positive (fits_high f.den h.den),
+  shares_from_reduced f h.reduced,
+) refl
 
 pub fraction_again : (word : List ℕ) (f : Fraction) → IsWord word → IsFraction f → fraction_of word (fraction_row word f) ≡ Ok f
 unfolding fraction_of
@@ -179,10 +179,10 @@ target_shape x y z h k l = rw (h, k, l) refl
 pub target_again : (f : Fraction) (j : ℕ) → IsFraction f → IsFrom 1 65535 j → water_of (codes "water" ∷ signed_decimal f.num ∷ signed_decimal f.den ∷ codes "target" ∷ decimal j ∷ []) ≡ Ok (Water f (Target j))
 unfolding target_of
 target_again f j h k = rw (
-      target_shape (signed_decimal f.num) (signed_decimal f.den) (decimal j) (whole_spelled f.num h.num) (whole_spelled f.den h.den) (natural_spelled j (omega (arith, k))),
-      fraction_next_again f (codes "target" ∷ decimal j ∷ []) h,
-      natural_next_again 1 65535 j [] (omega (arith, k)) k.0 k.1,
-    ) refl
+  target_shape (signed_decimal f.num) (signed_decimal f.den) (decimal j) (whole_spelled f.num h.num) (whole_spelled f.den h.den) (natural_spelled j (omega (arith, k))),
+  fraction_next_again f (codes "target" ∷ decimal j ∷ []) h,
+  natural_next_again 1 65535 j [] (omega (arith, k)) k.0 k.1,
+) refl
 
 -- ---- caps and splits
 
@@ -241,10 +241,10 @@ acts_from (x ∷ xs) h = (h.0.1, acts_from xs h.1)
 pub fix_again : (f : Fix) → IsFix f → fix_of (fix_fields f) ≡ Ok f
 unfolding fix_of
 fix_again f h = rw (
-      natural_next_again 1 8 f.first (decimal (length f.acts) ∷ map decimal f.acts) (omega (arith, h.first)) h.first.0 h.first.1,
-      natural_next_again 1 8 (length f.acts) (map decimal f.acts) (omega (arith, h.count)) h.count.0 h.count.1,
-      numbers_again 1 [] f.acts h.acts,
-    ) refl
+  natural_next_again 1 8 f.first (decimal (length f.acts) ∷ map decimal f.acts) (omega (arith, h.first)) h.first.0 h.first.1,
+  natural_next_again 1 8 (length f.acts) (map decimal f.acts) (omega (arith, h.count)) h.count.0 h.count.1,
+  numbers_again 1 [] f.acts h.acts,
+) refl
 
 -- a count that its field tells
 counted : (at count k : ℕ) → k < 2 ^ 127 → count ≡ at + 1 + k → count_follows at count (Some (decimal k)) ≡ true
@@ -286,11 +286,11 @@ pivots_again n fix h k = rw (pivots_shape (decimal n) fix (natural_spelled n (om
 looks_again : (n step : ℕ) (fix : Fix) → IsFrom 1 (2 ^ 64 - 1) n → IsFrom 0 (2 ^ 64 - 1) step → IsFix fix → looks_of (codes "verdict" ∷ codes "gap" ∷ codes "looks" ∷ decimal n ∷ decimal step ∷ fix_fields fix) ≡ Ok (causes.Looks n step fix)
 unfolding looks_of looks_head_of
 looks_again n step fix h l k = rw (
-      looks_shape (decimal n) (decimal step) fix (natural_spelled n (omega (arith, h))) (natural_spelled step (omega (arith, l))) k,
-      natural_next_again 1 (2 ^ 64 - 1) n (decimal step ∷ fix_fields fix) (omega (arith, h)) h.0 h.1,
-      natural_next_again 0 (2 ^ 64 - 1) step (fix_fields fix) (omega (arith, l)) l.0 l.1,
-      fix_again fix k,
-    ) refl
+  looks_shape (decimal n) (decimal step) fix (natural_spelled n (omega (arith, h))) (natural_spelled step (omega (arith, l))) k,
+  natural_next_again 1 (2 ^ 64 - 1) n (decimal step ∷ fix_fields fix) (omega (arith, h)) h.0 h.1,
+  natural_next_again 0 (2 ^ 64 - 1) step (fix_fields fix) (omega (arith, l)) l.0 l.1,
+  fix_again fix k,
+) refl
 
 abbrev wide_fields : ℕ → Wide → ℕ → Fix → Row
 wide_fields name wide step fix = codes "verdict" ∷ codes "gap" ∷ codes "wide" ∷ decimal name ∷ op_word wide.op ∷ signed_decimal wide.left ∷ signed_decimal wide.right ∷ decimal step ∷ fix_fields fix
@@ -324,25 +324,25 @@ wide_as_again : (op : Op) (words : List ℕ) (name step : ℕ) (left right : ℤ
     → wide_as op words (wide_fields name (record { op = op; left = left; right = right }) step fix) ≡ Ok (causes.Wide name (record { op = op; left = left; right = right }) step fix)
 unfolding wide_as wide_head_of
 wide_as_again op words name step left right fix a b c d k shape = rw (
-      shape,
-      natural_next_again 1 7 name (op_word op ∷ signed_decimal left ∷ signed_decimal right ∷ decimal step ∷ fix_fields fix) (omega (arith, a)) a.0 a.1,
-      whole_next_again lowest highest left (signed_decimal right ∷ decimal step ∷ fix_fields fix) b (fits_low left b) (fits_high left b),
-      whole_next_again lowest highest right (decimal step ∷ fix_fields fix) c (fits_low right c) (fits_high right c),
-      natural_next_again 0 (2 ^ 64 - 1) step (fix_fields fix) (omega (arith, d)) d.0 d.1,
-      fix_again fix k,
-    ) refl
+  shape,
+  natural_next_again 1 7 name (op_word op ∷ signed_decimal left ∷ signed_decimal right ∷ decimal step ∷ fix_fields fix) (omega (arith, a)) a.0 a.1,
+  whole_next_again lowest highest left (signed_decimal right ∷ decimal step ∷ fix_fields fix) b (fits_low left b) (fits_high left b),
+  whole_next_again lowest highest right (decimal step ∷ fix_fields fix) c (fits_low right c) (fits_high right c),
+  natural_next_again 0 (2 ^ 64 - 1) step (fix_fields fix) (omega (arith, d)) d.0 d.1,
+  fix_again fix k,
+) refl
 
 wide_again : (op : Op) (name step : ℕ) (left right : ℤ) (fix : Fix) → IsFrom 1 7 name → Fits left → Fits right → IsFrom 0 (2 ^ 64 - 1) step → IsFix fix
     → wide_of (wide_fields name (record { op = op; left = left; right = right }) step fix) ≡ Ok (causes.Wide name (record { op = op; left = left; right = right }) step fix)
 wide_again Sum name step left right fix a b c d k =
     wide_as_again Sum (codes "verdict gap wide # sum") name step left right fix a b c d k
-      (sum_shape (decimal name) (signed_decimal left) (signed_decimal right) (decimal step) fix (natural_spelled name (omega (arith, a))) (whole_spelled left b) (whole_spelled right c) (natural_spelled step (omega (arith, d))) k)
+    (sum_shape (decimal name) (signed_decimal left) (signed_decimal right) (decimal step) fix (natural_spelled name (omega (arith, a))) (whole_spelled left b) (whole_spelled right c) (natural_spelled step (omega (arith, d))) k)
 wide_again Less name step left right fix a b c d k =
     wide_as_again Less (codes "verdict gap wide # less") name step left right fix a b c d k
-      (less_shape (decimal name) (signed_decimal left) (signed_decimal right) (decimal step) fix (natural_spelled name (omega (arith, a))) (whole_spelled left b) (whole_spelled right c) (natural_spelled step (omega (arith, d))) k)
+    (less_shape (decimal name) (signed_decimal left) (signed_decimal right) (decimal step) fix (natural_spelled name (omega (arith, a))) (whole_spelled left b) (whole_spelled right c) (natural_spelled step (omega (arith, d))) k)
 wide_again Times name step left right fix a b c d k =
     wide_as_again Times (codes "verdict gap wide # times") name step left right fix a b c d k
-      (times_shape (decimal name) (signed_decimal left) (signed_decimal right) (decimal step) fix (natural_spelled name (omega (arith, a))) (whole_spelled left b) (whole_spelled right c) (natural_spelled step (omega (arith, d))) k)
+    (times_shape (decimal name) (signed_decimal left) (signed_decimal right) (decimal step) fix (natural_spelled name (omega (arith, a))) (whole_spelled left b) (whole_spelled right c) (natural_spelled step (omega (arith, d))) k)
 
 pub cause_again : (c : Cause) → IsCause c → cause_of (codes "verdict" ∷ codes "gap" ∷ cause_fields c) ≡ Ok c
 cause_again (causes.Nodes n) h = nodes_again n h

@@ -144,8 +144,8 @@ fraction_next_back fs x h =
     let r = reduced_back a.0.0 b.0.0 c.0 d.1.1.0 c.1.0 in
     let e : (c.0, b.0.1) ≡ x = ok_same (c.0, b.0.1) x c.1.1 in
     subst (λ (y : Fraction × Row). IsFraction y.0 × (fs ≡ signed_decimal y.0.num ∷ signed_decimal y.0.den ∷ y.1)) e
-      (subst (λ (f : Fraction). IsFraction f × (fs ≡ signed_decimal f.num ∷ signed_decimal f.den ∷ b.0.1)) r.0
-        (record { num = n.1.0; den = d.1.0; reduced = r.1 }, n.0 ∙ two (signed_decimal a.0.0) d.0))
+    (subst (λ (f : Fraction). IsFraction f × (fs ≡ signed_decimal f.num ∷ signed_decimal f.den ∷ b.0.1)) r.0
+    (record { num = n.1.0; den = d.1.0; reduced = r.1 }, n.0 ∙ two (signed_decimal a.0.0) d.0))
 
 pub fraction_back_of : (word : List ℕ) (fs : Row) (f : Fraction) → IsWord word → fraction_of word fs ≡ Ok f → IsFraction f × (fs ≡ fraction_row word f)
 unfolding fraction_of
@@ -156,7 +156,7 @@ fraction_back_of word fs f w h =
     let n = fraction_next_back (drop 1 fs) b.0 b.1.0 in
     let e : b.0.0 ≡ f = ok_same b.0.0 f b.1.1 in
     subst (λ (g : Fraction). IsFraction g × (fs ≡ fraction_row word g)) e
-      (n.0, exact (fraction_row word b.0.0) b.0.1 fs (behind word fs _ s.0 n.1) s.1)
+    (n.0, exact (fraction_row word b.0.0) b.0.1 fs (behind word fs _ s.0 n.1) s.1)
 
 -- ---- facts
 
@@ -176,10 +176,10 @@ mark_back before fs m h =
     let v = whole_next_back (pos 1) highest c.0.1 d.0 d.1.0 in
     let o = bound (in_order (mark_follows before b.0.0 c.0.0)) _ m d.1.1 in
     let e : record { l = b.0.0; a = c.0.0; v = d.0.0 } ≡ m = ok_same (record { l = b.0.0; a = c.0.0; v = d.0.0 }) m o.1.1 in
-    subst (λ (x : Mark). IsMark before x × (fs ≡ mark_row x)) e
-      ( record { l = l.1; a = n.1; v = (v.1.1.0, v.1.0); order = in_order_back (mark_follows before b.0.0 c.0.0) o.0 o.1.0 }
-      , exact (mark_row (record { l = b.0.0; a = c.0.0; v = d.0.0 })) d.0.1 fs (behind (codes "m") fs _ s.0 (l.0 ∙ two (decimal b.0.0) (n.0 ∙ two (decimal c.0.0) v.0))) s.1
-      )
+    subst (λ (x : Mark). IsMark before x × (fs ≡ mark_row x)) e (
+      record { l = l.1; a = n.1; v = (v.1.1.0, v.1.0); order = in_order_back (mark_follows before b.0.0 c.0.0) o.0 o.1.0 },
+      exact (mark_row (record { l = b.0.0; a = c.0.0; v = d.0.0 })) d.0.1 fs (behind (codes "m") fs _ s.0 (l.0 ∙ two (decimal b.0.0) (n.0 ∙ two (decimal c.0.0) v.0))) s.1,
+    )
 
 word_c : IsWord (codes "c")
 word_c = record { one = refl; same = refl; no_place = refl }
@@ -195,10 +195,10 @@ row_back before fs m h =
     let v = whole_next_back (pos 1) highest b.0.1 d.0 d.1.0 in
     let o = bound (in_order (row_follows before b.0.0)) _ m d.1.1 in
     let e : record { row = b.0.0; v = d.0.0 } ≡ m = ok_same (record { row = b.0.0; v = d.0.0 }) m o.1.1 in
-    subst (λ (x : Line). IsRow before x × (fs ≡ line_row x)) e
-      ( record { row = l.1; v = (v.1.1.0, v.1.0); order = in_order_back (row_follows before b.0.0) o.0 o.1.0 }
-      , exact (line_row (record { row = b.0.0; v = d.0.0 })) d.0.1 fs (behind (codes "c") fs _ s.0 (l.0 ∙ two (decimal b.0.0) v.0)) s.1
-      )
+    subst (λ (x : Line). IsRow before x × (fs ≡ line_row x)) e (
+      record { row = l.1; v = (v.1.1.0, v.1.0); order = in_order_back (row_follows before b.0.0) o.0 o.1.0 },
+      exact (line_row (record { row = b.0.0; v = d.0.0 })) d.0.1 fs (behind (codes "c") fs _ s.0 (l.0 ∙ two (decimal b.0.0) v.0)) s.1,
+    )
 
 abbrev header_row : List ℕ → ℤ × ℤ × ℕ → Row
 header_row word x = word ∷ signed_decimal x.0 ∷ signed_decimal x.1 ∷ decimal x.2 ∷ []
@@ -215,10 +215,10 @@ header_back word fs x w h =
     let d = bound (natural_next 0 (2 ^ 127 - 1) c.0.1) _ x c.1.1 in
     let k = natural_next_back 0 (2 ^ 127 - 1) c.0.1 d.0 d.1.0 in
     let e : (b.0.0, c.0.0, d.0.0) ≡ x = ok_same (b.0.0, c.0.0, d.0.0) x d.1.1 in
-    subst (λ (y : ℤ × ℤ × ℕ). IsHeader y.0 y.1 y.2 × (fs ≡ header_row word y)) e
-      ( record { first = (l.1.1.0, l.1.0); second = (m.1.1.0, m.1.0); count = k.1.1 }
-      , exact (header_row word (b.0.0, c.0.0, d.0.0)) d.0.1 fs (behind word fs _ s.0 (l.0 ∙ two (signed_decimal b.0.0) (m.0 ∙ two (signed_decimal c.0.0) k.0))) s.1
-      )
+    subst (λ (y : ℤ × ℤ × ℕ). IsHeader y.0 y.1 y.2 × (fs ≡ header_row word y)) e (
+      record { first = (l.1.1.0, l.1.0); second = (m.1.1.0, m.1.0); count = k.1.1 },
+      exact (header_row word (b.0.0, c.0.0, d.0.0)) d.0.1 fs (behind word fs _ s.0 (l.0 ∙ two (signed_decimal b.0.0) (m.0 ∙ two (signed_decimal c.0.0) k.0))) s.1,
+    )
 
 -- ---- tickets
 
@@ -235,10 +235,10 @@ counts_back fs x h =
     let c = bound (whole_next lowest highest b.0.1) _ x b.1.1 in
     let m = whole_next_back lowest highest b.0.1 c.0 c.1.0 in
     let e : (b.0.0, c.0.0) ≡ x = ok_same (b.0.0, c.0.0) x c.1.1 in
-    subst (λ (y : ℕ × ℤ). (IsFrom 1 (2 ^ 127 - 1) y.0 × Fits y.1) × (fs ≡ codes "tickets" ∷ decimal y.0 ∷ signed_decimal y.1 ∷ [])) e
-      ( (l.1, m.1.0)
-      , exact (codes "tickets" ∷ decimal b.0.0 ∷ signed_decimal c.0.0 ∷ []) c.0.1 fs (behind (codes "tickets") fs _ s.0 (l.0 ∙ two (decimal b.0.0) m.0)) s.1
-      )
+    subst (λ (y : ℕ × ℤ). (IsFrom 1 (2 ^ 127 - 1) y.0 × Fits y.1) × (fs ≡ codes "tickets" ∷ decimal y.0 ∷ signed_decimal y.1 ∷ [])) e (
+      (l.1, m.1.0),
+      exact (codes "tickets" ∷ decimal b.0.0 ∷ signed_decimal c.0.0 ∷ []) c.0.1 fs (behind (codes "tickets") fs _ s.0 (l.0 ∙ two (decimal b.0.0) m.0)) s.1,
+    )
 
 -- numbers that were read behind others
 pub record NumbersBack (low : ℕ) (done : List ℕ) (fs : Row) (xs : List ℕ) : Type 0 where
@@ -292,11 +292,13 @@ ticket_back before fs t h =
     let whole : fs ≡ codes "t" ∷ signed_decimal a.0.0 ∷ map decimal c.0 = behind (codes "t") fs _ w.0 (v.0 ∙ two (signed_decimal a.0.0) (n.spelled ∙ ap (map decimal) n.all)) in
     let count : length c.0 ≤ 200 = omega (arith, most 202 fs s.0, ap length whole, decimals_length c.0) in
     let e : record { play = record { code = c.0 }; weight = a.0.0 } ≡ t = ok_same (record { play = record { code = c.0 }; weight = a.0.0 }) t o.1.1 in
-    subst (λ (x : Ticket). (IsTicket x × MayStand before x) × (fs ≡ ticket_row x)) e
-      ( ( record { weight = v.1.0; count = count; choices = subst (λ (xs : List ℕ). AllByRecursion (λ x. x ≤ 65535) xs) n.all (below 0 n.more n.range) }
-        , (int_le_from a.0.0 v.1.1.0, in_order_back (follows before c.0) o.0 o.1.0) )
-      , whole
-      )
+    subst (λ (x : Ticket). (IsTicket x × MayStand before x) × (fs ≡ ticket_row x)) e (
+      (
+        record { weight = v.1.0; count = count; choices = subst (λ (xs : List ℕ). AllByRecursion (λ x. x ≤ 65535) xs) n.all (below 0 n.more n.range) },
+        (int_le_from a.0.0 v.1.1.0, in_order_back (follows before c.0) o.0 o.1.0),
+      ),
+      whole,
+    )
 
 -- ---- water
 
@@ -309,13 +311,17 @@ spent_back fs f h =
     let r = word_here (codes "resources") [] (drop 1 (drop 1 (drop 1 fs))) refl (place_here _ (drop 1 (drop 1 fs)) (place_here _ (drop 1 fs) w.1)) in
     let b = bound (fraction_next (drop 1 fs)) _ f a.1.1 in
     let n = fraction_next_back (drop 1 fs) b.0 b.1.0 in
-    let rest : b.0.1 ≡ codes "resources" ∷ drop 1 b.0.1 = subst (λ (g : Row). drop 1 (drop 1 g) ≡ codes "resources" ∷ drop 1 (drop 1 (drop 1 g))) n.1 r.0 in
-    ( b.0.0
-    , ( ok_same (Water b.0.0 Resources) f b.1.1
-      , ( n.0
-        , exact (codes "water" ∷ signed_decimal b.0.0.num ∷ signed_decimal b.0.0.den ∷ codes "resources" ∷ []) (drop 1 b.0.1) fs
-            (behind (codes "water") fs _ w.0 (n.1 ∙ two (signed_decimal b.0.0.num) (two (signed_decimal b.0.0.den) rest))) (count_back 4 fs s.0)
-        ) ) )
+    let rest : b.0.1 ≡ codes "resources" ∷ drop 1 b.0.1 = subst (λ (g : Row). drop 1 (drop 1 g) ≡ codes "resources" ∷ drop 1 (drop 1 (drop 1 g))) n.1 r.0 in (
+      b.0.0,
+      (
+        ok_same (Water b.0.0 Resources) f b.1.1,
+        (
+          n.0,
+          exact (codes "water" ∷ signed_decimal b.0.0.num ∷ signed_decimal b.0.0.den ∷ codes "resources" ∷ []) (drop 1 b.0.1) fs
+              (behind (codes "water") fs _ w.0 (n.1 ∙ two (signed_decimal b.0.0.num) (two (signed_decimal b.0.0.den) rest))) (count_back 4 fs s.0),
+        ),
+      ),
+    )
 
 pub target_back : (fs : Row) (f : Fact) → target_of fs ≡ Ok f
     → (x : Fraction) × ((j : ℕ) × ((Water x (Target j) ≡ f) × ((IsFraction x × IsFrom 1 65535 j) × (fs ≡ codes "water" ∷ signed_decimal x.num ∷ signed_decimal x.den ∷ codes "target" ∷ decimal j ∷ []))))
@@ -331,14 +337,20 @@ target_back fs f h =
     let j = natural_next_back 1 65535 (drop 4 fs) c.0 c.1.0 in
     let rest : b.0.1 ≡ codes "target" ∷ drop 1 b.0.1 = subst (λ (g : Row). drop 1 (drop 1 g) ≡ codes "target" ∷ drop 1 (drop 1 (drop 1 g))) n.1 r.0 in
     let front : fs ≡ codes "water" ∷ signed_decimal b.0.0.num ∷ signed_decimal b.0.0.den ∷ codes "target" ∷ drop 1 b.0.1 = behind (codes "water") fs _ w.0 (n.1 ∙ two (signed_decimal b.0.0.num) (two (signed_decimal b.0.0.den) rest)) in
-    let last : drop 1 b.0.1 ≡ decimal c.0.0 ∷ c.0.1 = ap (λ (g : Row). drop 4 g) (sym front) ∙ j.0 in
-    ( b.0.0
-    , ( c.0.0
-      , ( ok_same (Water b.0.0 (Target c.0.0)) f c.1.1
-        , ( (n.0, j.1)
-          , exact (codes "water" ∷ signed_decimal b.0.0.num ∷ signed_decimal b.0.0.den ∷ codes "target" ∷ decimal c.0.0 ∷ []) c.0.1 fs
-              (front ∙ two (codes "water") (two (signed_decimal b.0.0.num) (two (signed_decimal b.0.0.den) (two (codes "target") last)))) (count_back 5 fs s.0)
-          ) ) ) )
+    let last : drop 1 b.0.1 ≡ decimal c.0.0 ∷ c.0.1 = ap (λ (g : Row). drop 4 g) (sym front) ∙ j.0 in (
+      b.0.0,
+      (
+        c.0.0,
+        (
+          ok_same (Water b.0.0 (Target c.0.0)) f c.1.1,
+          (
+            (n.0, j.1),
+            exact (codes "water" ∷ signed_decimal b.0.0.num ∷ signed_decimal b.0.0.den ∷ codes "target" ∷ decimal c.0.0 ∷ []) c.0.1 fs
+                (front ∙ two (codes "water") (two (signed_decimal b.0.0.num) (two (signed_decimal b.0.0.den) (two (codes "target") last)))) (count_back 5 fs s.0),
+          ),
+        ),
+      ),
+    )
 
 -- ---- caps and splits
 
@@ -355,10 +367,10 @@ split_back fs x h =
     let c = bound (natural_next 1 65535 b.0.1) _ x b.1.1 in
     let n = natural_next_back 1 65535 b.0.1 c.0 c.1.0 in
     let e : (b.0.0, c.0.0) ≡ x = ok_same (b.0.0, c.0.0) x c.1.1 in
-    subst (λ (y : ℕ × ℕ). (IsFrom 1 8 y.0 × IsFrom 1 65535 y.1) × (fs ≡ split_row y.0 y.1)) e
-      ( (l.1, n.1)
-      , exact (split_row b.0.0 c.0.0) c.0.1 fs (behind (codes "split") fs _ s.0 (l.0 ∙ two (decimal b.0.0) n.0)) s.1
-      )
+    subst (λ (y : ℕ × ℕ). (IsFrom 1 8 y.0 × IsFrom 1 65535 y.1) × (fs ≡ split_row y.0 y.1)) e (
+      (l.1, n.1),
+      exact (split_row b.0.0 c.0.0) c.0.1 fs (behind (codes "split") fs _ s.0 (l.0 ∙ two (decimal b.0.0) n.0)) s.1,
+    )
 
 -- the row of a cap with so many facts
 abbrev kind_line : ℕ → ℤ → ℕ → Row

@@ -119,7 +119,6 @@ whole_again (negsuc n) h = negative_again n (ltb-true n (2 ^ 127) h)
 pub spelled_from_fitting : (text : List ℕ) (z : ℤ) → fitting text ≡ Some z → is_number_text text ≡ true
 spelled_from_fitting text z e = (both (is_number_text text) (fits (value_of text)) (chosen (is_number_text text && fits (value_of text)) (value_of text) z e)).0
 
-
 pub natural_spelled : (n : ℕ) → n < 2 ^ 127 → is_number_text (decimal n) ≡ true
 natural_spelled n small = spelled_from_fitting (decimal n) (pos n) (natural_again n small)
 
@@ -277,10 +276,10 @@ in_range low high n m e = go (nat_le low n && nat_le n high) refl e
   where
     go : (t : Bool) → (nat_le low n && nat_le n high) ≡ t → judged t n ≡ Ok m → (n ≡ m) × ((low ≤ n) × (n ≤ high))
     go true h k =
-      let t = both (nat_le low n) (nat_le n high) h in
-      let a : low ≤ n = grind (arith, nat_tests) in
-      let b : n ≤ high = grind (arith, nat_tests) in
-      ((cc), (a, b))
+        let t = both (nat_le low n) (nat_le n high) h in
+        let a : low ≤ n = grind (arith, nat_tests) in
+        let b : n ≤ high = grind (arith, nat_tests) in
+        ((cc), (a, b))
     go false h k = absurd (let w : ◌≡◌ {A = Result ℕ ℕ} (Err 6) (Ok m) = k in cc)
 
 natural_of_back : (low high : ℕ) (field : List ℕ) (x : Option ℤ) (n : ℕ) → fitting field ≡ x → natural_of low high x ≡ Ok n → (field ≡ decimal n) × ((low ≤ n) × (n ≤ high))
@@ -311,8 +310,8 @@ whole_range low high z w e = go (le_z low z && le_z z high) refl e
   where
     go : (t : Bool) → (le_z low z && le_z z high) ≡ t → judged t z ≡ Ok w → (z ≡ w) × ((low ≤ℤ z) × (z ≤ℤ high))
     go true h k =
-      let t = both (le_z low z) (le_z z high) h in
-      ((cc), (le_z_is low z t.0, le_z_is z high t.1))
+        let t = both (le_z low z) (le_z z high) h in
+        ((cc), (le_z_is low z t.0, le_z_is z high t.1))
     go false h k = absurd (let v : ◌≡◌ {A = Result ℤ ℕ} (Err 6) (Ok w) = k in cc)
 
 whole_of_back : (low high : ℤ) (field : List ℕ) (x : Option ℤ) (z : ℤ) → fitting field ≡ x → whole_of low high x ≡ Ok z → (field ≡ signed_decimal z) × ((fits z ≡ true) × ((low ≤ℤ z) × (z ≤ℤ high)))

@@ -23,9 +23,9 @@ pub word_text : (words word : List ℕ) (fs gs : List (List ℕ)) → (words ++ 
 word_text words word fs gs =
     append_assoc words (spaced fs) (32 ∷ line word gs)
     ∙ ap (λ (t : List ℕ). words ++ t)
-      (ap (λ (t : List ℕ). spaced fs ++ 32 ∷ t) (sym (append_assoc word (spaced gs) (10 ∷ [])))
-      ∙ sym (append_assoc (spaced fs) (spaced (word ∷ gs)) (10 ∷ []))
-      ∙ ap (λ (t : List ℕ). t ++ 10 ∷ []) (sym (flat_map-append (λ (f : List ℕ). 32 ∷ f) fs (word ∷ gs))))
+    (ap (λ (t : List ℕ). spaced fs ++ 32 ∷ t) (sym (append_assoc word (spaced gs) (10 ∷ [])))
+    ∙ sym (append_assoc (spaced fs) (spaced (word ∷ gs)) (10 ∷ []))
+    ∙ ap (λ (t : List ℕ). t ++ 10 ∷ []) (sym (flat_map-append (λ (f : List ℕ). 32 ∷ f) fs (word ∷ gs))))
 
 -- ---- lists of lines
 
@@ -43,7 +43,7 @@ report_split a b = sym (text_then a b)
 pub head_text : (r : Report) → spell (codes "patrol-report" ∷ codes "1" ∷ []) ++ (text_of (claim_rows r.tickets) ++ spell (fraction_row (codes "value") r.value)) ≡ text_of (head_rows r)
 head_text r =
     ap (λ (t : List ℕ). spell (codes "patrol-report" ∷ codes "1" ∷ []) ++ t)
-      (ap (λ (t : List ℕ). text_of (claim_rows r.tickets) ++ t) (sym (append-nil (spell (fraction_row (codes "value") r.value)))) ∙ report_split (claim_rows r.tickets) (fraction_row (codes "value") r.value ∷ []))
+    (ap (λ (t : List ℕ). text_of (claim_rows r.tickets) ++ t) (sym (append-nil (spell (fraction_row (codes "value") r.value)))) ∙ report_split (claim_rows r.tickets) (fraction_row (codes "value") r.value ∷ []))
 
 pub tail_text : (r : Report) → spell (fraction_row (codes "upper") r.upper) ++ (spell (verdict_row r.ending) ++ spell (codes "end" ∷ [])) ≡ text_of (tail_rows r)
 tail_text r = refl

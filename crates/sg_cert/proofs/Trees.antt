@@ -91,14 +91,14 @@ pub split_stop : (t : Tree) (a b c : Shown) (p q : List ℕ) (parts : List Tree)
     → SplitSoFar a p b q t parts i → Stops b q c (text_of (node_rows x)) → Stops a p c (text_of (node_rows t))
 split_stop t a b c p q parts i x lt is h stop =
     Stops-as a c p _ _ h.whole
-      (Stops-trans a h.middle c p h.pending h.front (texts parts) h.before
-        (folds_stop texts (λ t. text_of (node_rows t)) (folds_blocks node_rows) parts i x x lt is h.middle b c h.pending q h.after stop))
+    (Stops-trans a h.middle c p h.pending h.front (texts parts) h.before
+    (folds_stop texts (λ t. text_of (node_rows t)) (folds_blocks node_rows) parts i x x lt is h.middle b c h.pending q h.after stop))
 
 pub split_end : (t : Tree) (a b : Shown) (p q : List ℕ) (parts : List Tree) (i : ℕ) → length parts ≤ i
     → SplitSoFar a p b q t parts i → Adds a p b q (text_of (node_rows t))
 split_end t a b p q parts i le h =
     subst (λ (u : List ℕ). Adds a p b q u) h.whole
-      (Adds-trans a h.middle b p h.pending q h.front (texts parts) h.before (folds_end texts parts i le h.middle b h.pending q h.after))
+    (Adds-trans a h.middle b p h.pending q h.front (texts parts) h.before (folds_end texts parts i le h.middle b h.pending q h.after))
 
 pub split_early : (t : Tree) (l : ℕ) (base : Option Fact) (a c : Shown) (p : List ℕ) (parts : List Tree) → t ≡ Split l base parts → Stops a p c (front_of l base parts) → Stops a p c (text_of (node_rows t))
 split_early t l base a c p parts e stop = Stops-as a c p _ _ (texts_split t l base parts e) (Stops-early a c p (front_of l base parts) (texts parts) stop)

@@ -39,7 +39,6 @@ use Rattle.sg_cert.proofs.Numbers.{bound, natural_field_back, natural_next_back,
 use Rattle.sg_cert.proofs.LinesAgain.{IsWord}
 use Rattle.sg_cert.proofs.LinesBack.{ok_same, no_err, shape_back, count_back, word_here, place_here, one_word, behind, two, exact, below, decimals_length, numbers_back, cap_line}
 
-
 abbrev pub IsBound : ℤ → Type 0
 IsBound v = (negsuc (2 ^ 63 - 1) ≤ℤ v) × (v ≤ℤ pos (2 ^ 63 - 1))
 
@@ -61,10 +60,10 @@ plain_back fs x h =
     let front : fs ≡ codes "cap" ∷ decimal b.0.0 ∷ codes "plain" ∷ drop 1 b.0.1 = behind (codes "cap") fs _ w.0 (l.0 ∙ two (decimal b.0.0) rest) in
     let last : drop 1 b.0.1 ≡ signed_decimal c.0.0 ∷ c.0.1 = ap (λ (g : Row). drop 3 g) (sym front) ∙ v.0 in
     let e : (b.0.0, c.0.0, 0) ≡ x = ok_same (b.0.0, c.0.0, 0) x c.1.1 in
-    subst (λ (y : ℕ × ℤ × ℕ). IsCapLine y × (fs ≡ cap_line y)) e
-      ( (l.1, v.1.1, omega arith)
-      , exact (codes "cap" ∷ decimal b.0.0 ∷ codes "plain" ∷ signed_decimal c.0.0 ∷ []) c.0.1 fs (front ∙ two (codes "cap") (two (decimal b.0.0) (two (codes "plain") last))) (count_back 4 fs s.0)
-      )
+    subst (λ (y : ℕ × ℤ × ℕ). IsCapLine y × (fs ≡ cap_line y)) e (
+      (l.1, v.1.1, omega arith),
+      exact (codes "cap" ∷ decimal b.0.0 ∷ codes "plain" ∷ signed_decimal c.0.0 ∷ []) c.0.1 fs (front ∙ two (codes "cap") (two (decimal b.0.0) (two (codes "plain") last))) (count_back 4 fs s.0),
+    )
 
 some_line : (l n : ℕ) (v : ℤ) → 1 ≤ n → codes "cap" ∷ decimal l ∷ codes "proved" ∷ signed_decimal v ∷ decimal n ∷ [] ≡ cap_line (l, v, n)
 some_line l zero v h = absurd (omega (arith, h))
@@ -87,12 +86,12 @@ proved_back fs x h =
     let front : fs ≡ codes "cap" ∷ decimal b.0.0 ∷ codes "proved" ∷ drop 1 b.0.1 = behind (codes "cap") fs _ w.0 (l.0 ∙ two (decimal b.0.0) rest) in
     let last : drop 1 b.0.1 ≡ signed_decimal c.0.0 ∷ c.0.1 = ap (λ (g : Row). drop 3 g) (sym front) ∙ v.0 in
     let e : (b.0.0, c.0.0, d.0.0) ≡ x = ok_same (b.0.0, c.0.0, d.0.0) x d.1.1 in
-    subst (λ (y : ℕ × ℤ × ℕ). IsCapLine y × (fs ≡ cap_line y)) e
-      ( (l.1, v.1.1, n.1.1)
-      , exact (codes "cap" ∷ decimal b.0.0 ∷ codes "proved" ∷ signed_decimal c.0.0 ∷ decimal d.0.0 ∷ []) d.0.1 fs
+    subst (λ (y : ℕ × ℤ × ℕ). IsCapLine y × (fs ≡ cap_line y)) e (
+      (l.1, v.1.1, n.1.1),
+      exact (codes "cap" ∷ decimal b.0.0 ∷ codes "proved" ∷ signed_decimal c.0.0 ∷ decimal d.0.0 ∷ []) d.0.1 fs
           (front ∙ two (codes "cap") (two (decimal b.0.0) (two (codes "proved") (last ∙ two (signed_decimal c.0.0) n.0)))) (count_back 5 fs s.0)
-        ∙ some_line b.0.0 d.0.0 c.0.0 n.1.0
-      )
+          ∙ some_line b.0.0 d.0.0 c.0.0 n.1.0,
+    )
 
 pub cap_line_back : (fs : Row) (x : ℕ × ℤ × ℕ) → cap_of fs ≡ Ok x → IsCapLine x × (fs ≡ cap_line x)
 cap_line_back fs x h = go (has_word 2 (codes "plain") fs) h
@@ -144,9 +143,9 @@ fix_whole : (front fs whole : Row) (f : Fix) (at : ℕ) → FixBack fs f → who
 fix_whole front fs whole f at b e n g h =
     let field : slice_get whole at ≡ Some (decimal b.k) = ap (λ (r : Row). slice_get r at) e ∙ g ∙ ap (λ (r : Row). slice_get r 1) b.spelled in
     let t = told at (length whole) b.k (slice_get whole at) (omega (arith, b.count)) field h in
-    let same : b.k ≡ length f.acts = omega (arith, t, n, ap length e, length-append front fs, ap length b.spelled, decimals_length f.acts) in
-    ( record { first = b.first; count = subst (λ (k : ℕ). IsFrom 1 8 k) same b.count; acts = b.acts }
-    , e ∙ ap (λ (r : Row). front ++ r) (b.spelled ∙ ap (λ (k : ℕ). decimal f.first ∷ decimal k ∷ map decimal f.acts) same)
+    let same : b.k ≡ length f.acts = omega (arith, t, n, ap length e, length-append front fs, ap length b.spelled, decimals_length f.acts) in (
+      record { first = b.first; count = subst (λ (k : ℕ). IsFrom 1 8 k) same b.count; acts = b.acts },
+      e ∙ ap (λ (r : Row). front ++ r) (b.spelled ∙ ap (λ (k : ℕ). decimal f.first ∷ decimal k ∷ map decimal f.acts) same),
     )
 
 three_words : (a b c : List ℕ) (ws fs : Row) → bytes_eq a (codes "#") ≡ false → bytes_eq b (codes "#") ≡ false → bytes_eq c (codes "#") ≡ false → words_of (a ∷ b ∷ c ∷ ws) fs ≡ Ok tt
@@ -156,7 +155,7 @@ three_words a b c ws fs x y z h =
     let q = word_here b (c ∷ ws) (drop 1 fs) y p.1 in
     let r = word_here c ws (drop 1 (drop 1 fs)) z q.1 in
     let d : drop 1 (drop 1 (drop 1 fs)) ≡ drop 3 fs = drops fs in
-    ( p.0 ∙ two a (q.0 ∙ two b (r.0 ∙ two c d)), subst (λ (g : Row). words_of ws g ≡ Ok tt) d r.1 )
+    (p.0 ∙ two a (q.0 ∙ two b (r.0 ∙ two c d)), subst (λ (g : Row). words_of ws g ≡ Ok tt) d r.1)
   where
     drops : (fs : Row) → drop 1 (drop 1 (drop 1 fs)) ≡ drop 3 fs
     drops [] = refl
@@ -176,7 +175,7 @@ nodes_back fs c h =
     let b = bound (natural_next 1 (2 ^ 64 - 1) (drop 3 fs)) _ c a.1.1 in
     let n = natural_next_back 1 (2 ^ 64 - 1) (drop 3 fs) b.0 b.1.0 in
     subst (λ (x : Cause). CauseBack fs x) (ok_same (causes.Nodes b.0.0) c b.1.1)
-      (n.1, exact (codes "verdict" ∷ codes "gap" ∷ codes "nodes" ∷ decimal b.0.0 ∷ []) b.0.1 fs (w.0 ∙ two (codes "verdict") (two (codes "gap") (two (codes "nodes") n.0))) (count_back 4 fs s.0))
+    (n.1, exact (codes "verdict" ∷ codes "gap" ∷ codes "nodes" ∷ decimal b.0.0 ∷ []) b.0.1 fs (w.0 ∙ two (codes "verdict") (two (codes "gap") (two (codes "nodes") n.0))) (count_back 4 fs s.0))
 
 pivots_back : (fs : Row) (c : Cause) → pivots_of fs ≡ Ok c → CauseBack fs c
 unfolding pivots_of
@@ -245,11 +244,11 @@ which false x y c P f g h = g h
 cause_back : (fs : Row) (c : Cause) → cause_of fs ≡ Ok c → CauseBack fs c
 cause_back fs c =
     which (has_word 2 (codes "nodes") fs) (nodes_of fs) _ c (CauseBack fs c) (nodes_back fs c)
-      (which (has_word 2 (codes "pivots") fs) (pivots_of fs) _ c (CauseBack fs c) (pivots_back fs c)
-        (which (has_word 2 (codes "looks") fs) (looks_of fs) (wide_of fs) c (CauseBack fs c) (looks_back fs c)
-          (which (has_word 4 (codes "sum") fs) (wide_as Sum (codes "verdict gap wide # sum") fs) _ c (CauseBack fs c) (wide_back Sum (codes "verdict gap wide # sum") fs c refl refl)
-            (which (has_word 4 (codes "less") fs) (wide_as Less (codes "verdict gap wide # less") fs) (wide_as Times (codes "verdict gap wide # times") fs) c (CauseBack fs c) (wide_back Less (codes "verdict gap wide # less") fs c refl refl)
-              (wide_back Times (codes "verdict gap wide # times") fs c refl refl)))))
+    (which (has_word 2 (codes "pivots") fs) (pivots_of fs) _ c (CauseBack fs c) (pivots_back fs c)
+    (which (has_word 2 (codes "looks") fs) (looks_of fs) (wide_of fs) c (CauseBack fs c) (looks_back fs c)
+    (which (has_word 4 (codes "sum") fs) (wide_as Sum (codes "verdict gap wide # sum") fs) _ c (CauseBack fs c) (wide_back Sum (codes "verdict gap wide # sum") fs c refl refl)
+    (which (has_word 4 (codes "less") fs) (wide_as Less (codes "verdict gap wide # less") fs) (wide_as Times (codes "verdict gap wide # times") fs) c (CauseBack fs c) (wide_back Less (codes "verdict gap wide # less") fs c refl refl)
+    (wide_back Times (codes "verdict gap wide # times") fs c refl refl)))))
 
 optimal_back : (fs : Row) (e : Ending) → optimal_of fs ≡ Ok e → IsEnding e × (fs ≡ verdict_row e)
 unfolding optimal_of
@@ -259,7 +258,7 @@ optimal_back fs e h =
     let w = word_here (codes "verdict") _ fs refl s.1 in
     let o = word_here (codes "optimal") [] (drop 1 fs) refl w.1 in
     subst (λ (x : Ending). IsEnding x × (fs ≡ verdict_row x)) (ok_same Optimal e a.1.1)
-      (tt, exact (codes "verdict" ∷ codes "optimal" ∷ []) _ fs (behind (codes "verdict") fs _ w.0 o.0) (count_back 2 fs s.0))
+    (tt, exact (codes "verdict" ∷ codes "optimal" ∷ []) _ fs (behind (codes "verdict") fs _ w.0 o.0) (count_back 2 fs s.0))
 
 gap_back : (fs : Row) (e : Ending) → gap_of fs ≡ Ok e → IsEnding e × (fs ≡ verdict_row e)
 unfolding gap_of

@@ -40,7 +40,6 @@ use Rattle.sg_cert.proofs.Rows.{text_then}
 use Rattle.sg_cert.proofs.Rising.{last_push}
 use Rattle.sg_cert.proofs.LinesAgain.{acts_from, IsWord, fraction_again, counts_again, ticket_again, mark_again, row_again, header_again, spent_again, target_again, plain_again, proved_again, split_line_again, verdict_again}
 use Rattle.sg_cert.proofs.Spelled.{is_plain, decimal_plain, signed_plain, decimals_plain, fields_again, place, line_again, next_again}
-
 use Rattle.sg_cert.proofs.Nodes.{split_done, node_leaf, node_split}
 use Rattle.sg_cert.proofs.Trees.{rows_split, rows_open, rows_closed, tree_cases, out_is, out_open, out_closed}
 use Rattle.sg_cert.proofs.BlocksAgain.{Back, BackFrom, at_from, one_from, Each, repeat_again, FactBack, fact_back, claim_back, cap_back, caps_again, caps_fuel, begins_row, plain_front}
@@ -195,8 +194,8 @@ fraction_back : (word : List ℕ) (f : Fraction) → IsWord word → is_plain wo
 unfolding fraction_at
 fraction_back word f w visible h =
     at_from (fraction_at word) (λ fs p. at_line p (fraction_of word fs) >>= λ y. Ok (y, p)) word (signed_decimal f.num ∷ signed_decimal f.den ∷ []) [] f (λ p. refl)
-      (plain_front word (signed_decimal f.num ∷ signed_decimal f.den ∷ []) visible (rw (signed_plain f.num h.num, signed_plain f.den h.den) refl))
-      (one_from (λ fs p. at_line p (fraction_of word fs) >>= λ y. Ok (y, p)) (fraction_of word) (fraction_row word f) f (λ p. refl) (fraction_again word f w h))
+    (plain_front word (signed_decimal f.num ∷ signed_decimal f.den ∷ []) visible (rw (signed_plain f.num h.num, signed_plain f.den h.den) refl))
+    (one_from (λ fs p. at_line p (fraction_of word fs) >>= λ y. Ok (y, p)) (fraction_of word) (fraction_row word f) f (λ p. refl) (fraction_again word f w h))
 
 text_three : (a b c : List Row) (more : List ℕ) → text_of (a ++ (b ++ c)) ++ more ≡ text_of a ++ (text_of b ++ (text_of c ++ more))
 text_three a b c more =
@@ -256,10 +255,10 @@ verdict_back : (e : Ending) → IsEnding e → Back verdict_at (verdict_row e �
 unfolding verdict_at
 verdict_back Optimal h =
     at_from verdict_at (λ fs p. at_line p (verdict_of fs) >>= λ y. Ok (y, p)) (codes "verdict") (codes "optimal" ∷ []) [] Optimal (λ p. refl) refl
-      (one_from (λ fs p. at_line p (verdict_of fs) >>= λ y. Ok (y, p)) verdict_of (verdict_row Optimal) Optimal (λ p. refl) (verdict_again Optimal h))
+    (one_from (λ fs p. at_line p (verdict_of fs) >>= λ y. Ok (y, p)) verdict_of (verdict_row Optimal) Optimal (λ p. refl) (verdict_again Optimal h))
 verdict_back (Gap c) h =
     at_from verdict_at (λ fs p. at_line p (verdict_of fs) >>= λ y. Ok (y, p)) (codes "verdict") (codes "gap" ∷ cause_fields c) [] (Gap c) (λ p. refl) (cause_plain c h)
-      (one_from (λ fs p. at_line p (verdict_of fs) >>= λ y. Ok (y, p)) verdict_of (verdict_row (Gap c)) (Gap c) (λ p. refl) (verdict_again (Gap c) h))
+    (one_from (λ fs p. at_line p (verdict_of fs) >>= λ y. Ok (y, p)) verdict_of (verdict_row (Gap c)) (Gap c) (λ p. refl) (verdict_again (Gap c) h))
 
 end_again : (line : ℕ) → end_of (place (text_of ((codes "end" ∷ []) ∷ [])) line) ≡ Ok tt
 unfolding end_of word_line_at shaped_if words_of spelled_of

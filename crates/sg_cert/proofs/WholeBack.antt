@@ -52,7 +52,6 @@ use Rattle.sg_cert.proofs.Rising.{last_push, rises, rises_push, claim_from_rises
 use Rattle.sg_cert.proofs.LinesAgain.{IsWord}
 use Rattle.sg_cert.proofs.LinesBack.{fraction_back_of, mark_back, row_back, header_back, counts_back, ticket_back, spent_back, target_back, split_back, one_word, cap_line}
 use Rattle.sg_cert.proofs.VerdictBack.{IsBound, cap_line_back, verdict_back}
-
 use Rattle.sg_cert.specs.Ranges.{IsReport}
 use Rattle.sg_cert.proofs.LinesBack.{exact}
 use Rattle.std.proofs.lemmas.Slice.Eq.{bytes_eq-Decides}
@@ -60,7 +59,6 @@ use Rattle.std.proofs.lemmas.Bool.Decides.{nat_tests}
 use Rattle.sg_tree.specs.declared.report.Ending.TheVariants.{Optimal, Gap}
 use Rattle.sg_cert.proofs.Trees.{rows_split, rows_open, rows_closed, out_is, out_open, out_closed}
 use Rattle.sg_cert.proofs.BlocksBack.{ok_is, never, line_forth, row_forth, at_line_back, Took, behind_row, one_forth, Chain, Items, repeat_forth, single_rows, claim_forth}
-
 use Rattle.sg_cert.specs.Fields.{count_is}
 use Rattle.sg_cert.proofs.FactsBack.{either, From, from_line, FactFrom, fact_forth, CapsBack, caps_forth}
 
@@ -122,7 +120,7 @@ leaf_forth P fs p x h =
     let a = bound (base_from fs p) (λ f. Ok (leaf_of f.0, f.1)) x h in
     let b = base_from_forth fs p a.0 a.1.0 in
     subst (λ (y : Tree × Place). NodeFrom P fs p y) (ok_is (leaf_of a.0.0, a.0.1) x a.1.1)
-      (record { holds = leaf_is P a.0.0 b.holds; word = b.word; gs = b.gs; rows = b.rows; whole = leaf_rows a.0.0 ∙ b.whole; line = b.line; text = b.text })
+    (record { holds = leaf_is P a.0.0 b.holds; word = b.word; gs = b.gs; rows = b.rows; whole = leaf_rows a.0.0 ∙ b.whole; line = b.line; text = b.text })
 
 deep_forth : (P : Tree → Type 0) (fs : Row) (p : Place) (x : Tree × Place) → deep_from fs p ≡ Ok x → NodeFrom P fs p x
 unfolding deep_from
@@ -163,13 +161,13 @@ unfolding node_at
 node_forth zero p x h =
     let a = bound (line_at p) (λ l. if has_word 0 (codes "split") (fields l.0) then deep_from (fields l.0) l.1 else leaf_from (fields l.0) l.1) x h in
     from_line (IsLayer (λ _. ⊥) (out-Tree x.0)) (node_rows x.0) p a.0 x.1.rest a.1.0
-      (either (has_word 0 (codes "split") (fields a.0.0)) (deep_from (fields a.0.0) a.0.1) (leaf_from (fields a.0.0) a.0.1) x (NodeFrom (λ _. ⊥) (fields a.0.0) a.0.1 x)
-        (deep_forth (λ _. ⊥) (fields a.0.0) a.0.1 x) (leaf_forth (λ _. ⊥) (fields a.0.0) a.0.1 x) a.1.1)
+    (either (has_word 0 (codes "split") (fields a.0.0)) (deep_from (fields a.0.0) a.0.1) (leaf_from (fields a.0.0) a.0.1) x (NodeFrom (λ _. ⊥) (fields a.0.0) a.0.1 x)
+    (deep_forth (λ _. ⊥) (fields a.0.0) a.0.1 x) (leaf_forth (λ _. ⊥) (fields a.0.0) a.0.1 x) a.1.1)
 node_forth (suc left) p x h =
     let a = bound (line_at p) (λ l. if has_word 0 (codes "split") (fields l.0) then split_from (node_at left) (fields l.0) l.1 else leaf_from (fields l.0) l.1) x h in
     from_line (IsLayer (IsNode left) (out-Tree x.0)) (node_rows x.0) p a.0 x.1.rest a.1.0
-      (either (has_word 0 (codes "split") (fields a.0.0)) (split_from (node_at left) (fields a.0.0) a.0.1) (leaf_from (fields a.0.0) a.0.1) x (NodeFrom (IsNode left) (fields a.0.0) a.0.1 x)
-        (split_forth left (node_forth left) (fields a.0.0) a.0.1 x) (leaf_forth (IsNode left) (fields a.0.0) a.0.1 x) a.1.1)
+    (either (has_word 0 (codes "split") (fields a.0.0)) (split_from (node_at left) (fields a.0.0) a.0.1) (leaf_from (fields a.0.0) a.0.1) x (NodeFrom (IsNode left) (fields a.0.0) a.0.1 x)
+    (split_forth left (node_forth left) (fields a.0.0) a.0.1 x) (leaf_forth (IsNode left) (fields a.0.0) a.0.1 x) a.1.1)
 
 -- ---- the head and the tail
 
@@ -266,7 +264,7 @@ proof_forth p x h =
     let each : AllByRecursion IsCap c.0.0 = subst (λ (cs : List Cap). AllByRecursion IsCap cs) caps.all caps.each in
     let front : p.rest ≡ text_of (flat_map cap_rows c.0.0) ++ c.0.1.rest = caps.text ∙ ap (λ (cs : List Cap). text_of (flat_map cap_rows cs) ++ c.0.1.rest) caps.all in
     subst (λ (y : (List Cap × Tree) × Place). Took (AllByRecursion IsCap y.0.0 × IsNode 8 y.0.1) p.rest (flat_map cap_rows y.0.0 ++ node_rows y.0.1) y.1.rest) (ok_is ((c.0.0, n.0.0), n.0.1) x n.1.1)
-      ((each, node.0), glue p.rest c.0.1.rest n.0.1.rest (flat_map cap_rows c.0.0) (node_rows n.0.0) front node.1)
+    ((each, node.0), glue p.rest c.0.1.rest n.0.1.rest (flat_map cap_rows c.0.0) (node_rows n.0.0) front node.1)
 
 abbrev tail_rows_of : Fraction → Ending → List Row
 tail_rows_of f e = fraction_row (codes "upper") f ∷ verdict_row e ∷ (codes "end" ∷ []) ∷ []
@@ -283,7 +281,7 @@ tail_forth p x h =
     let text = glue p.rest u.0.1.rest [] (fraction_row (codes "upper") u.0.0 ∷ []) (verdict_row w.0.0 ∷ (codes "end" ∷ []) ∷ []) upper.1
     (glue u.0.1.rest w.0.1.rest [] (verdict_row w.0.0 ∷ []) ((codes "end" ∷ []) ∷ []) verdict.1 end) in
     subst (λ (y : Fraction × Ending). (IsFraction y.0 × IsEnding y.1) × (p.rest ≡ text_of (tail_rows_of y.0 y.1))) (ok_is (u.0.0, w.0.0) x z.1.1)
-      ((upper.0, verdict.0), text ∙ append-nil (text_of (tail_rows_of u.0.0 w.0.0)))
+    ((upper.0, verdict.0), text ∙ append-nil (text_of (tail_rows_of u.0.0 w.0.0)))
 
 pub whole_forth : (bytes : List ℕ) (r : Report) → report_of bytes ≡ Ok r → IsReport r × (report_text r ≡ bytes)
 unfolding report_of
@@ -303,4 +301,4 @@ whole_forth bytes r h =
     let same : text_of (head_of a.0.0.0 a.0.0.1 ++ (caps ++ (nodes ++ ends))) ≡ bytes =
     ap (λ (rows : List Row). text_of (head_of a.0.0.0 a.0.0.1 ++ rows)) (sym (append_assoc caps nodes ends)) ∙ sym (append-nil (text_of (head_of a.0.0.0 a.0.0.1 ++ ((caps ++ nodes) ++ ends)))) ∙ sym text in
     subst (λ (y : Report). IsReport y × (report_text y ≡ bytes)) (ok_is _ r d.1.1)
-      (record { tickets = head.0.0; value = head.0.1; caps = proof.0.0; tree = proof.0.1; upper = tail.0.0; ending = tail.0.1 }, same)
+    (record { tickets = head.0.0; value = head.0.1; caps = proof.0.0; tree = proof.0.1; upper = tail.0.0; ending = tail.0.1 }, same)

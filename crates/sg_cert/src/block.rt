@@ -157,7 +157,11 @@ fn put_numbers<O: Sink>(out: &mut O, block: &mut Block, numbers: &[i128]) -> Res
 }
 
 /// Adds choices or actions, each behind a space.
-pub fn put_choices<O: Sink>(out: &mut O, block: &mut Block, choices: &[u16]) -> Result<(), SinkError>
+pub fn put_choices<O: Sink>(
+    out: &mut O,
+    block: &mut Block,
+    choices: &[u16],
+) -> Result<(), SinkError>
     ensures { Writes result (O.taken out.old, O.faults out.old) block.old (O.taken out.new, O.faults out.new) block.new (spaced (map decimal choices.now)) }
 {
     for choice in choices {

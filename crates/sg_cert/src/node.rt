@@ -218,12 +218,7 @@ fn parts(alloc: Global, lines: &mut Lines, left: u8, n: u16) -> Result<Items<Tre
 }
 
 #[cycle(tree)]
-fn split_after(
-    alloc: Global,
-    lines: &mut Lines,
-    left: u8,
-    line: &[u8],
-) -> Result<Tree, ReportError>
+fn split_after(alloc: Global, lines: &mut Lines, left: u8, line: &[u8]) -> Result<Tree, ReportError>
     ensures { Gives (λ t. t) result lines.new (split_from (node_at left) (fields line.now) lines.old) }
 {
     let (l, n) = match split_line(lines, line) {

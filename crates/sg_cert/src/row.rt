@@ -72,14 +72,16 @@ pub fn put_fraction<O: Sink>(
 }
 
 /// A ticket.
-pub fn put_ticket<O: Sink>(
-    out: &mut O,
-    block: &mut Block,
-    ticket: &Ticket,
-) -> Result<(), SinkError>
+pub fn put_ticket<O: Sink>(out: &mut O, block: &mut Block, ticket: &Ticket) -> Result<(), SinkError>
     ensures { Writes result (O.taken out.old, O.faults out.old) block.old (O.taken out.new, O.faults out.new) block.new (spell (ticket_row ticket.now)) }
 {
-    put_list_line(out, block, b"t", &[ticket.weight], ticket.play.code.as_slice())
+    put_list_line(
+        out,
+        block,
+        b"t",
+        &[ticket.weight],
+        ticket.play.code.as_slice(),
+    )
 }
 
 /// The multiplier of a comparison.
@@ -336,11 +338,7 @@ fn put_value_line<O: Sink>(
 }
 
 /// A budget of nodes that was spent.
-fn put_spent_nodes<O: Sink>(
-    out: &mut O,
-    block: &mut Block,
-    budget: u64,
-) -> Result<(), SinkError>
+fn put_spent_nodes<O: Sink>(out: &mut O, block: &mut Block, budget: u64) -> Result<(), SinkError>
     ensures { Writes result (O.taken out.old, O.faults out.old) block.old (O.taken out.new, O.faults out.new) block.new (spell (codes "verdict" ∷ codes "gap" ∷ cause_fields (causes.Nodes budget))) }
 {
     put_number_line(out, block, b"verdict gap nodes", budget)

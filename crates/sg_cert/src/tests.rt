@@ -1,5 +1,5 @@
 use super::*;
-use sg_shelf::{MemSink, Sink};
+use sg_shelf::MemSink;
 use std::alloc::Global;
 use std::test::*;
 
@@ -1012,5 +1012,54 @@ fn tells_the_first_fault(rt: HostRuntime) {
         let mut text = Vec::from_slice(rt.alloc(), HEAD).unwrap();
         text.extend_from_slice(case.text).unwrap();
         assert_eq!(rt; fault_of(rt.alloc(), &text), (case.line, case.reason));
+    }
+}
+
+// A text of two parts, and a part between them so many times.
+fn repeated(alloc: Global, head: &[u8], part: &[u8], times: usize, tail: &[u8]) -> Vec<u8> {
+    let mut text = Vec::from_slice(alloc, head).unwrap();
+    for _ in 0..times {
+        text.extend_from_slice(part).unwrap();
+    }
+    text.extend_from_slice(tail).unwrap();
+    text
+}
+
+#[test]
+fn keeps_the_limits(rt: HostRuntime) {
+    let ticket = b"patrol-report 1\ntickets 1 1\nt 1";
+    for (times, line, reason) in [(200, 4, 2), (201, 3, 4)] {
+        let text = repeated(rt.alloc(), ticket, b" 0", times, b"\n");
+        assert_eq!(rt; fault_of(rt.alloc(), &text), (line, reason));
+    }
+    for (times, line, reason) in [(8, 21, 2), (9, 21, 8)] {
+        let text = repeated(rt.alloc(), HEAD, b"split 1 1\nopen\n", times, b"");
+        assert_eq!(rt; fault_of(rt.alloc(), &text), (line, reason));
+    }
+}
+
+#[test]
+fn wants_each_newline(rt: HostRuntime) {
+    for report in REPORTS {
+        let mut line = 1u64;
+        for (at, byte) in report.iter().enumerate() {
+            if *byte == b'\n' {
+                assert_eq!(rt; fault_of(rt.alloc(), &report[..at]), (line, 2));
+                line = line.wrapping_add(1);
+            }
+        }
+    }
+}
+
+#[test]
+fn writes_what_it_read(rt: HostRuntime) {
+    for report in REPORTS {
+        let read = match read_report(rt.alloc(), report) {
+            Ok(read) => read,
+            Err(_) => panic!(rt; "a whole report is refused"),
+        };
+        let mut out = MemSink::new(rt.alloc(), Vec::new(rt.alloc()), 0).unwrap();
+        assert!(rt; write_report(&read, &mut out).is_ok());
+        assert!(rt; out.bytes() == *report);
     }
 }

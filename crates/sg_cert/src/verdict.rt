@@ -93,11 +93,7 @@ fn looks_in(alloc: Global, line: &[u8]) -> Result<Result<Cause, u8>, AllocError>
 }
 
 #[tactic(auto, unfolding(crate::specs::LineReading::wide_head_of))]
-fn wide_head<'a>(
-    op: Op,
-    words: &[u8],
-    line: &'a [u8],
-) -> Result<((u8, Wide, u64), Fields<'a>), u8>
+fn wide_head<'a>(op: Op, words: &[u8], line: &'a [u8]) -> Result<((u8, Wide, u64), Fields<'a>), u8>
     ensures { result ≡ wide_head_of op words.now (fields line.now) }
 {
     shaped_by(words, 9, line)?;

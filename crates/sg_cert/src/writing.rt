@@ -258,11 +258,7 @@ fn put_tail<O: Sink>(out: &mut O, block: &mut Block, report: &Report) -> Result<
 }
 
 /// The tree and the lines behind it.
-fn put_tree_tail<O: Sink>(
-    out: &mut O,
-    block: &mut Block,
-    report: &Report,
-) -> Result<(), SinkError>
+fn put_tree_tail<O: Sink>(out: &mut O, block: &mut Block, report: &Report) -> Result<(), SinkError>
     ensures { Writes result (O.taken out.old, O.faults out.old) block.old (O.taken out.new, O.faults out.new) block.new (text_of (node_rows report.now.tree ++ tail_rows report.now)) }
 {
     match put_node(out, block, &report.tree) {
@@ -272,11 +268,7 @@ fn put_tree_tail<O: Sink>(
 }
 
 /// The lines from the caps on.
-fn put_caps_tail<O: Sink>(
-    out: &mut O,
-    block: &mut Block,
-    report: &Report,
-) -> Result<(), SinkError>
+fn put_caps_tail<O: Sink>(out: &mut O, block: &mut Block, report: &Report) -> Result<(), SinkError>
     ensures { Writes result (O.taken out.old, O.faults out.old) block.old (O.taken out.new, O.faults out.new) block.new (text_of (flat_map cap_rows report.now.caps ++ (node_rows report.now.tree ++ tail_rows report.now))) }
 {
     match put_caps(out, block, report.caps.as_slice()) {

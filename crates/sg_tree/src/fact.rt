@@ -43,7 +43,10 @@ pub enum Fact {
         lines: Items<Line>,
     },
     /// No commitment holds the attacker below this level.
-    Water { level: Frac, reason: Level },
+    Water {
+        level: Frac,
+        reason: Level,
+    },
 }
 
 impl Fact {

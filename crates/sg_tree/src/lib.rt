@@ -15,3 +15,6 @@ pub use fact::{Fact, Line, Mark};
 pub use fix::Fix;
 pub use report::{Cap, Cause, Ending, Report};
 pub use tree::Tree;
+
+#[cfg(test)]
+mod tests;

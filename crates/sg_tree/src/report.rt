@@ -24,9 +24,16 @@ pub enum Cause {
     /// This many nodes were spent.
     Nodes(u64),
     /// A node spent this many pivots.
-    Pivots { budget: u64, fix: Fix },
+    Pivots {
+        budget: u64,
+        fix: Fix,
+    },
     /// A node spent this many looks after so many steps.
-    Looks { budget: u64, step: u64, fix: Fix },
+    Looks {
+        budget: u64,
+        step: u64,
+        fix: Fix,
+    },
     /// A value of a node, named by its number, lies outside `i128` after so many steps.
     Wide {
         name: u8,
