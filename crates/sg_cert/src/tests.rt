@@ -1009,19 +1009,19 @@ fn tells_the_first_fault(rt: HostRuntime) {
         assert_eq!(rt; fault_of(rt.alloc(), case.text), (case.line, case.reason));
     }
     for case in TAILS {
-        let mut text = Vec::from_slice(rt.alloc(), HEAD).unwrap();
-        text.extend_from_slice(case.text).unwrap();
+        let mut text = Vec::from_slice(rt.alloc(), HEAD).expect(&rt, "memory");
+        text.extend_from_slice(case.text).expect(&rt, "memory");
         assert_eq!(rt; fault_of(rt.alloc(), &text), (case.line, case.reason));
     }
 }
 
 // A text of two parts, and a part between them so many times.
-fn repeated(alloc: Global, head: &[u8], part: &[u8], times: usize, tail: &[u8]) -> Vec<u8> {
-    let mut text = Vec::from_slice(alloc, head).unwrap();
+fn repeated(rt: &HostRuntime, head: &[u8], part: &[u8], times: usize, tail: &[u8]) -> Vec<u8> {
+    let mut text = Vec::from_slice(rt.alloc(), head).expect(rt, "memory");
     for _ in 0..times {
-        text.extend_from_slice(part).unwrap();
+        text.extend_from_slice(part).expect(rt, "memory");
     }
-    text.extend_from_slice(tail).unwrap();
+    text.extend_from_slice(tail).expect(rt, "memory");
     text
 }
 
@@ -1029,11 +1029,11 @@ fn repeated(alloc: Global, head: &[u8], part: &[u8], times: usize, tail: &[u8]) 
 fn keeps_the_limits(rt: HostRuntime) {
     let ticket = b"patrol-report 1\ntickets 1 1\nt 1";
     for (times, line, reason) in [(200, 4, 2), (201, 3, 4)] {
-        let text = repeated(rt.alloc(), ticket, b" 0", times, b"\n");
+        let text = repeated(&rt, ticket, b" 0", times, b"\n");
         assert_eq!(rt; fault_of(rt.alloc(), &text), (line, reason));
     }
     for (times, line, reason) in [(8, 21, 2), (9, 21, 8)] {
-        let text = repeated(rt.alloc(), HEAD, b"split 1 1\nopen\n", times, b"");
+        let text = repeated(&rt, HEAD, b"split 1 1\nopen\n", times, b"");
         assert_eq!(rt; fault_of(rt.alloc(), &text), (line, reason));
     }
 }
@@ -1058,7 +1058,7 @@ fn writes_what_it_read(rt: HostRuntime) {
             Ok(read) => read,
             Err(_) => panic!(rt; "a whole report is refused"),
         };
-        let mut out = MemSink::new(rt.alloc(), Vec::new(rt.alloc()), 0).unwrap();
+        let mut out = MemSink::new(rt.alloc(), Vec::new(rt.alloc()), 0).expect(&rt, "memory");
         assert!(rt; write_report(&read, &mut out).is_ok());
         assert!(rt; out.bytes() == *report);
     }
