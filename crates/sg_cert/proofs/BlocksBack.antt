@@ -1,0 +1,184 @@
+-- What was read of a report is what its bytes spell, and in its ranges.
+use Rattle.std.proofs.Common.{◌≡◌, ℕ, suc, zero, ◌+◌, ◌<◌, ◌≤◌, ◌-◌, ◌^◌, Bool, true, false, not, ◌&&◌, List, [], ◌∷◌, ◌++◌, length, map, drop, Option, Some, None, Result, Ok, Err, ℤ, pos, negsuc, refl, sym, ap, subst, ◌∙◌, arith, append_assoc, add-zero}
+use Rattle.std.specs.Prelude.{◌==◌, nat_lt, nat_le, codes, decimal, bytes_eq, int_le}
+use Rattle.std.specs.Fmt.{signed_decimal}
+use Rattle.std.specs.Option.{option_map}
+use Rattle.std.specs.List.{list_all, AllByRecursion, flat_map, join_with_byte}
+use Rattle.std.proofs.lemmas.List.{length-append, append-nil}
+use Rattle.std.proofs.lemmas.Bool.{lt-ltb}
+use Rattle.std.proofs.lemmas.Int.{ints}
+use Rattle.std.specs.Prelude.{◌≤ℤ◌}
+use Rattle.sg_model.specs.declared.level.Level.{Level}
+use Rattle.sg_model.specs.declared.level.Level.TheVariants.{Resources, Target}
+use Rattle.sg_model.specs.declared.ticket.Ticket.{Ticket}
+use Rattle.sg_num.specs.Exact.{fits}
+use Rattle.sg_num.specs.Fractions.{Fraction}
+use Rattle.sg_tree.specs.Claims.{Claimed, comes_before, is_rising, are_positive, is_claim}
+use Rattle.sg_tree.specs.declared.fact.Mark.{Mark}
+use Rattle.sg_tree.specs.declared.fact.Line.{Line}
+use Rattle.sg_tree.specs.declared.fact.Fact.{Fact}
+use Rattle.sg_tree.specs.declared.fact.Fact.TheVariants.{Plays, Cover, Water}
+use Rattle.sg_tree.specs.declared.fix.Fix.{Fix}
+use Rattle.sg_tree.specs.declared.tree.Tree.{Tree}
+use Rattle.sg_tree.specs.declared.tree.Tree.TheVariants.{Unproved, Closed, Split}
+use Rattle.sg_tree.specs.declared.tree.Tree.TheOpen.{Tree-F}
+use Rattle.sg_tree.specs.declared.tree.Tree.TheViews.{out-Tree}
+use Rattle.sg_tree.specs.declared.report.Cap.{Cap}
+use Rattle.sg_tree.specs.declared.report.Ending.{Ending}
+use Rattle.sg_tree.specs.declared.report.Report.{Report}
+use Rattle.sg_cert.specs.Place.{Place}
+use Rattle.sg_cert.specs.Fields.{fields, has_word, shaped_if, shaped_as, ◌>>=◌}
+use Rattle.sg_cert.specs.Lines.{line_at, at_line, next_line, start, ended}
+use Rattle.sg_cert.specs.LineReading.{follows, fraction_of, counts_of, ticket_of, mark_of, row_of, header_of, water_of, cap_of, split_of, verdict_of}
+use Rattle.sg_cert.specs.Reading.{Read, repeat, last, last_play, ticket_at, claim_at, mark_at, row_at, plays_from, cover_from, water_from, fact_from, fact_at, cap_from, cap_at, line_begins, caps_at, open_from, closed_from, base_from, base_at, leaf_of, leaf_from, split_from, node_at, fraction_at, verdict_at, word_line_at, first_at, head_at, proof_at, end_of, tail_of, report_of}
+use Rattle.sg_cert.specs.Text.{Row, spell, text_of, fraction_row, ticket_row, claim_rows, mark_row, line_row, fact_rows, cap_row, cap_rows, base_rows, split_row, node_rows, fix_fields, op_word, cause_fields, verdict_row, head_rows, tail_rows, report_rows, report_text}
+use Rattle.sg_cert.specs.Ranges.{IsFrom, Fits, FitsFrom, Rises, IsFraction, IsTicket, IsClaim, IsMark, IsRow, IsLevel, IsHeader, IsFact, IsCap, IsBase, IsLayer, IsNode, IsFix, IsCause, IsEnding, IsReport}
+use Rattle.sg_cert.proofs.Cut.{both}
+use Rattle.sg_cert.proofs.Rows.{text_then}
+use Rattle.std.specs.Prelude.{slice_get, position, take, if◌then◌else◌, get_or}
+use Rattle.std.proofs.Common.{take-append-drop}
+use Rattle.std.proofs.lemmas.Bool.{eqb-true}
+use Rattle.std.proofs.lemmas.List.{drop_more}
+use Rattle.std.proofs.lemmas.List.Quantifiers.{position-Some}
+use Rattle.std.proofs.lemmas.List.Splits.{join_with_byte-slice_split}
+use Rattle.sg_cert.specs.declared.fault.ReportFault.{ReportFault}
+use Rattle.sg_cert.specs.Fields.{split_once}
+use Rattle.sg_cert.specs.Lines.{line_cut}
+use Rattle.sg_cert.specs.LineReading.{MayStand}
+use Rattle.sg_cert.specs.Reading.{deep_from}
+use Rattle.sg_cert.proofs.Numbers.{bound}
+use Rattle.sg_cert.proofs.Spelled.{spell_join}
+use Rattle.sg_cert.proofs.Rising.{last_push, rises, rises_push, claim_from_rises}
+use Rattle.sg_cert.proofs.LinesAgain.{IsWord}
+use Rattle.sg_cert.proofs.LinesBack.{fraction_back_of, mark_back, row_back, header_back, counts_back, ticket_back, spent_back, target_back, split_back, one_word, cap_line}
+use Rattle.sg_cert.proofs.VerdictBack.{IsBound, cap_line_back, verdict_back}
+
+pub ok_is : {A E : Type 0} (x y : A) → ◌≡◌ {A = Result A E} (Ok x) (Ok y) → x ≡ y
+ok_is x y e = cc
+
+pub never : {A E : Type 0} (e : E) (x : A) → ◌≡◌ {A = Result A E} (Err e) (Ok x) → ⊥
+never e x k = absurd cc
+
+-- ---- lines
+
+cut_back : (b : ℕ) (bs : List ℕ) (o : Option ℕ) (parts : List ℕ × List ℕ) → position (λ x. x == b) bs ≡ o → option_map (λ i. (take i bs, drop (i + 1) bs)) o ≡ Some parts → bs ≡ parts.0 ++ b ∷ parts.1
+cut_back b bs None parts e h = absurd cc
+cut_back b bs (Some i) parts e h =
+    let t = position-Some (λ x. x == b) bs i 0 e in
+    let same : get_or bs i 0 ≡ b = eqb-true (get_or bs i 0) b t.1 in
+    let k : (take i bs, drop (i + 1) bs) ≡ parts = cc in
+    subst (λ (x : List ℕ × List ℕ). bs ≡ x.0 ++ b ∷ x.1) k
+    (sym (take-append-drop i bs) ∙ ap (λ (r : List ℕ). take i bs ++ r) (drop_more bs i 0 t.0 ∙ ap (λ (x : ℕ). x ∷ drop (i + 1) bs) same))
+
+line_rest : (o : Option (List ℕ × List ℕ)) (n : ℕ) (bs : List ℕ) (l : List ℕ × Place) → split_once 10 bs ≡ o → line_cut n o ≡ Ok l → bs ≡ l.0 ++ 10 ∷ l.1.rest
+line_rest None n bs l e h = absurd (never _ l h)
+line_rest (Some parts) n bs l e h =
+    let k = ok_is _ l h in
+    subst (λ (x : List ℕ × Place). bs ≡ x.0 ++ 10 ∷ x.1.rest) k (cut_back 10 bs (position (λ x. x == 10) bs) parts refl e)
+
+pub line_forth : (p : Place) (l : List ℕ × Place) → line_at p ≡ Ok l → p.rest ≡ l.0 ++ 10 ∷ l.1.rest
+unfolding line_at
+line_forth p l h = line_rest (split_once 10 p.rest) (p.line + 1) p.rest l refl h
+
+pub row_forth : (p : Place) (l : List ℕ × Place) (w : List ℕ) (fs : Row) → line_at p ≡ Ok l → fields l.0 ≡ w ∷ fs → p.rest ≡ spell (w ∷ fs) ++ l.1.rest
+row_forth p l w fs h e =
+    let joined : l.0 ≡ join_with_byte 32 (w ∷ fs) = sym (join_with_byte-slice_split 32 l.0) ∙ ap (join_with_byte 32) e in
+    line_forth p l h ∙ ap (λ (t : List ℕ). t ++ 10 ∷ l.1.rest) joined ∙ sym (append_assoc (join_with_byte 32 (w ∷ fs)) (10 ∷ []) l.1.rest) ∙ ap (λ (t : List ℕ). t ++ l.1.rest) (sym (spell_join w fs))
+
+pub at_line_back : {A : Type 0} (p : Place) (r : Result A ℕ) (x : A) → at_line p r ≡ Ok x → r ≡ Ok x
+at_line_back p (Ok y) x h = ap Ok (ok_is y x h)
+at_line_back p (Err e) x h = absurd (never _ x h)
+
+-- what a reading that succeeded took: a fact of the value, and the text of its rows
+abbrev pub Took : Type 0 → List ℕ → List Row → List ℕ → Type 0
+Took P before rows after = P × (before ≡ text_of rows ++ after)
+
+pub behind_row : (p : Place) (l : List ℕ × Place) (w : List ℕ) (fs : Row) (rows : List Row) (after : List ℕ) → line_at p ≡ Ok l → fields l.0 ≡ w ∷ fs → l.1.rest ≡ text_of rows ++ after → p.rest ≡ text_of ((w ∷ fs) ∷ rows) ++ after
+behind_row p l w fs rows after h e k = row_forth p l w fs h e ∙ ap (λ (t : List ℕ). spell (w ∷ fs) ++ t) k ∙ sym (append_assoc (spell (w ∷ fs)) (text_of rows) after)
+
+-- a reader of one line
+pub one_forth : {A : Type 0} (parse : Row → Result A ℕ) (p : Place) (x : A × Place) (P : Type 0) (w : List ℕ) (fs : Row)
+    → (line_at p >>= λ l. at_line l.1 (parse (fields l.0)) >>= λ y. Ok (y, l.1)) ≡ Ok x
+    → ((gs : Row) → parse gs ≡ Ok x.0 → P × (gs ≡ w ∷ fs)) → Took P p.rest ((w ∷ fs) ∷ []) x.1.rest
+one_forth parse p x P w fs h back =
+    let a = bound (line_at p) (λ l. at_line l.1 (parse (fields l.0)) >>= λ y. Ok (y, l.1)) x h in
+    let b = bound (at_line a.0.1 (parse (fields a.0.0))) (λ y. Ok (y, a.0.1)) x a.1.1 in
+    let e : (b.0, a.0.1) ≡ x = ok_is (b.0, a.0.1) x b.1.1 in
+    let parsed = at_line_back a.0.1 (parse (fields a.0.0)) b.0 b.1.0 in
+    let k = back (fields a.0.0) (parsed ∙ ap Ok (ap (λ (y : _ × Place). y.0) e)) in
+    (k.0, subst (λ (q : Place). p.rest ≡ text_of ((w ∷ fs) ∷ []) ++ q.rest) (ap (λ (y : _ × Place). y.1) e) (behind_row p a.0 w fs [] a.0.1.rest a.1.0 k.1 refl))
+
+-- ---- items one after the other
+
+abbrev pub Chain : {A : Type 0} → (List A → A → Type 0) → List A → List A → Type 0
+Chain P done [] = Unit {0}
+Chain P done (x ∷ xs) = P done x × Chain P (done ++ x ∷ []) xs
+
+pub record Items {A : Type 0} (P : List A → A → Type 0) (rows : A → List Row) (done xs : List A) (n : ℕ) (before after : List ℕ) : Type 0 where
+  pub more : List A
+  pub all : done ++ more ≡ xs
+  pub count : length more ≡ n
+  pub chain : Chain P done more
+  pub text : before ≡ text_of (flat_map rows more) ++ after
+
+pub repeat_forth : {A : Type 0} (item : List A → Place → Read A) (P : List A → A → Type 0) (rows : A → List Row)
+    → ((done : List A) (p : Place) (x : A × Place) → item done p ≡ Ok x → Took (P done x.0) p.rest (rows x.0) x.1.rest)
+    → (done : List A) (n : ℕ) (p : Place) (xs : List A × Place) → repeat item done n p ≡ Ok xs → Items P rows done xs.0 n p.rest xs.1.rest
+unfolding repeat
+repeat_forth item P rows forth done zero p xs h =
+    let e : (done, p) ≡ xs = ok_is (done, p) xs h in
+    subst (λ (y : List _ × Place). Items P rows done y.0 0 p.rest y.1.rest) e (record { more = []; all = append-nil done; count = refl; chain = tt; text = refl })
+repeat_forth item P rows forth done (suc n) p xs h =
+    let a = bound (item done p) (λ x. repeat item (done ++ x.0 ∷ []) n x.1) xs h in
+    let f = forth done p a.0 a.1.0 in
+    let ih = repeat_forth item P rows forth (done ++ a.0.0 ∷ []) n a.0.1 xs a.1.1 in
+    record {
+      more = a.0.0 ∷ ih.more;
+      all = sym (append_assoc done (a.0.0 ∷ []) ih.more) ∙ ih.all;
+      count = ap (λ (k : ℕ). suc k) ih.count;
+      chain = (f.0, ih.chain);
+      text = f.1 ∙ ap (λ (t : List ℕ). text_of (rows a.0.0) ++ t) ih.text ∙ sym (append_assoc (text_of (rows a.0.0)) (text_of (flat_map rows ih.more)) xs.1.rest)
+          ∙ ap (λ (t : List ℕ). t ++ xs.1.rest) (sym (text_then (rows a.0.0) (flat_map rows ih.more)));
+    }
+
+pub single_rows : {A : Type 0} (row : A → Row) (xs : List A) → flat_map (λ (x : A). row x ∷ []) xs ≡ map row xs
+single_rows row [] = refl
+single_rows row (x ∷ xs) = ap (λ (rs : List Row). row x ∷ rs) (single_rows row xs)
+
+-- ---- tickets
+
+abbrev StandsTicket : List Ticket → Ticket → Type 0
+StandsTicket done t = IsTicket t × MayStand (last_play done) t
+
+ticket_forth : (done : List Ticket) (p : Place) (x : Ticket × Place) → ticket_at done p ≡ Ok x → Took (StandsTicket done x.0) p.rest (ticket_row x.0 ∷ []) x.1.rest
+unfolding ticket_at
+ticket_forth done p x h = one_forth (ticket_of (last_play done)) p x (StandsTicket done x.0) (codes "t") (signed_decimal x.0.weight ∷ map decimal x.0.play.code) h (λ gs k. ticket_back (last_play done) gs x.0 k)
+
+chain_rises : (done ts : List Ticket) → rises done ≡ true → Chain StandsTicket done ts → rises (done ++ ts) ≡ true
+chain_rises done [] h c = ap rises (append-nil done) ∙ h
+chain_rises done (t ∷ ts) h c = ap rises (sym (append_assoc done (t ∷ []) ts)) ∙ chain_rises (done ++ t ∷ []) ts (rises_push done t h c.0.1.0 c.0.1.1) c.1
+
+each_ticket : (done ts : List Ticket) → Chain StandsTicket done ts → AllByRecursion IsTicket ts
+each_ticket done [] c = tt
+each_ticket done (t ∷ ts) c = (c.0.0, each_ticket (done ++ t ∷ []) ts c.1)
+
+pub claim_forth : (p : Place) (x : Claimed × Place) → claim_at p ≡ Ok x → Took (IsClaim x.0) p.rest (claim_rows x.0) x.1.rest
+unfolding claim_at
+claim_forth p x h =
+    let a = bound (line_at p) _ x h in
+    let b = bound (at_line a.0.1 (counts_of (fields a.0.0))) _ x a.1.1 in
+    let c = bound (repeat ticket_at [] b.0.0 a.0.1) _ x b.1.1 in
+    let n = counts_back (fields a.0.0) b.0 (at_line_back a.0.1 (counts_of (fields a.0.0)) b.0 b.1.0) in
+    let i = repeat_forth ticket_at StandsTicket (λ t. ticket_row t ∷ []) ticket_forth [] b.0.0 a.0.1 c.0 c.1.0 in
+    let e : (record { tickets = c.0.0; total = b.0.1 }, c.0.1) ≡ x = ok_is (record { tickets = c.0.0; total = b.0.1 }, c.0.1) x c.1.1 in
+    let count : length c.0.0 ≡ b.0.0 = ap length (sym i.all) ∙ i.count in
+    let claim : IsClaim (record { tickets = c.0.0; total = b.0.1 }) = record {
+      rules = subst (λ (ts : List Ticket). is_claim ts ≡ true) i.all (claim_from_rises i.more (omega (arith, i.count, n.0.0)) (chain_rises [] i.more refl i.chain));
+      each = subst (λ (ts : List Ticket). AllByRecursion IsTicket ts) i.all (each_ticket [] i.more i.chain);
+      count = omega (arith, count, n.0.0);
+      total = n.0.1;
+    } in
+    let head : fields a.0.0 ≡ codes "tickets" ∷ decimal (length c.0.0) ∷ signed_decimal b.0.1 ∷ [] = n.1 ∙ ap (λ (k : ℕ). codes "tickets" ∷ decimal k ∷ signed_decimal b.0.1 ∷ []) (sym count) in
+    let text : a.0.1.rest ≡ text_of (map ticket_row c.0.0) ++ c.0.1.rest = i.text ∙ ap (λ (rows : List Row). text_of rows ++ c.0.1.rest) (single_rows ticket_row i.more ∙ ap (map ticket_row) i.all) in
+    subst (λ (y : Claimed × Place). Took (IsClaim y.0) p.rest (claim_rows y.0) y.1.rest) e
+    (claim, behind_row p a.0 (codes "tickets") (decimal (length c.0.0) ∷ signed_decimal b.0.1 ∷ []) (map ticket_row c.0.0) c.0.1.rest a.1.0 head text)

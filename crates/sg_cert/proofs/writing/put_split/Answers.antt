@@ -1,0 +1,14 @@
+use Rattle.sg_cert.proofs.Adding.{Writes-trans, Writes-as, Stops-early, Stops-as}
+use Rattle.std.proofs.Common.{[], ◌∷◌, ◌++◌, map, append_assoc, length}
+use Rattle.std.specs.Prelude.{decimal, codes}
+use Rattle.std.specs.Fmt.{signed_decimal}
+use Rattle.std.specs.List.{flat_map}
+use Rattle.sg_cert.specs.Text.{spell, text_of, fraction_row, ticket_row, claim_rows, mark_row, line_row, fact_rows, cap_row, cap_rows, base_rows, split_row, node_rows, verdict_row, head_rows, tail_rows}
+use Rattle.sg_cert.proofs.Rows.{text_then, head_text, tail_text, report_split}
+use Rattle.sg_cert.proofs.writing.put_split.Goals as goal
+
+pub returns-in-Ok : goal.returns-in-Ok
+returns-in-Ok g c = Writes-trans c.put_base.result _ _ _ c.args.block.now _ _ (spell (split_row c.args.l c.args.count)) (text_of (base_rows c.args.base.now)) c.in-Ok.ensures c.put_base.ensures
+
+pub returns-in-Err : goal.returns-in-Err
+returns-in-Err g c = Stops-early _ _ c.args.block.now (spell (split_row c.args.l c.args.count)) (text_of (base_rows c.args.base.now)) c.in-Err.ensures

@@ -1,0 +1,29 @@
+-- What a report may say of its tickets.
+use Rattle.std.specs.Prelude.{ℕ, ℤ, pos, Bool, true, false, not, ◌&&◌, ◌==◌, int_le, List, [], ◌∷◌, length}
+use Rattle.std.specs.List.{list_all}
+use Rattle.std.specs.Ordering.{nat_cmp, is_lt}
+use Rattle.std.specs.Cmp.Lexicographic.{slice_cmp}
+use Rattle.sg_model.specs.declared.ticket.Ticket.{Ticket}
+
+-- tickets and the total that is stated of them
+pub record Claimed : Type 0 where
+  pub tickets : List Ticket
+  pub total : ℤ
+
+-- whether a list of choices is as long as another and comes before it in the order of lists
+abbrev pub comes_before : List ℕ → List ℕ → Bool
+comes_before before after = length before == length after && is_lt (slice_cmp nat_cmp before after)
+
+-- whether each list of choices comes before the next
+abbrev pub is_rising : List Ticket → Bool
+is_rising [] = true
+is_rising (t ∷ []) = true
+is_rising (t ∷ u ∷ ts) = comes_before t.play.code u.play.code && is_rising (u ∷ ts)
+
+-- whether all weights are at least 1
+abbrev pub are_positive : List Ticket → Bool
+are_positive ts = list_all (λ t. int_le (pos 1) t.weight) ts
+
+-- whether there is a ticket, all weights are at least 1, and the lists of choices rise
+abbrev pub is_claim : List Ticket → Bool
+is_claim ts = not (length ts == 0) && (are_positive ts && is_rising ts)
