@@ -1,5 +1,5 @@
 use super::*;
-use sg_game::{GameFault, Kind, Parts, Place};
+use sg_game::{GameFault, Kind, ListParts, Parts, Place};
 use std::alloc::{AllocError, Global};
 use std::test::*;
 
@@ -36,6 +36,27 @@ fn refused_with(
     Ok(refused(alloc, changed.as_bytes(), reason, place))
 }
 
+fn is_name(names: &Vec<String>, i: usize, name: &str) -> bool {
+    match names.get(i) {
+        Some(it) => it.as_str() == name,
+        None => false,
+    }
+}
+
+fn is_row(rows: &Vec<Vec<i64>>, i: usize, row: &[i64]) -> bool {
+    match rows.get(i) {
+        Some(it) => it.as_slice() == row,
+        None => false,
+    }
+}
+
+fn is_list(lists: &Vec<ListParts>, i: usize, name: &str, members: &[u32]) -> bool {
+    match lists.get(i) {
+        Some(it) => it.name.as_str() == name && it.members.as_slice() == members,
+        None => false,
+    }
+}
+
 #[test]
 fn reads_two_targets(rt: HostRuntime) -> Result<(), Fail> {
     let read = read_parts(rt.alloc(), TWO_TARGETS.as_bytes());
@@ -44,16 +65,11 @@ fn reads_two_targets(rt: HostRuntime) -> Result<(), Fail> {
     assert_eq!(rt; parts.scale, Some(4));
     assert_eq!(rt; parts.patrols, Some(1));
     assert_eq!(rt; parts.goals.len(), 2);
-    assert_eq!(rt; parts.goals[1].as_str(), "hall");
-    assert_eq!(rt; parts.types[0].name.as_str(), "thief");
-    assert_eq!(rt;
-        parts.types[0].payoffs[0].as_slice(),
-        [2, -2, 0, 4].as_slice()
-    );
-    assert_eq!(rt;
-        parts.types[0].payoffs[1].as_slice(),
-        [1, -1, 0, 2].as_slice()
-    );
+    assert!(rt; is_name(&parts.goals, 1, "hall"));
+    let thief = parts.types.first().ok_or("a type")?;
+    assert_eq!(rt; thief.name.as_str(), "thief");
+    assert!(rt; is_row(&thief.payoffs, 0, &[2, -2, 0, 4]));
+    assert!(rt; is_row(&thief.payoffs, 1, &[1, -1, 0, 2]));
     Ok(())
 }
 
@@ -62,10 +78,11 @@ fn reads_a_matrix_game(rt: HostRuntime) -> Result<(), Fail> {
     let read = read_parts(rt.alloc(), MATRIX.as_bytes());
     let parts = read.ok().ok_or("a game")?;
     assert_eq!(rt; parts.kind, Kind::Matrix);
-    assert_eq!(rt; parts.goals[0].as_str(), "A");
-    assert_eq!(rt; parts.types[0].actions[1].as_str(), "y");
-    assert_eq!(rt; parts.types[0].leader[1].as_slice(), [1, 3].as_slice());
-    assert_eq!(rt; parts.types[0].follower[1].as_slice(), [0, 2].as_slice());
+    assert!(rt; is_name(&parts.goals, 0, "A"));
+    let thief = parts.types.first().ok_or("a type")?;
+    assert!(rt; is_name(&thief.actions, 1, "y"));
+    assert!(rt; is_row(&thief.leader, 1, &[1, 3]));
+    assert!(rt; is_row(&thief.follower, 1, &[0, 2]));
     Ok(())
 }
 
@@ -89,10 +106,10 @@ fn reads_listed_resources(rt: HostRuntime) -> Result<(), Fail> {
     let parts = read.ok().ok_or("a game")?;
     assert_eq!(rt; parts.scale, None);
     assert_eq!(rt; parts.patrols, None);
-    assert_eq!(rt; parts.schedules[1].name.as_str(), "b");
-    assert_eq!(rt; parts.schedules[1].members.as_slice(), [4, 3].as_slice());
-    assert_eq!(rt; parts.resources[1].members.as_slice(), [4, 3].as_slice());
-    assert_eq!(rt; parts.types[0].prior, 1_048_576);
+    assert!(rt; is_list(&parts.schedules, 1, "b", &[4, 3]));
+    assert!(rt; is_list(&parts.resources, 1, "r2", &[4, 3]));
+    let thief = parts.types.first().ok_or("a type")?;
+    assert_eq!(rt; thief.prior, 1_048_576);
     Ok(())
 }
 
