@@ -1,987 +1,285 @@
 use super::*;
 use sg_shelf::MemSink;
 use std::alloc::Global;
+use std::process::Abort;
 use std::test::*;
 
-struct Case {
-    text: &'static [u8],
-    line: u64,
-    reason: u8,
-}
+// A text, and the line and reason of its first fault.
+struct Case(&'static [u8], u64, u8);
 
 const HEAD: &'static [u8] = b"patrol-report 1\ntickets 1 1\nt 1 1\nvalue 3 1\n";
 
 // Whole texts, with the first fault that the rules give, or 0 at line 0.
 const TEXTS: &'static [Case] = &[
-    Case {
-        text: b"",
-        line: 1,
-        reason: 2,
-    },
-    Case {
-        text: b"patrol-report 1",
-        line: 1,
-        reason: 2,
-    },
-    Case {
-        text: b"patrol-report 2\n",
-        line: 1,
-        reason: 1,
-    },
-    Case {
-        text: b"patrol-report 1 \n",
-        line: 1,
-        reason: 1,
-    },
-    Case {
-        text: b"\n",
-        line: 1,
-        reason: 1,
-    },
-    Case {
-        text: b"patrol-report 2",
-        line: 1,
-        reason: 2,
-    },
-    Case {
-        text: b"patrol-report 1\n",
-        line: 2,
-        reason: 2,
-    },
-    Case {
-        text: b"patrol-report 1\n\n",
-        line: 2,
-        reason: 3,
-    },
-    Case {
-        text: b"patrol-report 1\nticket 1 1\n",
-        line: 2,
-        reason: 3,
-    },
-    Case {
-        text: b"patrol-report 1\ntickets 1\n",
-        line: 2,
-        reason: 4,
-    },
-    Case {
-        text: b"patrol-report 1\ntickets 1 1 1\n",
-        line: 2,
-        reason: 4,
-    },
-    Case {
-        text: b"patrol-report 1\ntickets 1 x\n",
-        line: 2,
-        reason: 5,
-    },
-    Case {
-        text: b"patrol-report 1\ntickets 02 3\n",
-        line: 2,
-        reason: 5,
-    },
-    Case {
-        text: b"patrol-report 1\ntickets 0 1\n",
-        line: 2,
-        reason: 6,
-    },
-    Case {
-        text: b"patrol-report 1\ntickets 0 x\n",
-        line: 2,
-        reason: 5,
-    },
-    Case {
-        text: b"patrol-report 1\ntickets 1 -5\n",
-        line: 3,
-        reason: 2,
-    },
-    Case {
-        text: b"patrol-report 1\ntickets 170141183460469231731687303715884105728 1\n",
-        line: 2,
-        reason: 6,
-    },
-    Case {
-        text: b"patrol-report 1\ntickets 1 170141183460469231731687303715884105728\n",
-        line: 2,
-        reason: 6,
-    },
-    Case {
-        text: b"patrol-report 1\ntickets 1 -170141183460469231731687303715884105728\n",
-        line: 3,
-        reason: 2,
-    },
-    Case {
-        text: b"patrol-report 1\ntickets 1 -170141183460469231731687303715884105729\n",
-        line: 2,
-        reason: 6,
-    },
-    Case {
-        text: b"patrol-report 1\ntickets 1 1\nt 0 1\n",
-        line: 3,
-        reason: 6,
-    },
-    Case {
-        text: b"patrol-report 1\ntickets 1 1\nt -1 1\n",
-        line: 3,
-        reason: 6,
-    },
-    Case {
-        text: b"patrol-report 1\ntickets 1 1\nt 1 65536\n",
-        line: 3,
-        reason: 6,
-    },
-    Case {
-        text: b"patrol-report 1\ntickets 1 1\nt 1 65535\n",
-        line: 4,
-        reason: 2,
-    },
-    Case {
-        text: b"patrol-report 1\ntickets 1 1\nt\n",
-        line: 3,
-        reason: 4,
-    },
-    Case {
-        text: b"patrol-report 1\ntickets 1 1\nt 1\n",
-        line: 4,
-        reason: 2,
-    },
-    Case {
-        text: b"patrol-report 1\ntickets 1 1\nt 1 x\n",
-        line: 3,
-        reason: 5,
-    },
-    Case {
-        text: b"patrol-report 1\ntickets 1 1\nt 1 -1\n",
-        line: 3,
-        reason: 6,
-    },
-    Case {
-        text: b"patrol-report 1\ntickets 1 1\nx 1 1\n",
-        line: 3,
-        reason: 3,
-    },
-    Case {
-        text: b"patrol-report 1\ntickets 2 3\nt 2 1\nt 1 1\n",
-        line: 4,
-        reason: 7,
-    },
-    Case {
-        text: b"patrol-report 1\ntickets 2 3\nt 2 2\nt 1 1\n",
-        line: 4,
-        reason: 7,
-    },
-    Case {
-        text: b"patrol-report 1\ntickets 2 3\nt 2 1\nt 1 1 1\n",
-        line: 4,
-        reason: 7,
-    },
-    Case {
-        text: b"patrol-report 1\ntickets 2 3\nt 2 1 2\nt 1 2\n",
-        line: 4,
-        reason: 7,
-    },
-    Case {
-        text: b"patrol-report 1\ntickets 2 3\nt 2 1\nt 0 1\n",
-        line: 4,
-        reason: 6,
-    },
-    Case {
-        text: b"patrol-report 1\ntickets 2 3\nt 2\nt 1\n",
-        line: 4,
-        reason: 7,
-    },
-    Case {
-        text: b"patrol-report 1\ntickets 2 3\nt 2 1 9\nt 1 2 0\n",
-        line: 5,
-        reason: 2,
-    },
-    Case {
-        text: b"patrol-report 1\ntickets 2 3\nt 2 1\nvalue 1 1\n",
-        line: 4,
-        reason: 3,
-    },
-    Case {
-        text: b"patrol-report 1\ntickets 2 3\nt 0 1\nt 1\n",
-        line: 3,
-        reason: 6,
-    },
-    Case {
-        text: b"patrol-report 1\ntickets 1 1\nt 1 1\nvalue 1\n",
-        line: 4,
-        reason: 4,
-    },
-    Case {
-        text: b"patrol-report 1\ntickets 1 1\nt 1 1\nvalue 2 4\n",
-        line: 4,
-        reason: 6,
-    },
-    Case {
-        text: b"patrol-report 1\ntickets 1 1\nt 1 1\nvalue 1 0\n",
-        line: 4,
-        reason: 6,
-    },
-    Case {
-        text: b"patrol-report 1\ntickets 1 1\nt 1 1\nvalue 0 1\n",
-        line: 5,
-        reason: 2,
-    },
-    Case {
-        text: b"patrol-report 1\ntickets 1 1\nt 1 1\nvalue 0 2\n",
-        line: 4,
-        reason: 6,
-    },
-    Case {
-        text: b"patrol-report 1\ntickets 1 1\nt 1 1\nvalue -1 2\n",
-        line: 5,
-        reason: 2,
-    },
-    Case {
-        text: b"patrol-report 1\ntickets 1 1\nt 1 1\nvalue 1 -1\n",
-        line: 4,
-        reason: 6,
-    },
-    Case {
-        text: b"patrol-report 1\ntickets 1 1\nt 1 1\nvalues 1 1\n",
-        line: 4,
-        reason: 3,
-    },
+    Case(b"", 1, 2),
+    Case(b"patrol-report 1", 1, 2),
+    Case(b"patrol-report 2\n", 1, 1),
+    Case(b"patrol-report 1 \n", 1, 1),
+    Case(b"\n", 1, 1),
+    Case(b"patrol-report 2", 1, 2),
+    Case(b"patrol-report 1\n", 2, 2),
+    Case(b"patrol-report 1\n\n", 2, 3),
+    Case(b"patrol-report 1\nticket 1 1\n", 2, 3),
+    Case(b"patrol-report 1\ntickets 1\n", 2, 4),
+    Case(b"patrol-report 1\ntickets 1 1 1\n", 2, 4),
+    Case(b"patrol-report 1\ntickets 1 x\n", 2, 5),
+    Case(b"patrol-report 1\ntickets 02 3\n", 2, 5),
+    Case(b"patrol-report 1\ntickets 0 1\n", 2, 6),
+    Case(b"patrol-report 1\ntickets 0 x\n", 2, 5),
+    Case(b"patrol-report 1\ntickets 1 -5\n", 3, 2),
+    Case(
+        b"patrol-report 1\ntickets 170141183460469231731687303715884105728 1\n",
+        2,
+        6,
+    ),
+    Case(
+        b"patrol-report 1\ntickets 1 170141183460469231731687303715884105728\n",
+        2,
+        6,
+    ),
+    Case(
+        b"patrol-report 1\ntickets 1 -170141183460469231731687303715884105728\n",
+        3,
+        2,
+    ),
+    Case(
+        b"patrol-report 1\ntickets 1 -170141183460469231731687303715884105729\n",
+        2,
+        6,
+    ),
+    Case(b"patrol-report 1\ntickets 1 1\nt 0 1\n", 3, 6),
+    Case(b"patrol-report 1\ntickets 1 1\nt -1 1\n", 3, 6),
+    Case(b"patrol-report 1\ntickets 1 1\nt 1 65536\n", 3, 6),
+    Case(b"patrol-report 1\ntickets 1 1\nt 1 65535\n", 4, 2),
+    Case(b"patrol-report 1\ntickets 1 1\nt\n", 3, 4),
+    Case(b"patrol-report 1\ntickets 1 1\nt 1\n", 4, 2),
+    Case(b"patrol-report 1\ntickets 1 1\nt 1 x\n", 3, 5),
+    Case(b"patrol-report 1\ntickets 1 1\nt 1 -1\n", 3, 6),
+    Case(b"patrol-report 1\ntickets 1 1\nx 1 1\n", 3, 3),
+    Case(b"patrol-report 1\ntickets 2 3\nt 2 1\nt 1 1\n", 4, 7),
+    Case(b"patrol-report 1\ntickets 2 3\nt 2 2\nt 1 1\n", 4, 7),
+    Case(b"patrol-report 1\ntickets 2 3\nt 2 1\nt 1 1 1\n", 4, 7),
+    Case(b"patrol-report 1\ntickets 2 3\nt 2 1 2\nt 1 2\n", 4, 7),
+    Case(b"patrol-report 1\ntickets 2 3\nt 2 1\nt 0 1\n", 4, 6),
+    Case(b"patrol-report 1\ntickets 2 3\nt 2\nt 1\n", 4, 7),
+    Case(b"patrol-report 1\ntickets 2 3\nt 2 1 9\nt 1 2 0\n", 5, 2),
+    Case(b"patrol-report 1\ntickets 2 3\nt 2 1\nvalue 1 1\n", 4, 3),
+    Case(b"patrol-report 1\ntickets 2 3\nt 0 1\nt 1\n", 3, 6),
+    Case(b"patrol-report 1\ntickets 1 1\nt 1 1\nvalue 1\n", 4, 4),
+    Case(b"patrol-report 1\ntickets 1 1\nt 1 1\nvalue 2 4\n", 4, 6),
+    Case(b"patrol-report 1\ntickets 1 1\nt 1 1\nvalue 1 0\n", 4, 6),
+    Case(b"patrol-report 1\ntickets 1 1\nt 1 1\nvalue 0 1\n", 5, 2),
+    Case(b"patrol-report 1\ntickets 1 1\nt 1 1\nvalue 0 2\n", 4, 6),
+    Case(b"patrol-report 1\ntickets 1 1\nt 1 1\nvalue -1 2\n", 5, 2),
+    Case(b"patrol-report 1\ntickets 1 1\nt 1 1\nvalue 1 -1\n", 4, 6),
+    Case(b"patrol-report 1\ntickets 1 1\nt 1 1\nvalues 1 1\n", 4, 3),
 ];
 
 // Texts behind the four lines of the head.
 const TAILS: &'static [Case] = &[
-    Case {
-        text: b"",
-        line: 5,
-        reason: 2,
-    },
-    Case {
-        text: b"open",
-        line: 5,
-        reason: 2,
-    },
-    Case {
-        text: b"open\n",
-        line: 6,
-        reason: 2,
-    },
-    Case {
-        text: b"\n",
-        line: 5,
-        reason: 3,
-    },
-    Case {
-        text: b" open\n",
-        line: 5,
-        reason: 3,
-    },
-    Case {
-        text: b"open \n",
-        line: 5,
-        reason: 4,
-    },
-    Case {
-        text: b"open\r\n",
-        line: 5,
-        reason: 3,
-    },
-    Case {
-        text: b"open\t\n",
-        line: 5,
-        reason: 3,
-    },
-    Case {
-        text: b"Open\n",
-        line: 5,
-        reason: 3,
-    },
-    Case {
-        text: b"plays 1 2\n",
-        line: 5,
-        reason: 4,
-    },
-    Case {
-        text: b"plays 1 2 0 0\n",
-        line: 5,
-        reason: 4,
-    },
-    Case {
-        text: b"plays  1 2\n",
-        line: 5,
-        reason: 5,
-    },
-    Case {
-        text: b"plays +1 2 0\n",
-        line: 5,
-        reason: 5,
-    },
-    Case {
-        text: b"plays -0 2 0\n",
-        line: 5,
-        reason: 5,
-    },
-    Case {
-        text: b"plays 00 2 0\n",
-        line: 5,
-        reason: 5,
-    },
-    Case {
-        text: b"plays 1. 2 0\n",
-        line: 5,
-        reason: 5,
-    },
-    Case {
-        text: b"plays - 2 0\n",
-        line: 5,
-        reason: 5,
-    },
-    Case {
-        text: b"plays 0 2 0\n",
-        line: 5,
-        reason: 6,
-    },
-    Case {
-        text: b"plays 1 -1 0\n",
-        line: 5,
-        reason: 6,
-    },
-    Case {
-        text: b"plays 1 0 -1\n",
-        line: 5,
-        reason: 6,
-    },
-    Case {
-        text: b"plays 170141183460469231731687303715884105727 0 0\n",
-        line: 6,
-        reason: 2,
-    },
-    Case {
-        text: b"plays 170141183460469231731687303715884105728 0 0\n",
-        line: 5,
-        reason: 6,
-    },
-    Case {
-        text: b"plays 1 2 1\n",
-        line: 6,
-        reason: 2,
-    },
-    Case {
-        text: b"plays 1 2 1\nc 1 1\n",
-        line: 6,
-        reason: 3,
-    },
-    Case {
-        text: b"plays 1 2 1\nm 1 1\n",
-        line: 6,
-        reason: 4,
-    },
-    Case {
-        text: b"plays 1 2 1\nm x 1 1\n",
-        line: 6,
-        reason: 5,
-    },
-    Case {
-        text: b"plays 1 2 1\nm 9 1 1\n",
-        line: 6,
-        reason: 6,
-    },
-    Case {
-        text: b"plays 1 2 1\nm 0 1 1\n",
-        line: 6,
-        reason: 6,
-    },
-    Case {
-        text: b"plays 1 2 1\nm 1 65536 1\n",
-        line: 6,
-        reason: 6,
-    },
-    Case {
-        text: b"plays 1 2 1\nm 8 65535 1\n",
-        line: 7,
-        reason: 2,
-    },
-    Case {
-        text: b"plays 1 2 1\nm 1 1 0\n",
-        line: 6,
-        reason: 6,
-    },
-    Case {
-        text: b"plays 1 2 2\nm 1 2 1\nm 1 2 1\n",
-        line: 7,
-        reason: 7,
-    },
-    Case {
-        text: b"plays 1 2 2\nm 2 1 1\nm 1 2 1\n",
-        line: 7,
-        reason: 7,
-    },
-    Case {
-        text: b"plays 1 2 2\nm 1 2 1\nm 2 1 1\n",
-        line: 8,
-        reason: 2,
-    },
-    Case {
-        text: b"plays 1 2 1\nm 9 x 1\n",
-        line: 6,
-        reason: 5,
-    },
-    Case {
-        text: b"plays 1 2 1\nx 9 x\n",
-        line: 6,
-        reason: 3,
-    },
-    Case {
-        text: b"plays 1 2 1\nm 9 x\n",
-        line: 6,
-        reason: 4,
-    },
-    Case {
-        text: b"plays 1 2 2\nm 1 2 1\nm 1 2 0\n",
-        line: 7,
-        reason: 6,
-    },
-    Case {
-        text: b"plays 1 2 2\nm 0 1 1\nm 1 1\n",
-        line: 6,
-        reason: 6,
-    },
-    Case {
-        text: b"cover 1 2 2\nc 5 1\nc 5 1\n",
-        line: 7,
-        reason: 7,
-    },
-    Case {
-        text: b"cover 1 2 2\nc 5 1\nc 4 1\n",
-        line: 7,
-        reason: 7,
-    },
-    Case {
-        text: b"cover 1 2 2\nc 5 1\nc 6 1\n",
-        line: 8,
-        reason: 2,
-    },
-    Case {
-        text: b"cover 1 2 1\nc 1536 1\n",
-        line: 6,
-        reason: 6,
-    },
-    Case {
-        text: b"cover 1 2 1\nc 1535 1\n",
-        line: 7,
-        reason: 2,
-    },
-    Case {
-        text: b"cover 1 2 1\nc 0 1\n",
-        line: 6,
-        reason: 6,
-    },
-    Case {
-        text: b"cover 1 2 1\nm 1 1 1\n",
-        line: 6,
-        reason: 3,
-    },
-    Case {
-        text: b"cover 1 2 1\nc 1\n",
-        line: 6,
-        reason: 4,
-    },
-    Case {
-        text: b"cover 1 2\n",
-        line: 5,
-        reason: 4,
-    },
-    Case {
-        text: b"water 2 4 resources\n",
-        line: 5,
-        reason: 6,
-    },
-    Case {
-        text: b"water 4 0 resources\n",
-        line: 5,
-        reason: 6,
-    },
-    Case {
-        text: b"water 1 -1 resources\n",
-        line: 5,
-        reason: 6,
-    },
-    Case {
-        text: b"water 0 1 resources\n",
-        line: 6,
-        reason: 2,
-    },
-    Case {
-        text: b"water -1 2 resources\n",
-        line: 6,
-        reason: 2,
-    },
-    Case {
-        text: b"water 0 2 resources\n",
-        line: 5,
-        reason: 6,
-    },
-    Case {
-        text: b"water 1 2 foo\n",
-        line: 5,
-        reason: 3,
-    },
-    Case {
-        text: b"water 1 2\n",
-        line: 5,
-        reason: 4,
-    },
-    Case {
-        text: b"water 1 2 target\n",
-        line: 5,
-        reason: 4,
-    },
-    Case {
-        text: b"water 1 2 target 0\n",
-        line: 5,
-        reason: 6,
-    },
-    Case {
-        text: b"water 1 2 target 65535\n",
-        line: 6,
-        reason: 2,
-    },
-    Case {
-        text: b"water 1 2 target 65536\n",
-        line: 5,
-        reason: 6,
-    },
-    Case {
-        text: b"water 1 2 resources 1\n",
-        line: 5,
-        reason: 4,
-    },
-    Case {
-        text: b"water x 2 foo\n",
-        line: 5,
-        reason: 3,
-    },
-    Case {
-        text: b"water x 2 target\n",
-        line: 5,
-        reason: 4,
-    },
-    Case {
-        text: b"water x 2 target 1\n",
-        line: 5,
-        reason: 5,
-    },
-    Case {
-        text: b"split 1 2\nsplit 1 2\n",
-        line: 6,
-        reason: 3,
-    },
-    Case {
-        text: b"split 1 0\n",
-        line: 5,
-        reason: 6,
-    },
-    Case {
-        text: b"split 9 1\n",
-        line: 5,
-        reason: 6,
-    },
-    Case {
-        text: b"split 1 65536\n",
-        line: 5,
-        reason: 6,
-    },
-    Case {
-        text: b"split 1\n",
-        line: 5,
-        reason: 4,
-    },
-    Case {
-        text: b"split 1 1\nopen\n",
-        line: 7,
-        reason: 2,
-    },
-    Case {
-        text: b"split 1 1\nopen\nopen\n",
-        line: 8,
-        reason: 2,
-    },
-    Case {
-        text: b"split 1 1\ncap 2 plain 4\n",
-        line: 6,
-        reason: 3,
-    },
-    Case {
-        text: b"fact 1 2 0\n",
-        line: 5,
-        reason: 3,
-    },
-    Case {
-        text: b"cap 2 plain 4\n",
-        line: 6,
-        reason: 2,
-    },
-    Case {
-        text: b"cap\n",
-        line: 5,
-        reason: 4,
-    },
-    Case {
-        text: b"cap 2\n",
-        line: 5,
-        reason: 4,
-    },
-    Case {
-        text: b"cap 2 foo x x x x\n",
-        line: 5,
-        reason: 3,
-    },
-    Case {
-        text: b"cap 2 plain\n",
-        line: 5,
-        reason: 4,
-    },
-    Case {
-        text: b"cap 2 plain 4 4\n",
-        line: 5,
-        reason: 4,
-    },
-    Case {
-        text: b"cap 0 plain 4\n",
-        line: 5,
-        reason: 6,
-    },
-    Case {
-        text: b"cap 9 plain 4\n",
-        line: 5,
-        reason: 6,
-    },
-    Case {
-        text: b"cap 2 plain 9223372036854775807\n",
-        line: 6,
-        reason: 2,
-    },
-    Case {
-        text: b"cap 2 plain 9223372036854775808\n",
-        line: 5,
-        reason: 6,
-    },
-    Case {
-        text: b"cap 2 plain -9223372036854775808\n",
-        line: 6,
-        reason: 2,
-    },
-    Case {
-        text: b"cap 2 plain -9223372036854775809\n",
-        line: 5,
-        reason: 6,
-    },
-    Case {
-        text: b"cap 2 proved 4\n",
-        line: 5,
-        reason: 4,
-    },
-    Case {
-        text: b"cap 2 proved 4 0\n",
-        line: 5,
-        reason: 6,
-    },
-    Case {
-        text: b"cap 2 proved 4 1\nopen\n",
-        line: 6,
-        reason: 3,
-    },
-    Case {
-        text: b"cap 2 proved 4 1\nplays 1 2 0\ncap 2 plain x\n",
-        line: 7,
-        reason: 5,
-    },
-    Case {
-        text: b"open\ncap 2 plain 4\n",
-        line: 6,
-        reason: 3,
-    },
-    Case {
-        text: b"open\nupper 4\n",
-        line: 6,
-        reason: 4,
-    },
-    Case {
-        text: b"open\nuppe 4 1\n",
-        line: 6,
-        reason: 3,
-    },
-    Case {
-        text: b"open\nupper 2 4\n",
-        line: 6,
-        reason: 6,
-    },
-    Case {
-        text: b"open\nupper 4 1\nverdict\n",
-        line: 7,
-        reason: 4,
-    },
-    Case {
-        text: b"open\nupper 4 1\nverdict x\n",
-        line: 7,
-        reason: 3,
-    },
-    Case {
-        text: b"open\nupper 4 1\nx optimal\n",
-        line: 7,
-        reason: 3,
-    },
-    Case {
-        text: b"open\nupper 4 1\nverdict optimal 1\n",
-        line: 7,
-        reason: 4,
-    },
-    Case {
-        text: b"open\nupper 4 1\nverdict gap\n",
-        line: 7,
-        reason: 4,
-    },
-    Case {
-        text: b"open\nupper 4 1\nverdict gap foo\n",
-        line: 7,
-        reason: 3,
-    },
-    Case {
-        text: b"open\nupper 4 1\nverdict foo nodes 1\n",
-        line: 7,
-        reason: 3,
-    },
-    Case {
-        text: b"open\nupper 4 1\nverdict gap nodes\n",
-        line: 7,
-        reason: 4,
-    },
-    Case {
-        text: b"open\nupper 4 1\nverdict gap nodes x\n",
-        line: 7,
-        reason: 5,
-    },
-    Case {
-        text: b"open\nupper 4 1\nverdict gap nodes 0\n",
-        line: 7,
-        reason: 6,
-    },
-    Case {
-        text: b"open\nupper 4 1\nverdict gap nodes 18446744073709551615\n",
-        line: 8,
-        reason: 2,
-    },
-    Case {
-        text: b"open\nupper 4 1\nverdict gap nodes 18446744073709551616\n",
-        line: 7,
-        reason: 6,
-    },
-    Case {
-        text: b"open\nupper 4 1\nverdict gap nodes 1 1\n",
-        line: 7,
-        reason: 4,
-    },
-    Case {
-        text: b"open\nupper 4 1\nverdict gap pivots 1 1 1 2\n",
-        line: 8,
-        reason: 2,
-    },
-    Case {
-        text: b"open\nupper 4 1\nverdict gap pivots 1 1 1\n",
-        line: 7,
-        reason: 4,
-    },
-    Case {
-        text: b"open\nupper 4 1\nverdict gap pivots 1 1 2 2\n",
-        line: 7,
-        reason: 4,
-    },
-    Case {
-        text: b"open\nupper 4 1\nverdict gap pivots 1 1 9 1 1 1 1 1 1 1 1 1\n",
-        line: 7,
-        reason: 6,
-    },
-    Case {
-        text: b"open\nupper 4 1\nverdict gap pivots 1 1 9 1\n",
-        line: 7,
-        reason: 4,
-    },
-    Case {
-        text: b"open\nupper 4 1\nverdict gap pivots 1 1 -1\n",
-        line: 7,
-        reason: 6,
-    },
-    Case {
-        text: b"open\nupper 4 1\nverdict gap pivots 1 1 x\n",
-        line: 7,
-        reason: 5,
-    },
-    Case {
-        text: b"open\nupper 4 1\nverdict gap pivots x 1 -1\n",
-        line: 7,
-        reason: 5,
-    },
-    Case {
-        text: b"open\nupper 4 1\nverdict gap pivots 1 1\n",
-        line: 7,
-        reason: 4,
-    },
-    Case {
-        text: b"open\nupper 4 1\nverdict gap pivots 1 1 0\n",
-        line: 7,
-        reason: 6,
-    },
-    Case {
-        text: b"open\nupper 4 1\nverdict gap pivots 1 1 00\n",
-        line: 7,
-        reason: 5,
-    },
-    Case {
-        text: b"open\nupper 4 1\nverdict gap pivots 1 1 1 65535\n",
-        line: 8,
-        reason: 2,
-    },
-    Case {
-        text: b"open\nupper 4 1\nverdict gap pivots 1 1 1 65536\n",
-        line: 7,
-        reason: 6,
-    },
-    Case {
-        text: b"open\nupper 4 1\nverdict gap pivots 1 1 1 0\n",
-        line: 7,
-        reason: 6,
-    },
-    Case {
-        text: b"open\nupper 4 1\nverdict gap pivots 1 9 1 1\n",
-        line: 7,
-        reason: 6,
-    },
-    Case {
-        text: b"open\nupper 4 1\nverdict gap pivots 1 1 170141183460469231731687303715884105728 1\n",
-        line: 7,
-        reason: 4,
-    },
-    Case {
-        text: b"open\nupper 4 1\nverdict gap pivots 1 1 8 1 1 1 1 1 1 1 1\n",
-        line: 8,
-        reason: 2,
-    },
-    Case {
-        text: b"open\nupper 4 1\nverdict gap looks 1 0 1 1 2\n",
-        line: 8,
-        reason: 2,
-    },
-    Case {
-        text: b"open\nupper 4 1\nverdict gap looks 1 18446744073709551616 1 1 2\n",
-        line: 7,
-        reason: 6,
-    },
-    Case {
-        text: b"open\nupper 4 1\nverdict gap looks 0 1 1 1 2\n",
-        line: 7,
-        reason: 6,
-    },
-    Case {
-        text: b"open\nupper 4 1\nverdict gap looks 1 0 1 1\n",
-        line: 7,
-        reason: 4,
-    },
-    Case {
-        text: b"open\nupper 4 1\nverdict gap looks 1 -1 1 1 2\n",
-        line: 7,
-        reason: 6,
-    },
-    Case {
-        text: b"open\nupper 4 1\nverdict gap wide 1 sum 1 2 0 1 1 2\n",
-        line: 8,
-        reason: 2,
-    },
-    Case {
-        text: b"open\nupper 4 1\nverdict gap wide 7 less 1 2 0 2 1 2\n",
-        line: 8,
-        reason: 2,
-    },
-    Case {
-        text: b"open\nupper 4 1\nverdict gap wide 1 foo\n",
-        line: 7,
-        reason: 3,
-    },
-    Case {
-        text: b"open\nupper 4 1\nverdict gap wide 1\n",
-        line: 7,
-        reason: 4,
-    },
-    Case {
-        text: b"open\nupper 4 1\nverdict gap wide\n",
-        line: 7,
-        reason: 4,
-    },
-    Case {
-        text: b"open\nupper 4 1\nverdict gap wide 8 sum 1 2 0 1 1 2\n",
-        line: 7,
-        reason: 6,
-    },
-    Case {
-        text: b"open\nupper 4 1\nverdict gap wide 0 sum 1 2 0 1 1 2\n",
-        line: 7,
-        reason: 6,
-    },
-    Case {
-        text: b"open\nupper 4 1\nverdict gap wide x less 1 2 0 1 1 2\n",
-        line: 7,
-        reason: 5,
-    },
-    Case {
-        text: b"open\nupper 4 1\nverdict gap wide x foo 1 2 0 1 1 2\n",
-        line: 7,
-        reason: 3,
-    },
-    Case {
-        text: b"open\nupper 4 1\nverdict gap wide 1 times 170141183460469231731687303715884105727 -170141183460469231731687303715884105728 0 1 1 2\n",
-        line: 8,
-        reason: 2,
-    },
-    Case {
-        text: b"open\nupper 4 1\nverdict gap wide 1 sum 1 2 0 1 2 2\n",
-        line: 7,
-        reason: 4,
-    },
-    Case {
-        text: b"open\nupper 4 1\nverdict optimal\nen\n",
-        line: 8,
-        reason: 3,
-    },
-    Case {
-        text: b"open\nupper 4 1\nverdict optimal\nend x\n",
-        line: 8,
-        reason: 4,
-    },
-    Case {
-        text: b"open\nupper 4 1\nverdict optimal\nend",
-        line: 8,
-        reason: 2,
-    },
-    Case {
-        text: b"open\nupper 4 1\nverdict optimal\nend\n",
-        line: 0,
-        reason: 0,
-    },
-    Case {
-        text: b"open\nupper 4 1\nverdict optimal\nend\n\n",
-        line: 9,
-        reason: 9,
-    },
-    Case {
-        text: b"open\nupper 4 1\nverdict optimal\nend\nx",
-        line: 9,
-        reason: 9,
-    },
-    Case {
-        text: b"open\nupper 4 1\nverdict optimal\nend\nend\n",
-        line: 9,
-        reason: 9,
-    },
-    Case {
-        text: b"open\nupper 4 1\nverdict optimal\n\n",
-        line: 8,
-        reason: 3,
-    },
+    Case(b"", 5, 2),
+    Case(b"open", 5, 2),
+    Case(b"open\n", 6, 2),
+    Case(b"\n", 5, 3),
+    Case(b" open\n", 5, 3),
+    Case(b"open \n", 5, 4),
+    Case(b"open\r\n", 5, 3),
+    Case(b"open\t\n", 5, 3),
+    Case(b"Open\n", 5, 3),
+    Case(b"plays 1 2\n", 5, 4),
+    Case(b"plays 1 2 0 0\n", 5, 4),
+    Case(b"plays  1 2\n", 5, 5),
+    Case(b"plays +1 2 0\n", 5, 5),
+    Case(b"plays -0 2 0\n", 5, 5),
+    Case(b"plays 00 2 0\n", 5, 5),
+    Case(b"plays 1. 2 0\n", 5, 5),
+    Case(b"plays - 2 0\n", 5, 5),
+    Case(b"plays 0 2 0\n", 5, 6),
+    Case(b"plays 1 -1 0\n", 5, 6),
+    Case(b"plays 1 0 -1\n", 5, 6),
+    Case(b"plays 170141183460469231731687303715884105727 0 0\n", 6, 2),
+    Case(b"plays 170141183460469231731687303715884105728 0 0\n", 5, 6),
+    Case(b"plays 1 2 1\n", 6, 2),
+    Case(b"plays 1 2 1\nc 1 1\n", 6, 3),
+    Case(b"plays 1 2 1\nm 1 1\n", 6, 4),
+    Case(b"plays 1 2 1\nm x 1 1\n", 6, 5),
+    Case(b"plays 1 2 1\nm 9 1 1\n", 6, 6),
+    Case(b"plays 1 2 1\nm 0 1 1\n", 6, 6),
+    Case(b"plays 1 2 1\nm 1 65536 1\n", 6, 6),
+    Case(b"plays 1 2 1\nm 8 65535 1\n", 7, 2),
+    Case(b"plays 1 2 1\nm 1 1 0\n", 6, 6),
+    Case(b"plays 1 2 2\nm 1 2 1\nm 1 2 1\n", 7, 7),
+    Case(b"plays 1 2 2\nm 2 1 1\nm 1 2 1\n", 7, 7),
+    Case(b"plays 1 2 2\nm 1 2 1\nm 2 1 1\n", 8, 2),
+    Case(b"plays 1 2 1\nm 9 x 1\n", 6, 5),
+    Case(b"plays 1 2 1\nx 9 x\n", 6, 3),
+    Case(b"plays 1 2 1\nm 9 x\n", 6, 4),
+    Case(b"plays 1 2 2\nm 1 2 1\nm 1 2 0\n", 7, 6),
+    Case(b"plays 1 2 2\nm 0 1 1\nm 1 1\n", 6, 6),
+    Case(b"cover 1 2 2\nc 5 1\nc 5 1\n", 7, 7),
+    Case(b"cover 1 2 2\nc 5 1\nc 4 1\n", 7, 7),
+    Case(b"cover 1 2 2\nc 5 1\nc 6 1\n", 8, 2),
+    Case(b"cover 1 2 1\nc 1536 1\n", 6, 6),
+    Case(b"cover 1 2 1\nc 1535 1\n", 7, 2),
+    Case(b"cover 1 2 1\nc 0 1\n", 6, 6),
+    Case(b"cover 1 2 1\nm 1 1 1\n", 6, 3),
+    Case(b"cover 1 2 1\nc 1\n", 6, 4),
+    Case(b"cover 1 2\n", 5, 4),
+    Case(b"water 2 4 resources\n", 5, 6),
+    Case(b"water 4 0 resources\n", 5, 6),
+    Case(b"water 1 -1 resources\n", 5, 6),
+    Case(b"water 0 1 resources\n", 6, 2),
+    Case(b"water -1 2 resources\n", 6, 2),
+    Case(b"water 0 2 resources\n", 5, 6),
+    Case(b"water 1 2 foo\n", 5, 3),
+    Case(b"water 1 2\n", 5, 4),
+    Case(b"water 1 2 target\n", 5, 4),
+    Case(b"water 1 2 target 0\n", 5, 6),
+    Case(b"water 1 2 target 65535\n", 6, 2),
+    Case(b"water 1 2 target 65536\n", 5, 6),
+    Case(b"water 1 2 resources 1\n", 5, 4),
+    Case(b"water x 2 foo\n", 5, 3),
+    Case(b"water x 2 target\n", 5, 4),
+    Case(b"water x 2 target 1\n", 5, 5),
+    Case(b"split 1 2\nsplit 1 2\n", 6, 3),
+    Case(b"split 1 0\n", 5, 6),
+    Case(b"split 9 1\n", 5, 6),
+    Case(b"split 1 65536\n", 5, 6),
+    Case(b"split 1\n", 5, 4),
+    Case(b"split 1 1\nopen\n", 7, 2),
+    Case(b"split 1 1\nopen\nopen\n", 8, 2),
+    Case(b"split 1 1\ncap 2 plain 4\n", 6, 3),
+    Case(b"fact 1 2 0\n", 5, 3),
+    Case(b"cap 2 plain 4\n", 6, 2),
+    Case(b"cap\n", 5, 4),
+    Case(b"cap 2\n", 5, 4),
+    Case(b"cap 2 foo x x x x\n", 5, 3),
+    Case(b"cap 2 plain\n", 5, 4),
+    Case(b"cap 2 plain 4 4\n", 5, 4),
+    Case(b"cap 0 plain 4\n", 5, 6),
+    Case(b"cap 9 plain 4\n", 5, 6),
+    Case(b"cap 2 plain 9223372036854775807\n", 6, 2),
+    Case(b"cap 2 plain 9223372036854775808\n", 5, 6),
+    Case(b"cap 2 plain -9223372036854775808\n", 6, 2),
+    Case(b"cap 2 plain -9223372036854775809\n", 5, 6),
+    Case(b"cap 2 proved 4\n", 5, 4),
+    Case(b"cap 2 proved 4 0\n", 5, 6),
+    Case(b"cap 2 proved 4 1\nopen\n", 6, 3),
+    Case(b"cap 2 proved 4 1\nplays 1 2 0\ncap 2 plain x\n", 7, 5),
+    Case(b"open\ncap 2 plain 4\n", 6, 3),
+    Case(b"open\nupper 4\n", 6, 4),
+    Case(b"open\nuppe 4 1\n", 6, 3),
+    Case(b"open\nupper 2 4\n", 6, 6),
+    Case(b"open\nupper 4 1\nverdict\n", 7, 4),
+    Case(b"open\nupper 4 1\nverdict x\n", 7, 3),
+    Case(b"open\nupper 4 1\nx optimal\n", 7, 3),
+    Case(b"open\nupper 4 1\nverdict optimal 1\n", 7, 4),
+    Case(b"open\nupper 4 1\nverdict gap\n", 7, 4),
+    Case(b"open\nupper 4 1\nverdict gap foo\n", 7, 3),
+    Case(b"open\nupper 4 1\nverdict foo nodes 1\n", 7, 3),
+    Case(b"open\nupper 4 1\nverdict gap nodes\n", 7, 4),
+    Case(b"open\nupper 4 1\nverdict gap nodes x\n", 7, 5),
+    Case(b"open\nupper 4 1\nverdict gap nodes 0\n", 7, 6),
+    Case(
+        b"open\nupper 4 1\nverdict gap nodes 18446744073709551615\n",
+        8,
+        2,
+    ),
+    Case(
+        b"open\nupper 4 1\nverdict gap nodes 18446744073709551616\n",
+        7,
+        6,
+    ),
+    Case(b"open\nupper 4 1\nverdict gap nodes 1 1\n", 7, 4),
+    Case(b"open\nupper 4 1\nverdict gap pivots 1 1 1 2\n", 8, 2),
+    Case(b"open\nupper 4 1\nverdict gap pivots 1 1 1\n", 7, 4),
+    Case(b"open\nupper 4 1\nverdict gap pivots 1 1 2 2\n", 7, 4),
+    Case(
+        b"open\nupper 4 1\nverdict gap pivots 1 1 9 1 1 1 1 1 1 1 1 1\n",
+        7,
+        6,
+    ),
+    Case(b"open\nupper 4 1\nverdict gap pivots 1 1 9 1\n", 7, 4),
+    Case(b"open\nupper 4 1\nverdict gap pivots 1 1 -1\n", 7, 6),
+    Case(b"open\nupper 4 1\nverdict gap pivots 1 1 x\n", 7, 5),
+    Case(b"open\nupper 4 1\nverdict gap pivots x 1 -1\n", 7, 5),
+    Case(b"open\nupper 4 1\nverdict gap pivots 1 1\n", 7, 4),
+    Case(b"open\nupper 4 1\nverdict gap pivots 1 1 0\n", 7, 6),
+    Case(b"open\nupper 4 1\nverdict gap pivots 1 1 00\n", 7, 5),
+    Case(b"open\nupper 4 1\nverdict gap pivots 1 1 1 65535\n", 8, 2),
+    Case(b"open\nupper 4 1\nverdict gap pivots 1 1 1 65536\n", 7, 6),
+    Case(b"open\nupper 4 1\nverdict gap pivots 1 1 1 0\n", 7, 6),
+    Case(b"open\nupper 4 1\nverdict gap pivots 1 9 1 1\n", 7, 6),
+    Case(
+        b"open\nupper 4 1\nverdict gap pivots 1 1 170141183460469231731687303715884105728 1\n",
+        7,
+        4,
+    ),
+    Case(
+        b"open\nupper 4 1\nverdict gap pivots 1 1 8 1 1 1 1 1 1 1 1\n",
+        8,
+        2,
+    ),
+    Case(b"open\nupper 4 1\nverdict gap looks 1 0 1 1 2\n", 8, 2),
+    Case(
+        b"open\nupper 4 1\nverdict gap looks 1 18446744073709551616 1 1 2\n",
+        7,
+        6,
+    ),
+    Case(b"open\nupper 4 1\nverdict gap looks 0 1 1 1 2\n", 7, 6),
+    Case(b"open\nupper 4 1\nverdict gap looks 1 0 1 1\n", 7, 4),
+    Case(b"open\nupper 4 1\nverdict gap looks 1 -1 1 1 2\n", 7, 6),
+    Case(
+        b"open\nupper 4 1\nverdict gap wide 1 sum 1 2 0 1 1 2\n",
+        8,
+        2,
+    ),
+    Case(
+        b"open\nupper 4 1\nverdict gap wide 7 less 1 2 0 2 1 2\n",
+        8,
+        2,
+    ),
+    Case(b"open\nupper 4 1\nverdict gap wide 1 foo\n", 7, 3),
+    Case(b"open\nupper 4 1\nverdict gap wide 1\n", 7, 4),
+    Case(b"open\nupper 4 1\nverdict gap wide\n", 7, 4),
+    Case(
+        b"open\nupper 4 1\nverdict gap wide 8 sum 1 2 0 1 1 2\n",
+        7,
+        6,
+    ),
+    Case(
+        b"open\nupper 4 1\nverdict gap wide 0 sum 1 2 0 1 1 2\n",
+        7,
+        6,
+    ),
+    Case(
+        b"open\nupper 4 1\nverdict gap wide x less 1 2 0 1 1 2\n",
+        7,
+        5,
+    ),
+    Case(
+        b"open\nupper 4 1\nverdict gap wide x foo 1 2 0 1 1 2\n",
+        7,
+        3,
+    ),
+    Case(
+        b"open\nupper 4 1\nverdict gap wide 1 times 170141183460469231731687303715884105727 -170141183460469231731687303715884105728 0 1 1 2\n",
+        8,
+        2,
+    ),
+    Case(
+        b"open\nupper 4 1\nverdict gap wide 1 sum 1 2 0 1 2 2\n",
+        7,
+        4,
+    ),
+    Case(b"open\nupper 4 1\nverdict optimal\nen\n", 8, 3),
+    Case(b"open\nupper 4 1\nverdict optimal\nend x\n", 8, 4),
+    Case(b"open\nupper 4 1\nverdict optimal\nend", 8, 2),
+    Case(b"open\nupper 4 1\nverdict optimal\nend\n", 0, 0),
+    Case(b"open\nupper 4 1\nverdict optimal\nend\n\n", 9, 9),
+    Case(b"open\nupper 4 1\nverdict optimal\nend\nx", 9, 9),
+    Case(b"open\nupper 4 1\nverdict optimal\nend\nend\n", 9, 9),
+    Case(b"open\nupper 4 1\nverdict optimal\n\n", 8, 3),
 ];
 
 // Whole reports.
@@ -1006,18 +304,25 @@ fn fault_of(alloc: Global, bytes: &[u8]) -> (u64, u8) {
 #[test]
 fn tells_the_first_fault(rt: HostRuntime) {
     for case in TEXTS {
-        assert_eq!(rt; fault_of(rt.alloc(), case.text), (case.line, case.reason));
+        assert_eq!(rt; fault_of(rt.alloc(), case.0), (case.1, case.2));
     }
     for case in TAILS {
         let mut text = Vec::from_slice(rt.alloc(), HEAD).expect(&rt, "memory");
-        text.extend_from_slice(case.text).expect(&rt, "memory");
-        assert_eq!(rt; fault_of(rt.alloc(), &text), (case.line, case.reason));
+        text.extend_from_slice(case.0).expect(&rt, "memory");
+        assert_eq!(rt; fault_of(rt.alloc(), &text), (case.1, case.2));
     }
 }
 
 // A text of two parts, and a part between them so many times.
-fn repeated(rt: &HostRuntime, head: &[u8], part: &[u8], times: usize, tail: &[u8]) -> Vec<u8> {
-    let mut text = Vec::from_slice(rt.alloc(), head).expect(rt, "memory");
+fn repeated(
+    rt: &impl Abort,
+    alloc: Global,
+    head: &[u8],
+    part: &[u8],
+    times: usize,
+    tail: &[u8],
+) -> Vec<u8> {
+    let mut text = Vec::from_slice(alloc, head).expect(rt, "memory");
     for _ in 0..times {
         text.extend_from_slice(part).expect(rt, "memory");
     }
@@ -1029,11 +334,11 @@ fn repeated(rt: &HostRuntime, head: &[u8], part: &[u8], times: usize, tail: &[u8
 fn keeps_the_limits(rt: HostRuntime) {
     let ticket = b"patrol-report 1\ntickets 1 1\nt 1";
     for (times, line, reason) in [(200, 4, 2), (201, 3, 4)] {
-        let text = repeated(&rt, ticket, b" 0", times, b"\n");
+        let text = repeated(&rt, rt.alloc(), ticket, b" 0", times, b"\n");
         assert_eq!(rt; fault_of(rt.alloc(), &text), (line, reason));
     }
     for (times, line, reason) in [(8, 21, 2), (9, 21, 8)] {
-        let text = repeated(&rt, HEAD, b"split 1 1\nopen\n", times, b"");
+        let text = repeated(&rt, rt.alloc(), HEAD, b"split 1 1\nopen\n", times, b"");
         assert_eq!(rt; fault_of(rt.alloc(), &text), (line, reason));
     }
 }

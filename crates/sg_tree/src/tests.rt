@@ -2,13 +2,15 @@ use super::*;
 use sg_model::{Level, Play, Ticket};
 use sg_num::Frac;
 use sqlite_items::Items;
+use std::alloc::Global;
+use std::process::Abort;
 use std::test::*;
 
 // Tickets of one weight with these choices, one ticket for each.
-fn tickets(rt: &HostRuntime, weight: i128, choices: &[u16]) -> Items<Ticket> {
-    let mut tickets = Items::new(rt.alloc());
+fn tickets(rt: &impl Abort, alloc: Global, weight: i128, choices: &[u16]) -> Items<Ticket> {
+    let mut tickets = Items::new(alloc);
     for choice in choices {
-        let code = Items::from_slice(rt.alloc(), &[*choice]).expect(rt, "memory");
+        let code = Items::from_slice(alloc, &[*choice]).expect(rt, "memory");
         let play = Play { code };
         tickets.push(Ticket { play, weight }).expect(rt, "memory");
     }
@@ -17,11 +19,11 @@ fn tickets(rt: &HostRuntime, weight: i128, choices: &[u16]) -> Items<Ticket> {
 
 #[test]
 fn claims_keep_their_rules(rt: HostRuntime) {
-    assert!(rt; Claim::new(tickets(&rt, 1, &[1, 2]), 5).is_some());
-    assert!(rt; Claim::new(tickets(&rt, 1, &[1, 1]), 2).is_none());
-    assert!(rt; Claim::new(tickets(&rt, 1, &[2, 1]), 2).is_none());
-    assert!(rt; Claim::new(tickets(&rt, 0, &[1, 2]), 0).is_none());
-    assert!(rt; Claim::new(tickets(&rt, 1, &[]), 0).is_none());
+    assert!(rt; Claim::new(tickets(&rt, rt.alloc(), 1, &[1, 2]), 5).is_some());
+    assert!(rt; Claim::new(tickets(&rt, rt.alloc(), 1, &[1, 1]), 2).is_none());
+    assert!(rt; Claim::new(tickets(&rt, rt.alloc(), 1, &[2, 1]), 2).is_none());
+    assert!(rt; Claim::new(tickets(&rt, rt.alloc(), 0, &[1, 2]), 0).is_none());
+    assert!(rt; Claim::new(tickets(&rt, rt.alloc(), 1, &[]), 0).is_none());
 }
 
 #[test]
