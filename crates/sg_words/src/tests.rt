@@ -2,7 +2,7 @@ use crate::{Command, command_of, words_give};
 use std::alloc::{AllocError, Global};
 
 /// Words and the game that they name, by hand.
-const ROWS: [(&[&str], Option<&str>); 46] = [
+const ROWS: [(&[&str], Option<&str>); 47] = [
     // One name, and one positional word after it.
     (&[], None),
     (&["solve"], None),
@@ -44,6 +44,7 @@ const ROWS: [(&[&str], Option<&str>); 46] = [
     (&["--nodes", "5", "solve", "g"], None),
     (&["solve", "--nodes", "5", "g"], None),
     (&["solve", "--nodes=5", "g"], None),
+    (&["solve", "--seed", "3", "g", "--seed=3"], None),
     (&["solve", "-x", "g"], None),
     (&["solve", "g", "-x"], None),
     (&["solve", "-"], None),
