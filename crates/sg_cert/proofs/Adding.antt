@@ -3,7 +3,6 @@ use Rattle.std.proofs.Common.{◌≡◌, ℕ, zero, suc, ◌+◌, ◌≤◌, Lis
 use Rattle.std.proofs.lemmas.List.{append-nil, take_more, take_all}
 use Rattle.std.specs.Prelude.{OnOk, OnErr}
 use Rattle.sg_shelf.specs.declared.sink.SinkError.{SinkError}
-use Rattle.sg_shelf.specs.Faults.{HasRisen}
 use Rattle.sg_shelf.specs.Taken.{Takes, TakesFront}
 use Rattle.std.proofs.Common.{take-append-drop}
 use Rattle.sg_cert.specs.Text.{spaced}

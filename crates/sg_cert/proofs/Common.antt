@@ -1,10 +1,10 @@
 -- Fractions whose parts have a common divisor.
-use Rattle.std.proofs.Common.{◌≡◌, ℕ, zero, suc, ◌+◌, ◌%◌, ◌<◌, ◌≤◌, Bool, true, false, not, ◌&&◌, refl, sym, ap, subst, ◌∙◌, arith, inl, inr}
+use Rattle.std.proofs.Common.{◌≡◌, ℕ, zero, suc, ◌%◌, ◌≤◌, Bool, true, false, not, ◌&&◌, refl, sym, subst, ◌∙◌, arith, inl, inr}
 use Rattle.std.specs.Prelude.{◌==◌, ◌||◌, nat_le}
 use Rattle.std.specs.Int.{◌∣◌, IsGcd}
-use Rattle.std.proofs.lemmas.Bool.{cases_lt, lt-ltb, eq-eqb}
+use Rattle.std.proofs.lemmas.Bool.{cases_lt, lt-ltb}
 use Rattle.std.proofs.lemmas.Bool.Decides.{nat_tests}
-use Rattle.std.proofs.lemmas.Nat.Gcd.{dvd_of_mod-eq-zero, mod-eq-zero_of_dvd, le_of_dvd, dvd-zero, IsGcd-from_zero, same_from_IsGcd}
+use Rattle.std.proofs.lemmas.Nat.Gcd.{dvd_of_mod-eq-zero, mod-eq-zero_of_dvd, le_of_dvd}
 use Rattle.std.specs.Prelude.{ℤ, pos, negsuc, ◌≤ℤ◌, unsigned_abs}
 use Rattle.std.proofs.Common.{◌≢◌, ◌⊎◌}
 use Rattle.std.proofs.Math.Nat.{one-dvd}
@@ -13,7 +13,7 @@ use Rattle.std.proofs.lemmas.Int.{ints}
 use Rattle.sg_num.specs.Fractions.{Fraction, IsReduced, IsReducedForm, IsReducedFormWide}
 use Rattle.sg_num.specs.Exact.{fits}
 use Rattle.sg_num.proofs.Reduced.{reduced_form-unique}
-use Rattle.std.specs.Prelude.{FitsSigned, Result, Ok, Err}
+use Rattle.std.specs.Prelude.{FitsSigned, Ok, Err}
 use Rattle.std.specs.Int.{w128}
 use Rattle.sg_cert.specs.LineReading.{shares, reduced_of}
 

@@ -1,61 +1,30 @@
 -- A fact or a cap that was read is what its bytes spell, and in its ranges.
-use Rattle.std.proofs.Common.{◌≡◌, ℕ, suc, zero, ◌+◌, ◌<◌, ◌≤◌, ◌-◌, ◌^◌, Bool, true, false, not, ◌&&◌, List, [], ◌∷◌, ◌++◌, length, map, drop, Option, Some, None, Result, Ok, Err, ℤ, pos, negsuc, refl, sym, ap, subst, ◌∙◌, arith, append_assoc, add-zero}
-use Rattle.std.specs.Prelude.{◌==◌, nat_lt, nat_le, codes, decimal, bytes_eq, int_le}
+use Rattle.std.proofs.Common.{◌≡◌, ℕ, suc, zero, Bool, true, false, List, [], ◌∷◌, ◌++◌, length, map, Option, None, Ok, ℤ, refl, sym, ap, subst, ◌∙◌, arith, append_assoc}
+use Rattle.std.specs.Prelude.{codes, decimal}
 use Rattle.std.specs.Fmt.{signed_decimal}
-use Rattle.std.specs.Option.{option_map}
-use Rattle.std.specs.List.{list_all, AllByRecursion, flat_map, join_with_byte}
-use Rattle.std.proofs.lemmas.List.{length-append, append-nil}
-use Rattle.std.proofs.lemmas.Bool.{lt-ltb}
-use Rattle.std.proofs.lemmas.Int.{ints}
-use Rattle.std.specs.Prelude.{◌≤ℤ◌}
-use Rattle.sg_model.specs.declared.level.Level.{Level}
-use Rattle.sg_model.specs.declared.level.Level.TheVariants.{Resources, Target}
-use Rattle.sg_model.specs.declared.ticket.Ticket.{Ticket}
-use Rattle.sg_num.specs.Exact.{fits}
-use Rattle.sg_num.specs.Fractions.{Fraction}
-use Rattle.sg_tree.specs.Claims.{Claimed, comes_before, is_rising, are_positive, is_claim}
+use Rattle.std.specs.List.{AllByRecursion, flat_map}
+use Rattle.std.proofs.lemmas.List.{append-nil}
 use Rattle.sg_tree.specs.declared.fact.Mark.{Mark}
 use Rattle.sg_tree.specs.declared.fact.Line.{Line}
 use Rattle.sg_tree.specs.declared.fact.Fact.{Fact}
-use Rattle.sg_tree.specs.declared.fact.Fact.TheVariants.{Plays, Cover, Water}
-use Rattle.sg_tree.specs.declared.fix.Fix.{Fix}
-use Rattle.sg_tree.specs.declared.tree.Tree.{Tree}
-use Rattle.sg_tree.specs.declared.tree.Tree.TheVariants.{Unproved, Closed, Split}
-use Rattle.sg_tree.specs.declared.tree.Tree.TheOpen.{Tree-F}
-use Rattle.sg_tree.specs.declared.tree.Tree.TheViews.{out-Tree}
+use Rattle.sg_tree.specs.declared.fact.Fact.TheVariants.{Plays, Cover}
 use Rattle.sg_tree.specs.declared.report.Cap.{Cap}
-use Rattle.sg_tree.specs.declared.report.Ending.{Ending}
-use Rattle.sg_tree.specs.declared.report.Report.{Report}
 use Rattle.sg_cert.specs.Place.{Place}
-use Rattle.sg_cert.specs.Fields.{fields, has_word, shaped_if, shaped_as, ◌>>=◌}
-use Rattle.sg_cert.specs.Lines.{line_at, at_line, next_line, start, ended}
-use Rattle.sg_cert.specs.LineReading.{follows, fraction_of, counts_of, ticket_of, mark_of, row_of, header_of, water_of, cap_of, split_of, verdict_of}
-use Rattle.sg_cert.specs.Reading.{Read, repeat, last, last_play, ticket_at, claim_at, mark_at, row_at, plays_from, cover_from, water_from, fact_from, fact_at, cap_from, cap_at, line_begins, caps_at, open_from, closed_from, base_from, base_at, leaf_of, leaf_from, split_from, node_at, fraction_at, verdict_at, word_line_at, first_at, head_at, proof_at, end_of, tail_of, report_of}
-use Rattle.sg_cert.specs.Text.{Row, spell, text_of, fraction_row, ticket_row, claim_rows, mark_row, line_row, fact_rows, cap_row, cap_rows, base_rows, split_row, node_rows, fix_fields, op_word, cause_fields, verdict_row, head_rows, tail_rows, report_rows, report_text}
-use Rattle.sg_cert.specs.Ranges.{IsFrom, Fits, FitsFrom, Rises, IsFraction, IsTicket, IsClaim, IsMark, IsRow, IsLevel, IsHeader, IsFact, IsCap, IsBase, IsLayer, IsNode, IsFix, IsCause, IsEnding, IsReport}
-use Rattle.sg_cert.proofs.Cut.{both}
+use Rattle.sg_cert.specs.Fields.{fields, has_word, ◌>>=◌}
+use Rattle.sg_cert.specs.Lines.{line_at, at_line, next_line}
+use Rattle.sg_cert.specs.LineReading.{mark_of, row_of, header_of, water_of, cap_of}
+use Rattle.sg_cert.specs.Reading.{Read, repeat, last, mark_at, row_at, plays_from, cover_from, water_from, fact_from, fact_at, cap_from, cap_at, line_begins, caps_at}
+use Rattle.sg_cert.specs.Text.{Row, text_of, mark_row, line_row, fact_rows, cap_row, cap_rows}
+use Rattle.sg_cert.specs.Ranges.{Rises, IsMark, IsRow, IsHeader, IsFact, IsCap}
 use Rattle.sg_cert.proofs.Rows.{text_then}
-use Rattle.std.specs.Prelude.{slice_get, position, take, if◌then◌else◌, get_or}
-use Rattle.std.proofs.Common.{take-append-drop}
-use Rattle.std.proofs.lemmas.Bool.{eqb-true}
-use Rattle.std.proofs.lemmas.List.{drop_more}
-use Rattle.std.proofs.lemmas.List.Quantifiers.{position-Some}
-use Rattle.std.proofs.lemmas.List.Splits.{join_with_byte-slice_split}
-use Rattle.sg_cert.specs.declared.fault.ReportFault.{ReportFault}
-use Rattle.sg_cert.specs.Fields.{split_once}
-use Rattle.sg_cert.specs.Lines.{line_cut}
-use Rattle.sg_cert.specs.LineReading.{MayStand, spent_of, target_of}
-use Rattle.sg_cert.specs.Reading.{deep_from}
+use Rattle.std.specs.Prelude.{if◌then◌else◌}
+use Rattle.sg_cert.specs.LineReading.{spent_of, target_of}
 use Rattle.sg_cert.proofs.Numbers.{bound}
-use Rattle.sg_cert.proofs.Spelled.{spell_join}
-use Rattle.sg_cert.proofs.Rising.{last_push, rises, rises_push, claim_from_rises}
+use Rattle.sg_cert.proofs.Rising.{last_push}
 use Rattle.sg_cert.proofs.LinesAgain.{IsWord}
-use Rattle.sg_cert.proofs.LinesBack.{fraction_back_of, mark_back, row_back, header_back, counts_back, ticket_back, spent_back, target_back, split_back, one_word, cap_line}
-use Rattle.sg_cert.proofs.VerdictBack.{IsBound, cap_line_back, verdict_back}
-use Rattle.sg_cert.specs.Ranges.{IsReport}
-use Rattle.sg_cert.proofs.LinesBack.{exact}
-use Rattle.sg_cert.proofs.Trees.{rows_split, rows_open, rows_closed, out_is, out_open, out_closed}
-use Rattle.sg_cert.proofs.BlocksBack.{ok_is, never, line_forth, row_forth, at_line_back, Took, behind_row, one_forth, Chain, Items, repeat_forth, single_rows, claim_forth}
+use Rattle.sg_cert.proofs.LinesBack.{mark_back, row_back, header_back, spent_back, target_back, cap_line}
+use Rattle.sg_cert.proofs.VerdictBack.{cap_line_back}
+use Rattle.sg_cert.proofs.BlocksBack.{ok_is, never, at_line_back, Took, behind_row, one_forth, Chain, repeat_forth, single_rows}
 
 -- one of two readings, by a test
 pub either : {A : Type 0} (t : Bool) (x y : Read A) (z : A × Place) (P : Type 0) → (x ≡ Ok z → P) → (y ≡ Ok z → P) → (if t then x else y) ≡ Ok z → P

@@ -1,38 +1,33 @@
 -- What a line says is read again.
-use Rattle.std.proofs.Common.{◌≡◌, ℕ, suc, zero, ◌+◌, ◌<◌, ◌≤◌, ◌-◌, ◌^◌, Bool, true, false, not, ◌&&◌, List, [], ◌∷◌, ◌++◌, length, map, drop, Option, Some, None, Result, Ok, Err, ℤ, pos, negsuc, refl, sym, ap, subst, ◌∙◌, arith, append_assoc}
-use Rattle.std.specs.Prelude.{◌==◌, ◌||◌, nat_lt, nat_le, codes, decimal, bytes_eq, slice_get, ◌≤ℤ◌, int_le}
+use Rattle.std.proofs.Common.{◌≡◌, ℕ, suc, ◌+◌, ◌<◌, ◌≤◌, ◌-◌, ◌^◌, true, false, List, [], ◌∷◌, length, map, Option, Some, Ok, ℤ, pos, negsuc, refl, ap, arith}
+use Rattle.std.specs.Prelude.{◌==◌, nat_le, codes, decimal, bytes_eq, ◌≤ℤ◌, int_le}
 use Rattle.std.specs.Fmt.{signed_decimal}
 use Rattle.std.specs.List.{list_all, AllByRecursion}
-use Rattle.std.specs.Str.Parse.{digits_value}
 use Rattle.std.proofs.lemmas.Bool.{lt-ltb, ltb-true}
 use Rattle.std.proofs.lemmas.Bool.Decides.{nat_tests}
 use Rattle.std.proofs.lemmas.Int.{ints}
-use Rattle.std.proofs.lemmas.List.{length-append, length-map, append-nil}
-use Rattle.sg_model.specs.declared.level.Level.{Level}
 use Rattle.sg_model.specs.declared.level.Level.TheVariants.{Resources, Target}
 use Rattle.sg_model.specs.declared.ticket.Ticket.{Ticket}
 use Rattle.sg_num.specs.Exact.{fits}
-use Rattle.sg_num.specs.Fractions.{Fraction, IsReduced}
+use Rattle.sg_num.specs.Fractions.{Fraction}
 use Rattle.sg_num.specs.declared.step.Op.{Op}
 use Rattle.sg_num.specs.declared.step.Op.TheVariants.{Sum, Less, Times}
 use Rattle.sg_num.specs.declared.step.Wide.{Wide}
 use Rattle.sg_tree.specs.declared.fact.Mark.{Mark}
 use Rattle.sg_tree.specs.declared.fact.Line.{Line}
-use Rattle.sg_tree.specs.declared.fact.Fact.{Fact}
 use Rattle.sg_tree.specs.declared.fact.Fact.TheVariants.{Water}
 use Rattle.sg_tree.specs.declared.fix.Fix.{Fix}
-use Rattle.sg_tree.specs.declared.report.Cap.{Cap}
 use Rattle.sg_tree.specs.declared.report.Cause.{Cause}
 use Rattle.sg_tree.specs.declared.report.Cause.TheVariants as causes
 use Rattle.sg_tree.specs.declared.report.Ending.{Ending}
 use Rattle.sg_tree.specs.declared.report.Ending.TheVariants.{Optimal, Gap}
-use Rattle.sg_cert.specs.Fields.{fields, is_natural, is_number_text, natural_next, whole_next, numbers_of, words_of, spelled_of, shaped_if, shaped_as, shaped_to, count_follows, count_is, ◌>>=◌}
-use Rattle.sg_cert.specs.LineReading.{lowest, highest, in_order, reduced_of, fraction_next, fraction_of, counts_of, follows, ticket_head_of, ticket_end_of, ticket_of, mark_follows, mark_of, row_follows, row_of, header_of, spent_of, target_of, water_of, bound_next, plain_of, proved_of, cap_of, split_of, fix_of, nodes_of, pivots_head_of, pivots_of, looks_head_of, looks_of, wide_head_of, wide_as, wide_of, cause_of, optimal_of, gap_of, verdict_of}
-use Rattle.sg_cert.specs.Text.{Row, fraction_row, ticket_row, mark_row, line_row, split_row, fix_fields, op_word, cause_fields, verdict_row, cap_row}
-use Rattle.sg_cert.specs.Ranges.{IsFrom, Fits, FitsFrom, IsFraction, IsTicket, IsMark, IsRow, IsLevel, IsHeader, IsCap, IsFix, IsCause, IsEnding}
+use Rattle.sg_cert.specs.Fields.{fields, is_natural, is_number_text, words_of, spelled_of, shaped_if, shaped_as, shaped_to, count_follows}
+use Rattle.sg_cert.specs.LineReading.{lowest, highest, fraction_next, fraction_of, counts_of, follows, ticket_of, mark_of, row_of, header_of, spent_of, target_of, water_of, plain_of, proved_of, cap_of, split_of, fix_of, nodes_of, pivots_of, looks_head_of, looks_of, wide_head_of, wide_as, wide_of, cause_of, optimal_of, gap_of, verdict_of}
+use Rattle.sg_cert.specs.Text.{Row, fraction_row, ticket_row, mark_row, line_row, split_row, fix_fields, op_word, cause_fields, verdict_row}
+use Rattle.sg_cert.specs.Ranges.{IsFrom, Fits, IsFraction, IsTicket, IsMark, IsRow, IsHeader, IsFix, IsCause, IsEnding}
 use Rattle.sg_cert.proofs.Cut.{both}
 use Rattle.sg_cert.proofs.Common.{shares_from_reduced}
-use Rattle.sg_cert.proofs.Numbers.{natural_again, natural_spelled, whole_spelled, natural_next_again, whole_next_again, numbers_again, numbers_spelled, decimal_spells, spells_natural}
+use Rattle.sg_cert.proofs.Numbers.{natural_spelled, whole_spelled, natural_next_again, whole_next_again, numbers_again, numbers_spelled, decimal_spells, spells_natural}
 
 pub fits_low : (z : ℤ) → fits z ≡ true → lowest ≤ℤ z
 fits_low (pos n) h = omega (arith, ints)

@@ -1,41 +1,28 @@
 -- What was read of a line is what the line spells, and in its ranges.
-use Rattle.std.proofs.Common.{◌≡◌, ℕ, suc, zero, ◌+◌, ◌<◌, ◌≤◌, ◌-◌, ◌^◌, Bool, true, false, not, ◌&&◌, List, [], ◌∷◌, ◌++◌, length, map, drop, Option, Some, None, Result, Ok, Err, ℤ, pos, negsuc, refl, sym, ap, subst, ◌∙◌, arith, append_assoc}
-use Rattle.std.specs.Prelude.{◌==◌, ◌||◌, nat_lt, nat_le, codes, decimal, bytes_eq, slice_get, ◌≤ℤ◌, int_le}
+use Rattle.std.proofs.Common.{◌≡◌, ℕ, suc, zero, ◌≤◌, ◌-◌, ◌^◌, Bool, true, false, List, [], ◌∷◌, ◌++◌, length, map, drop, Option, Some, None, Result, Ok, Err, ℤ, pos, refl, sym, ap, subst, ◌∙◌, arith, append_assoc}
+use Rattle.std.specs.Prelude.{◌||◌, nat_le, codes, decimal, bytes_eq, slice_get, ◌≤ℤ◌, int_le}
 use Rattle.std.specs.Fmt.{signed_decimal}
-use Rattle.std.specs.List.{list_all, AllByRecursion}
-use Rattle.std.specs.Str.Parse.{digits_value}
-use Rattle.std.proofs.lemmas.Bool.{lt-ltb, ltb-true}
+use Rattle.std.specs.List.{AllByRecursion}
 use Rattle.std.proofs.lemmas.Bool.Decides.{nat_tests}
 use Rattle.std.proofs.lemmas.Int.{ints}
-use Rattle.std.proofs.lemmas.List.{length-append, length-map, append-nil}
-use Rattle.sg_model.specs.declared.level.Level.{Level}
+use Rattle.std.proofs.lemmas.List.{length-append, append-nil}
 use Rattle.sg_model.specs.declared.level.Level.TheVariants.{Resources, Target}
 use Rattle.sg_model.specs.declared.ticket.Ticket.{Ticket}
-use Rattle.sg_num.specs.Exact.{fits}
 use Rattle.sg_num.specs.Fractions.{Fraction, IsReduced}
-use Rattle.sg_num.specs.declared.step.Op.{Op}
-use Rattle.sg_num.specs.declared.step.Op.TheVariants.{Sum, Less, Times}
-use Rattle.sg_num.specs.declared.step.Wide.{Wide}
 use Rattle.sg_tree.specs.declared.fact.Mark.{Mark}
 use Rattle.sg_tree.specs.declared.fact.Line.{Line}
 use Rattle.sg_tree.specs.declared.fact.Fact.{Fact}
 use Rattle.sg_tree.specs.declared.fact.Fact.TheVariants.{Water}
-use Rattle.sg_tree.specs.declared.fix.Fix.{Fix}
-use Rattle.sg_tree.specs.declared.report.Cap.{Cap}
-use Rattle.sg_tree.specs.declared.report.Cause.{Cause}
-use Rattle.sg_tree.specs.declared.report.Cause.TheVariants as causes
-use Rattle.sg_tree.specs.declared.report.Ending.{Ending}
-use Rattle.sg_tree.specs.declared.report.Ending.TheVariants.{Optimal, Gap}
-use Rattle.sg_cert.specs.Fields.{fields, is_natural, is_number_text, natural_next, whole_next, numbers_of, words_of, spelled_of, shaped_if, shaped_as, shaped_to, count_follows, count_is, ◌>>=◌}
-use Rattle.sg_cert.specs.LineReading.{lowest, highest, in_order, reduced_of, fraction_next, fraction_of, counts_of, follows, MayStand, shares, ticket_head_of, ticket_end_of, ticket_of, mark_follows, mark_of, row_follows, row_of, header_of, spent_of, target_of, water_of, bound_next, plain_of, proved_of, cap_of, split_of, fix_of, nodes_of, pivots_head_of, pivots_of, looks_head_of, looks_of, wide_head_of, wide_as, wide_of, cause_of, optimal_of, gap_of, verdict_of}
-use Rattle.sg_cert.specs.Text.{Row, fraction_row, ticket_row, mark_row, line_row, split_row, fix_fields, op_word, cause_fields, verdict_row, cap_row}
-use Rattle.sg_cert.specs.Ranges.{IsFrom, Fits, FitsFrom, IsFraction, IsTicket, IsMark, IsRow, IsLevel, IsHeader, IsCap, IsFix, IsCause, IsEnding}
+use Rattle.sg_cert.specs.Fields.{fields, natural_next, whole_next, numbers_of, words_of, spelled_of, shaped_if, shaped_as, count_is}
+use Rattle.sg_cert.specs.LineReading.{lowest, highest, in_order, reduced_of, fraction_next, fraction_of, counts_of, follows, MayStand, shares, ticket_head_of, ticket_of, mark_follows, mark_of, row_follows, row_of, header_of, spent_of, target_of, split_of}
+use Rattle.sg_cert.specs.Text.{Row, fraction_row, ticket_row, mark_row, line_row, split_row}
+use Rattle.sg_cert.specs.Ranges.{IsFrom, Fits, IsFraction, IsTicket, IsMark, IsRow, IsHeader}
 use Rattle.sg_cert.proofs.Cut.{both}
 use Rattle.std.specs.Prelude.{if◌then◌else◌, unsigned_abs}
 use Rattle.std.proofs.lemmas.Slice.Eq.{bytes_eq-Decides}
 use Rattle.sg_cert.specs.Fields.{word_at, fitting, natural_of}
 use Rattle.sg_cert.proofs.Common.{reduced_from_shares}
-use Rattle.sg_cert.proofs.Numbers.{bound, natural_field_back, natural_next_back, whole_next_back, decimal_spells, spells_natural}
+use Rattle.sg_cert.proofs.Numbers.{bound, natural_field_back, natural_next_back, whole_next_back}
 use Rattle.sg_cert.proofs.LinesAgain.{IsWord}
 
 pub ok_same : {A : Type 0} (x y : A) → ◌≡◌ {A = Result A ℕ} (Ok x) (Ok y) → x ≡ y

@@ -1,6 +1,6 @@
 -- Numbers that are spelled and read again.
-use Rattle.std.proofs.Common.{◌≡◌, ℕ, suc, zero, ◌+◌, ◌*◌, ◌<◌, ◌≤◌, ◌-◌, ◌^◌, ◌/◌, ◌%◌, Bool, true, false, cond, not, map, ◌&&◌, List, [], ◌∷◌, ◌++◌, length, get_or, take, drop, Option, Some, None, Result, Ok, Err, ℤ, pos, negsuc, ◌-ℤ◌, refl, sym, ap, subst, ◌∙◌, arith, inl, inr, zero-add, append_assoc}
-use Rattle.std.specs.Prelude.{◌==◌, nat_lt, nat_le, bytes_eq, codes, decimal, ◌≤ℤ◌, if◌then◌else◌}
+use Rattle.std.proofs.Common.{◌≡◌, ℕ, suc, zero, ◌+◌, ◌*◌, ◌<◌, ◌≤◌, ◌^◌, ◌/◌, ◌%◌, Bool, true, false, cond, not, map, ◌&&◌, List, [], ◌∷◌, ◌++◌, length, get_or, take, Option, Some, None, Result, Ok, Err, ℤ, pos, negsuc, ◌-ℤ◌, refl, sym, ap, subst, ◌∙◌, arith, inl, inr, zero-add, append_assoc}
+use Rattle.std.specs.Prelude.{◌==◌, nat_lt, nat_le, bytes_eq, decimal, ◌≤ℤ◌, if◌then◌else◌}
 use Rattle.std.specs.Fmt.{signed_decimal}
 use Rattle.std.specs.List.{list_all, AllByRecursion}
 use Rattle.std.specs.Str.Parse.{digits_value}
@@ -13,7 +13,6 @@ use Rattle.std.proofs.lemmas.Fmt.{decimal_by_steps_wide, decimal_digit, decimal_
 use Rattle.std.proofs.lemmas.Int.Digits.{digits_value_push}
 use Rattle.std.proofs.lemmas.List.{append-nil, length-append, take_more, take_all, length-take, get_or-take}
 use Rattle.std.proofs.lemmas.Str.{digit_value_digit}
-use Rattle.std.proofs.lemmas.Slice.Eq.{bytes_eq-Decides}
 use Rattle.sg_num.specs.Exact.{fits}
 use Rattle.sg_cert.specs.Fields.{is_digit, is_natural, is_number_text, value_of, fitting, natural_of, natural_next, whole_of, whole_next, numbers_of, ◌>>=◌}
 use Rattle.sg_cert.proofs.Cut.{both, is_digit_byte, natural_digits}

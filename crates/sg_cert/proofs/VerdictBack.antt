@@ -1,43 +1,26 @@
 -- What was read of the line of a cap, and of the verdict, is what the line spells, and in its ranges.
-use Rattle.std.proofs.Common.{◌≡◌, ℕ, suc, zero, ◌+◌, ◌<◌, ◌≤◌, ◌-◌, ◌^◌, Bool, true, false, not, ◌&&◌, List, [], ◌∷◌, ◌++◌, length, map, drop, Option, Some, None, Result, Ok, Err, ℤ, pos, negsuc, refl, sym, ap, subst, ◌∙◌, arith, append_assoc}
-use Rattle.std.specs.Prelude.{◌==◌, ◌||◌, nat_lt, nat_le, codes, decimal, bytes_eq, slice_get, ◌≤ℤ◌, int_le}
+use Rattle.std.proofs.Common.{◌≡◌, ℕ, suc, zero, ◌+◌, ◌<◌, ◌≤◌, ◌-◌, ◌^◌, Bool, true, false, List, [], ◌∷◌, ◌++◌, length, map, drop, Option, Some, Result, Ok, ℤ, pos, negsuc, refl, sym, ap, subst, ◌∙◌, arith}
+use Rattle.std.specs.Prelude.{codes, decimal, bytes_eq, slice_get, ◌≤ℤ◌}
 use Rattle.std.specs.Fmt.{signed_decimal}
-use Rattle.std.specs.List.{list_all, AllByRecursion}
-use Rattle.std.specs.Str.Parse.{digits_value}
-use Rattle.std.proofs.lemmas.Bool.{lt-ltb, ltb-true}
+use Rattle.std.specs.List.{AllByRecursion}
 use Rattle.std.proofs.lemmas.Bool.Decides.{nat_tests}
-use Rattle.std.proofs.lemmas.Int.{ints}
-use Rattle.std.proofs.lemmas.List.{length-append, length-map, append-nil}
-use Rattle.sg_model.specs.declared.level.Level.{Level}
-use Rattle.sg_model.specs.declared.level.Level.TheVariants.{Resources, Target}
-use Rattle.sg_model.specs.declared.ticket.Ticket.{Ticket}
-use Rattle.sg_num.specs.Exact.{fits}
-use Rattle.sg_num.specs.Fractions.{Fraction, IsReduced}
+use Rattle.std.proofs.lemmas.List.{length-append}
 use Rattle.sg_num.specs.declared.step.Op.{Op}
 use Rattle.sg_num.specs.declared.step.Op.TheVariants.{Sum, Less, Times}
 use Rattle.sg_num.specs.declared.step.Wide.{Wide}
-use Rattle.sg_tree.specs.declared.fact.Mark.{Mark}
-use Rattle.sg_tree.specs.declared.fact.Line.{Line}
-use Rattle.sg_tree.specs.declared.fact.Fact.{Fact}
-use Rattle.sg_tree.specs.declared.fact.Fact.TheVariants.{Water}
 use Rattle.sg_tree.specs.declared.fix.Fix.{Fix}
-use Rattle.sg_tree.specs.declared.report.Cap.{Cap}
 use Rattle.sg_tree.specs.declared.report.Cause.{Cause}
 use Rattle.sg_tree.specs.declared.report.Cause.TheVariants as causes
 use Rattle.sg_tree.specs.declared.report.Ending.{Ending}
 use Rattle.sg_tree.specs.declared.report.Ending.TheVariants.{Optimal, Gap}
-use Rattle.sg_cert.specs.Fields.{fields, is_natural, is_number_text, natural_next, whole_next, numbers_of, words_of, spelled_of, shaped_if, shaped_as, shaped_to, count_follows, count_is, ◌>>=◌}
-use Rattle.sg_cert.specs.LineReading.{lowest, highest, in_order, reduced_of, fraction_next, fraction_of, counts_of, follows, MayStand, shares, ticket_head_of, ticket_end_of, ticket_of, mark_follows, mark_of, row_follows, row_of, header_of, spent_of, target_of, water_of, bound_next, plain_of, proved_of, cap_of, split_of, fix_of, nodes_of, pivots_head_of, pivots_of, looks_head_of, looks_of, wide_head_of, wide_as, wide_of, cause_of, optimal_of, gap_of, verdict_of}
-use Rattle.sg_cert.specs.Text.{Row, fraction_row, ticket_row, mark_row, line_row, split_row, fix_fields, op_word, cause_fields, verdict_row, cap_row}
-use Rattle.sg_cert.specs.Ranges.{IsFrom, Fits, FitsFrom, IsFraction, IsTicket, IsMark, IsRow, IsLevel, IsHeader, IsCap, IsFix, IsCause, IsEnding}
-use Rattle.sg_cert.proofs.Cut.{both}
-use Rattle.std.specs.Prelude.{if◌then◌else◌, unsigned_abs}
-use Rattle.std.proofs.lemmas.Slice.Eq.{bytes_eq-Decides}
-use Rattle.sg_cert.specs.Fields.{word_at, has_word, fitting, natural_of}
-use Rattle.sg_cert.proofs.Common.{reduced_from_shares}
-use Rattle.sg_cert.proofs.Numbers.{bound, natural_field_back, natural_next_back, whole_next_back, decimal_spells, spells_natural}
-use Rattle.sg_cert.proofs.LinesAgain.{IsWord}
-use Rattle.sg_cert.proofs.LinesBack.{ok_same, no_err, shape_back, count_back, word_here, place_here, one_word, behind, two, exact, below, decimals_length, numbers_back, cap_line}
+use Rattle.sg_cert.specs.Fields.{fields, is_natural, natural_next, whole_next, numbers_of, words_of, shaped_as, shaped_to, count_follows, count_is, ◌>>=◌}
+use Rattle.sg_cert.specs.LineReading.{lowest, highest, bound_next, plain_of, proved_of, cap_of, fix_of, nodes_of, pivots_head_of, pivots_of, looks_head_of, looks_of, wide_head_of, wide_as, wide_of, cause_of, optimal_of, gap_of, verdict_of}
+use Rattle.sg_cert.specs.Text.{Row, fix_fields, op_word, cause_fields, verdict_row}
+use Rattle.sg_cert.specs.Ranges.{IsFrom, IsFix, IsCause, IsEnding}
+use Rattle.std.specs.Prelude.{if◌then◌else◌}
+use Rattle.sg_cert.specs.Fields.{has_word}
+use Rattle.sg_cert.proofs.Numbers.{bound, natural_next_back, whole_next_back, decimal_spells, spells_natural}
+use Rattle.sg_cert.proofs.LinesBack.{ok_same, shape_back, count_back, word_here, place_here, behind, two, exact, decimals_length, numbers_back, cap_line}
 
 abbrev pub IsBound : ℤ → Type 0
 IsBound v = (negsuc (2 ^ 63 - 1) ≤ℤ v) × (v ≤ℤ pos (2 ^ 63 - 1))

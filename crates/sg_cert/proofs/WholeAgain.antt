@@ -1,26 +1,14 @@
 -- A whole report is read again from its text.
-use Rattle.std.proofs.Common.{◌≡◌, ℕ, suc, zero, ◌+◌, ◌<◌, ◌≤◌, ◌-◌, ◌^◌, Bool, true, false, not, ◌&&◌, List, [], ◌∷◌, ◌++◌, length, map, drop, Option, Some, None, Result, Ok, Err, ℤ, pos, negsuc, refl, sym, ap, subst, ◌∙◌, arith, append_assoc, add-zero}
-use Rattle.std.specs.Prelude.{◌==◌, nat_lt, nat_le, codes, decimal, bytes_eq, int_le}
+use Rattle.std.proofs.Common.{◌≡◌, ℕ, suc, zero, ◌+◌, ◌-◌, true, false, List, [], ◌∷◌, ◌++◌, length, Option, Some, None, Ok, refl, sym, ap, subst, ◌∙◌, arith, append_assoc, add-zero}
+use Rattle.std.specs.Prelude.{codes, decimal}
 use Rattle.std.specs.Fmt.{signed_decimal}
-use Rattle.std.specs.Option.{option_map}
 use Rattle.std.specs.List.{list_all, AllByRecursion, flat_map, join_with_byte}
-use Rattle.std.proofs.lemmas.List.{length-append, append-nil}
-use Rattle.sg_model.specs.declared.level.Level.{Level}
-use Rattle.sg_model.specs.declared.level.Level.TheVariants.{Resources, Target}
-use Rattle.sg_model.specs.declared.ticket.Ticket.{Ticket}
-use Rattle.sg_num.specs.Exact.{fits}
+use Rattle.std.proofs.lemmas.List.{length-append}
 use Rattle.sg_num.specs.Fractions.{Fraction}
-use Rattle.sg_tree.specs.Claims.{Claimed, comes_before, is_rising, are_positive, is_claim}
-use Rattle.sg_tree.specs.declared.fact.Mark.{Mark}
-use Rattle.sg_tree.specs.declared.fact.Line.{Line}
 use Rattle.sg_tree.specs.declared.fact.Fact.{Fact}
-use Rattle.sg_tree.specs.declared.fact.Fact.TheVariants.{Plays, Cover, Water}
 use Rattle.sg_tree.specs.declared.fix.Fix.{Fix}
 use Rattle.sg_tree.specs.declared.tree.Tree.{Tree}
 use Rattle.sg_tree.specs.declared.tree.Tree.TheVariants.{Unproved, Closed, Split}
-use Rattle.sg_tree.specs.declared.tree.Tree.TheOpen.{Tree-F}
-use Rattle.sg_tree.specs.declared.tree.Tree.TheViews.{out-Tree}
-use Rattle.sg_tree.specs.declared.report.Cap.{Cap}
 use Rattle.sg_tree.specs.declared.report.Ending.{Ending}
 use Rattle.sg_tree.specs.declared.report.Report.{Report}
 use Rattle.sg_num.specs.declared.step.Op.{Op}
@@ -29,20 +17,18 @@ use Rattle.sg_tree.specs.declared.report.Cause.{Cause}
 use Rattle.sg_tree.specs.declared.report.Cause.TheVariants as causes
 use Rattle.sg_tree.specs.declared.report.Ending.TheVariants.{Optimal, Gap}
 use Rattle.sg_cert.specs.Place.{Place}
-use Rattle.sg_cert.specs.Fields.{fields, has_word, words_of, spelled_of, shaped_if, shaped_as, ◌>>=◌}
-use Rattle.sg_cert.specs.Lines.{line_at, at_line, next_line, start, ended}
-use Rattle.sg_cert.specs.LineReading.{follows, fraction_of, counts_of, ticket_of, mark_of, row_of, header_of, water_of, cap_of, split_of, verdict_of}
-use Rattle.sg_cert.specs.Reading.{Read, repeat, last, last_play, ticket_at, claim_at, mark_at, row_at, plays_from, cover_from, water_from, fact_from, fact_at, cap_from, cap_at, line_begins, caps_at, open_from, closed_from, base_from, base_at, leaf_of, leaf_from, split_from, node_at, fraction_at, verdict_at, word_line_at, first_at, head_at, proof_at, end_of, tail_of, report_of}
-use Rattle.sg_cert.specs.Text.{Row, spell, text_of, fraction_row, ticket_row, claim_rows, mark_row, line_row, fact_rows, cap_row, cap_rows, base_rows, split_row, node_rows, fix_fields, op_word, cause_fields, verdict_row, head_rows, tail_rows, report_rows, report_text}
-use Rattle.sg_cert.specs.Ranges.{IsFrom, Fits, FitsFrom, Rises, IsFraction, IsTicket, IsClaim, IsMark, IsRow, IsLevel, IsHeader, IsFact, IsCap, IsBase, IsLayer, IsNode, IsFix, IsCause, IsEnding, IsReport}
-use Rattle.sg_cert.proofs.Cut.{both}
+use Rattle.sg_cert.specs.Fields.{fields, has_word, words_of, spelled_of, shaped_if, ◌>>=◌}
+use Rattle.sg_cert.specs.Lines.{at_line, next_line}
+use Rattle.sg_cert.specs.LineReading.{fraction_of, verdict_of}
+use Rattle.sg_cert.specs.Reading.{Read, fact_from, line_begins, open_from, closed_from, base_from, base_at, leaf_of, leaf_from, split_from, node_at, fraction_at, verdict_at, word_line_at, first_at, head_at, proof_at, end_of, tail_of, report_of}
+use Rattle.sg_cert.specs.Text.{Row, spell, text_of, fraction_row, claim_rows, cap_rows, base_rows, split_row, node_rows, fix_fields, op_word, cause_fields, verdict_row, head_rows, tail_rows, report_text}
+use Rattle.sg_cert.specs.Ranges.{IsFrom, IsFraction, IsBase, IsLayer, IsNode, IsFix, IsCause, IsEnding, IsReport}
 use Rattle.sg_cert.proofs.Rows.{text_then}
-use Rattle.sg_cert.proofs.Rising.{last_push}
-use Rattle.sg_cert.proofs.LinesAgain.{acts_from, IsWord, fraction_again, counts_again, ticket_again, mark_again, row_again, header_again, spent_again, target_again, plain_again, proved_again, split_line_again, verdict_again}
-use Rattle.sg_cert.proofs.Spelled.{is_plain, decimal_plain, signed_plain, decimals_plain, fields_again, place, line_again, next_again}
+use Rattle.sg_cert.proofs.LinesAgain.{acts_from, IsWord, fraction_again, split_line_again, verdict_again}
+use Rattle.sg_cert.proofs.Spelled.{is_plain, decimal_plain, signed_plain, decimals_plain, fields_again, place, line_again}
 use Rattle.sg_cert.proofs.Nodes.{split_done, node_leaf, node_split}
-use Rattle.sg_cert.proofs.Trees.{rows_split, rows_open, rows_closed, tree_cases, out_is, out_open, out_closed}
-use Rattle.sg_cert.proofs.BlocksAgain.{Back, BackFrom, at_from, one_from, Each, repeat_again, FactBack, fact_back, claim_back, cap_back, caps_again, caps_fuel, begins_row, plain_front}
+use Rattle.sg_cert.proofs.Trees.{rows_split, rows_open, rows_closed, tree_cases, out_is, out_closed}
+use Rattle.sg_cert.proofs.BlocksAgain.{Back, BackFrom, at_from, one_from, Each, repeat_again, fact_back, claim_back, caps_again, caps_fuel, begins_row, plain_front}
 
 -- ---- bases and leaves
 

@@ -1,66 +1,41 @@
 -- A whole report that was read is what its bytes spell, and in its ranges.
-use Rattle.std.proofs.Common.{◌≡◌, ℕ, suc, zero, ◌+◌, ◌<◌, ◌≤◌, ◌-◌, ◌^◌, Bool, true, false, not, ◌&&◌, List, [], ◌∷◌, ◌++◌, length, map, drop, Option, Some, None, Result, Ok, Err, ℤ, pos, negsuc, refl, sym, ap, subst, ◌∙◌, arith, append_assoc, add-zero}
-use Rattle.std.specs.Prelude.{◌==◌, nat_lt, nat_le, codes, decimal, bytes_eq, int_le}
+use Rattle.std.proofs.Common.{◌≡◌, ℕ, suc, zero, ◌+◌, Bool, true, false, List, [], ◌∷◌, ◌++◌, length, drop, Option, Some, None, Result, Ok, Err, refl, sym, ap, subst, ◌∙◌, arith, append_assoc}
+use Rattle.std.specs.Prelude.{◌==◌, codes, decimal, bytes_eq}
 use Rattle.std.specs.Fmt.{signed_decimal}
-use Rattle.std.specs.Option.{option_map}
-use Rattle.std.specs.List.{list_all, AllByRecursion, flat_map, join_with_byte}
-use Rattle.std.proofs.lemmas.List.{length-append, append-nil}
-use Rattle.std.proofs.lemmas.Bool.{lt-ltb}
-use Rattle.std.proofs.lemmas.Int.{ints}
-use Rattle.std.specs.Prelude.{◌≤ℤ◌}
-use Rattle.sg_model.specs.declared.level.Level.{Level}
-use Rattle.sg_model.specs.declared.level.Level.TheVariants.{Resources, Target}
-use Rattle.sg_model.specs.declared.ticket.Ticket.{Ticket}
-use Rattle.sg_num.specs.Exact.{fits}
+use Rattle.std.specs.List.{AllByRecursion, flat_map}
+use Rattle.std.proofs.lemmas.List.{append-nil}
 use Rattle.sg_num.specs.Fractions.{Fraction}
-use Rattle.sg_tree.specs.Claims.{Claimed, comes_before, is_rising, are_positive, is_claim}
-use Rattle.sg_tree.specs.declared.fact.Mark.{Mark}
-use Rattle.sg_tree.specs.declared.fact.Line.{Line}
+use Rattle.sg_tree.specs.Claims.{Claimed}
 use Rattle.sg_tree.specs.declared.fact.Fact.{Fact}
-use Rattle.sg_tree.specs.declared.fact.Fact.TheVariants.{Plays, Cover, Water}
-use Rattle.sg_tree.specs.declared.fix.Fix.{Fix}
 use Rattle.sg_tree.specs.declared.tree.Tree.{Tree}
-use Rattle.sg_tree.specs.declared.tree.Tree.TheVariants.{Unproved, Closed, Split}
-use Rattle.sg_tree.specs.declared.tree.Tree.TheOpen.{Tree-F}
+use Rattle.sg_tree.specs.declared.tree.Tree.TheVariants.{Split}
 use Rattle.sg_tree.specs.declared.tree.Tree.TheViews.{out-Tree}
 use Rattle.sg_tree.specs.declared.report.Cap.{Cap}
 use Rattle.sg_tree.specs.declared.report.Ending.{Ending}
 use Rattle.sg_tree.specs.declared.report.Report.{Report}
 use Rattle.sg_cert.specs.Place.{Place}
-use Rattle.sg_cert.specs.Fields.{fields, has_word, shaped_if, shaped_as, ◌>>=◌}
-use Rattle.sg_cert.specs.Lines.{line_at, at_line, next_line, start, ended}
-use Rattle.sg_cert.specs.LineReading.{follows, fraction_of, counts_of, ticket_of, mark_of, row_of, header_of, water_of, cap_of, split_of, verdict_of}
-use Rattle.sg_cert.specs.Reading.{Read, repeat, last, last_play, ticket_at, claim_at, mark_at, row_at, plays_from, cover_from, water_from, fact_from, fact_at, cap_from, cap_at, line_begins, caps_at, open_from, closed_from, base_from, base_at, leaf_of, leaf_from, split_from, node_at, fraction_at, verdict_at, word_line_at, first_at, head_at, proof_at, end_of, tail_of, report_of}
-use Rattle.sg_cert.specs.Text.{Row, spell, text_of, fraction_row, ticket_row, claim_rows, mark_row, line_row, fact_rows, cap_row, cap_rows, base_rows, split_row, node_rows, fix_fields, op_word, cause_fields, verdict_row, head_rows, tail_rows, report_rows, report_text}
-use Rattle.sg_cert.specs.Ranges.{IsFrom, Fits, FitsFrom, Rises, IsFraction, IsTicket, IsClaim, IsMark, IsRow, IsLevel, IsHeader, IsFact, IsCap, IsBase, IsLayer, IsNode, IsFix, IsCause, IsEnding, IsReport}
-use Rattle.sg_cert.proofs.Cut.{both}
+use Rattle.sg_cert.specs.Fields.{fields, has_word, shaped_as, ◌>>=◌}
+use Rattle.sg_cert.specs.Lines.{line_at, at_line, start, ended}
+use Rattle.sg_cert.specs.LineReading.{fraction_of, split_of, verdict_of}
+use Rattle.sg_cert.specs.Reading.{Read, repeat, claim_at, fact_from, caps_at, open_from, closed_from, base_from, base_at, leaf_of, leaf_from, split_from, node_at, fraction_at, verdict_at, word_line_at, first_at, head_at, proof_at, end_of, tail_of, report_of}
+use Rattle.sg_cert.specs.Text.{Row, text_of, fraction_row, claim_rows, cap_rows, base_rows, split_row, node_rows, cause_fields, verdict_row, report_text}
+use Rattle.sg_cert.specs.Ranges.{IsFrom, IsFraction, IsClaim, IsCap, IsBase, IsLayer, IsNode, IsEnding, IsReport}
 use Rattle.sg_cert.proofs.Rows.{text_then}
-use Rattle.std.specs.Prelude.{slice_get, position, take, if◌then◌else◌, get_or}
-use Rattle.std.proofs.Common.{take-append-drop}
-use Rattle.std.proofs.lemmas.Bool.{eqb-true}
-use Rattle.std.proofs.lemmas.List.{drop_more}
-use Rattle.std.proofs.lemmas.List.Quantifiers.{position-Some}
-use Rattle.std.proofs.lemmas.List.Splits.{join_with_byte-slice_split}
+use Rattle.std.specs.Prelude.{if◌then◌else◌}
 use Rattle.sg_cert.specs.declared.fault.ReportFault.{ReportFault}
-use Rattle.sg_cert.specs.Fields.{split_once}
-use Rattle.sg_cert.specs.Lines.{line_cut}
-use Rattle.sg_cert.specs.LineReading.{MayStand, spent_of, target_of}
 use Rattle.sg_cert.specs.Reading.{deep_from}
 use Rattle.sg_cert.proofs.Numbers.{bound}
-use Rattle.sg_cert.proofs.Spelled.{spell_join}
-use Rattle.sg_cert.proofs.Rising.{last_push, rises, rises_push, claim_from_rises}
 use Rattle.sg_cert.proofs.LinesAgain.{IsWord}
-use Rattle.sg_cert.proofs.LinesBack.{fraction_back_of, mark_back, row_back, header_back, counts_back, ticket_back, spent_back, target_back, split_back, one_word, cap_line}
-use Rattle.sg_cert.proofs.VerdictBack.{IsBound, cap_line_back, verdict_back}
+use Rattle.sg_cert.proofs.LinesBack.{fraction_back_of, split_back, one_word}
+use Rattle.sg_cert.proofs.VerdictBack.{verdict_back}
 use Rattle.sg_cert.specs.Ranges.{IsReport}
 use Rattle.sg_cert.proofs.LinesBack.{exact}
 use Rattle.std.proofs.lemmas.Slice.Eq.{bytes_eq-Decides}
 use Rattle.std.proofs.lemmas.Bool.Decides.{nat_tests}
 use Rattle.sg_tree.specs.declared.report.Ending.TheVariants.{Optimal, Gap}
 use Rattle.sg_cert.proofs.Trees.{rows_split, rows_open, rows_closed, out_is, out_open, out_closed}
-use Rattle.sg_cert.proofs.BlocksBack.{ok_is, never, line_forth, row_forth, at_line_back, Took, behind_row, one_forth, Chain, Items, repeat_forth, single_rows, claim_forth}
-use Rattle.sg_cert.specs.Fields.{count_is}
-use Rattle.sg_cert.proofs.FactsBack.{either, From, from_line, FactFrom, fact_forth, CapsBack, caps_forth}
+use Rattle.sg_cert.proofs.BlocksBack.{ok_is, never, line_forth, at_line_back, Took, behind_row, one_forth, Chain, repeat_forth, claim_forth}
+use Rattle.sg_cert.proofs.FactsBack.{either, From, from_line, fact_forth, caps_forth}
 
 -- ---- bases and leaves
 

@@ -1,5 +1,5 @@
 -- The fields of a line, and the numbers that they are.
-use Rattle.std.specs.Prelude.{negsuc, ℕ, Bool, true, false, not, ◌&&◌, ◌==◌, nat_le, nat_lt, if◌then◌else◌, List, [], ◌∷◌, ◌++◌, length, Option, Some, None, Result, Ok, Err, ◌||◌, ◌≡◌, ℤ, pos, ◌-ℤ◌, ◌^◌, bytes_eq, codes, position, slice_get, take, drop, ◌+◌}
+use Rattle.std.specs.Prelude.{negsuc, ℕ, Bool, true, false, not, ◌&&◌, ◌==◌, nat_le, nat_lt, if◌then◌else◌, List, [], ◌∷◌, ◌++◌, length, Option, Some, None, Result, Ok, Err, ◌||◌, ◌≡◌, ℤ, pos, ◌-ℤ◌, bytes_eq, codes, position, slice_get, take, drop, ◌+◌}
 use Rattle.std.specs.List.{slice_split, list_all}
 use Rattle.std.specs.Option.{option_map}
 use Rattle.std.specs.Int.Signed.{le_z}

@@ -1,9 +1,7 @@
 -- What a single line of a report says, by its fields. An error is the reason of the first test that fails: the fixed
 -- words, then the count of fields, then the spelling of the numbers, then their ranges, then the order of lines.
-use Rattle.std.specs.Prelude.{ℕ, zero, suc, ◌-◌, ◌^◌, ◌%◌, Bool, true, false, not, ◌&&◌, ◌||◌, ◌==◌, nat_lt, nat_le, if◌then◌else◌, List, [], ◌∷◌, length, drop, Option, Some, None, Result, Ok, Err, ℤ, pos, negsuc, unsigned_abs, codes, ◌≡◌, int_le}
-use Rattle.sg_model.specs.declared.level.Level.{Level}
+use Rattle.std.specs.Prelude.{ℕ, zero, suc, ◌-◌, ◌^◌, ◌%◌, Bool, true, false, ◌&&◌, ◌||◌, ◌==◌, nat_lt, nat_le, if◌then◌else◌, List, [], drop, Option, Some, None, Result, Ok, Err, ℤ, pos, negsuc, unsigned_abs, codes, ◌≡◌, int_le}
 use Rattle.sg_model.specs.declared.level.Level.TheVariants.{Resources, Target}
-use Rattle.sg_model.specs.declared.ticket.Play.{Play}
 use Rattle.sg_model.specs.declared.ticket.Ticket.{Ticket}
 use Rattle.sg_num.specs.Fractions.{Fraction}
 use Rattle.sg_num.specs.declared.step.Op.{Op}
@@ -19,7 +17,7 @@ use Rattle.sg_tree.specs.declared.report.Cause.{Cause}
 use Rattle.sg_tree.specs.declared.report.Cause.TheVariants as causes
 use Rattle.sg_tree.specs.declared.report.Ending.{Ending}
 use Rattle.sg_tree.specs.declared.report.Ending.TheVariants.{Optimal, Gap}
-use Rattle.sg_cert.specs.Fields.{fitting, natural_of, natural_next, whole_next, numbers_of, has_word, shaped_as, shaped_to, ◌>>=◌}
+use Rattle.sg_cert.specs.Fields.{natural_next, whole_next, numbers_of, has_word, shaped_as, shaped_to, ◌>>=◌}
 
 -- reason 7 where the order is broken
 abbrev pub in_order : Bool → Result (Unit {0}) ℕ

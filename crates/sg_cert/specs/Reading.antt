@@ -1,5 +1,5 @@
 -- A report as its lines spell it, or the fault of the first line that fails.
-use Rattle.std.specs.Prelude.{ℕ, zero, suc, ◌-◌, ◌+◌, ◌==◌, if◌then◌else◌, Bool, false, List, [], ◌∷◌, ◌++◌, length, slice_get, Option, Some, None, Result, Ok, Err, codes, bytes_eq}
+use Rattle.std.specs.Prelude.{ℕ, zero, suc, ◌-◌, ◌==◌, if◌then◌else◌, Bool, false, List, [], ◌∷◌, ◌++◌, length, slice_get, Option, Some, None, Result, Ok, Err, codes, bytes_eq}
 use Rattle.std.specs.Option.{option_map}
 use Rattle.sg_model.specs.declared.ticket.Ticket.{Ticket}
 use Rattle.sg_num.specs.Fractions.{Fraction}

@@ -7,7 +7,6 @@ use Rattle.sg_model.specs.ReportText.{line, reason_fields}
 use Rattle.sg_num.specs.Fractions.{Fraction}
 use Rattle.sg_num.specs.declared.step.Op.{Op}
 use Rattle.sg_num.specs.declared.step.Op.TheVariants.{Sum, Less, Times}
-use Rattle.sg_num.specs.declared.step.Wide.{Wide}
 use Rattle.sg_tree.specs.Claims.{Claimed}
 use Rattle.sg_tree.specs.declared.fact.Mark.{Mark}
 use Rattle.sg_tree.specs.declared.fact.Line.{Line}

@@ -1,8 +1,5 @@
-use Rattle.std.proofs.Common.{ℕ, ℤ, pos, List, [], ◌∷◌, map, refl}
-use Rattle.std.specs.Prelude.{decimal}
-use Rattle.std.specs.Fmt.{signed_decimal}
-use Rattle.sg_cert.specs.Text.{spaced}
-use Rattle.sg_cert.proofs.Adding.{folds_more, folds_stop, folds_end, folds_start, folds_bytes, folds_spaced}
+use Rattle.std.proofs.Common.{ℕ, List, [], ◌∷◌, refl}
+use Rattle.sg_cert.proofs.Adding.{folds_more, folds_stop, folds_end, folds_start, folds_bytes}
 use Rattle.sg_cert.proofs.block.put_bytes.Goals as goal
 
 pub loop-byte-init : goal.loop-byte-init

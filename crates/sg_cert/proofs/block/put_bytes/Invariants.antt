@@ -1,7 +1,4 @@
-use Rattle.std.proofs.Common.{take, map}
-use Rattle.std.specs.Prelude.{decimal}
-use Rattle.std.specs.Fmt.{signed_decimal}
-use Rattle.sg_cert.specs.Text.{spaced}
+use Rattle.std.proofs.Common.{take}
 use Rattle.sg_cert.specs.Writing.{Adds}
 use Rattle.sg_cert.proofs.block.put_bytes.Given as goal
 

@@ -1,7 +1,5 @@
 use Rattle.std.proofs.Common.{[], ◌∷◌, ◌∙◌, ap, List, ℕ}
 use Rattle.std.specs.Prelude.{decimal}
-use Rattle.std.specs.Fmt.{signed_decimal}
-use Rattle.std.proofs.lemmas.Int.{to_z-of_z}
 use Rattle.sg_cert.proofs.Adding.{Writes-trans, Writes-as, Stops-early}
 use Rattle.sg_cert.proofs.block.put_choice.Goals as goal
 

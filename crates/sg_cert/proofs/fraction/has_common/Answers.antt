@@ -1,4 +1,4 @@
-use Rattle.std.proofs.Common.{◌≡◌, ◌∙◌, sym}
+use Rattle.std.proofs.Common.{sym}
 use Rattle.sg_cert.proofs.Common.{shares_gcd}
 use Rattle.sg_cert.proofs.fraction.has_common.Goals as goal
 

@@ -1,9 +1,8 @@
-use Rattle.std.proofs.Common.{◌≡◌, List, ℕ, Result, Ok, Err, subst, sym, refl, ◌∙◌, ap}
+use Rattle.std.proofs.Common.{◌≡◌, List, ℕ, Result, Ok, Err, sym, refl, ◌∙◌, ap}
 use Rattle.std.specs.Prelude.{IsOk}
 use Rattle.sg_tree.specs.declared.report.Report.{Report}
 use Rattle.sg_cert.specs.declared.fault.ReportFault.{ReportFault}
 use Rattle.sg_cert.specs.Reading.{report_of}
-use Rattle.sg_cert.specs.Text.{report_text}
 use Rattle.sg_cert.specs.Ranges.{IsReportText}
 use Rattle.sg_cert.proofs.WholeAgain.{whole_again}
 use Rattle.sg_cert.proofs.WholeBack.{whole_forth}

@@ -1,4 +1,4 @@
-use Rattle.std.proofs.Common.{◌≡◌, ℕ, List, [], ◌∷◌, ◌++◌, map, refl, sym, ap, ◌∙◌, append_assoc}
+use Rattle.std.proofs.Common.{◌≡◌, ℕ, List, [], ◌∷◌, ◌++◌, map, refl, ap, ◌∙◌, append_assoc}
 use Rattle.std.proofs.Common.{length}
 use Rattle.std.specs.Prelude.{codes, decimal}
 use Rattle.std.specs.Fmt.{signed_decimal}
@@ -9,7 +9,7 @@ use Rattle.sg_model.specs.ReportText as water
 use Rattle.sg_tree.specs.declared.fact.Fact.{Fact}
 use Rattle.sg_tree.specs.declared.fact.Fact.TheVariants.{Water}
 use Rattle.sg_cert.specs.Laws.{report_of_water}
-use Rattle.sg_cert.specs.Text.{Row, spell, text_of, fraction_row, ticket_row, fact_rows, tail_rows, head_rows, report_text}
+use Rattle.sg_cert.specs.Text.{Row, text_of, fraction_row, ticket_row, fact_rows, tail_rows, head_rows, report_text}
 use Rattle.sg_cert.proofs.Rows.{text_then}
 use Rattle.sg_cert.proofs.Trees.{rows_closed}
 use Rattle.sg_cert.proofs.laws.water_text_agrees.Goals as goal

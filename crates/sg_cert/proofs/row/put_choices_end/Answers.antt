@@ -1,9 +1,7 @@
-use Rattle.sg_cert.proofs.Adding.{Writes-trans, Writes-as, Stops-early, Stops-as}
-use Rattle.std.proofs.Common.{[], ◌∷◌, ◌++◌, map, append_assoc}
+use Rattle.sg_cert.proofs.Adding.{Writes-trans, Stops-early}
+use Rattle.std.proofs.Common.{[], ◌∷◌, map}
 use Rattle.std.specs.Prelude.{decimal}
-use Rattle.std.specs.Fmt.{signed_decimal}
 use Rattle.sg_cert.specs.Text.{spaced}
-use Rattle.sg_cert.proofs.Rows.{line_text, list_text}
 use Rattle.sg_cert.proofs.row.put_choices_end.Goals as goal
 
 pub returns-in-Ok : goal.returns-in-Ok

@@ -1,9 +1,8 @@
 use Rattle.sg_cert.proofs.Adding.{Writes-trans, Writes-as, Stops-early, Stops-as}
-use Rattle.std.proofs.Common.{[], ◌∷◌, ◌++◌, map, append_assoc}
-use Rattle.std.specs.Prelude.{decimal}
+use Rattle.std.proofs.Common.{[], ◌∷◌, ◌++◌, map}
 use Rattle.std.specs.Fmt.{signed_decimal}
 use Rattle.sg_cert.specs.Text.{spaced}
-use Rattle.sg_cert.proofs.Rows.{line_text, list_text}
+use Rattle.sg_cert.proofs.Rows.{line_text}
 use Rattle.sg_cert.proofs.row.put_line.Goals as goal
 
 pub returns-in-Ok : goal.returns-in-Ok

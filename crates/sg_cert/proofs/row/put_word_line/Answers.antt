@@ -1,5 +1,5 @@
 use Rattle.sg_cert.proofs.Adding.{Writes-trans, Writes-as, Stops-early, Stops-as}
-use Rattle.std.proofs.Common.{[], ◌∷◌, ◌++◌, map, append_assoc}
+use Rattle.std.proofs.Common.{◌∷◌, ◌++◌, map}
 use Rattle.std.specs.Prelude.{decimal}
 use Rattle.std.specs.Fmt.{signed_decimal}
 use Rattle.sg_model.specs.ReportText.{line}

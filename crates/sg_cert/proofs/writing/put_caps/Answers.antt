@@ -1,13 +1,9 @@
-use Rattle.std.proofs.Common.{List, map, refl, get_or, pos}
+use Rattle.std.proofs.Common.{List}
 use Rattle.std.specs.List.{flat_map}
-use Rattle.sg_model.specs.declared.ticket.Ticket.{Ticket}
-use Rattle.sg_tree.specs.declared.fact.Mark.{Mark}
-use Rattle.sg_tree.specs.declared.fact.Line.{Line}
-use Rattle.sg_tree.specs.declared.fact.Fact.{Fact}
 use Rattle.sg_tree.specs.declared.report.Cap.{Cap}
-use Rattle.sg_cert.specs.Text.{spell, text_of, ticket_row, mark_row, line_row, fact_rows, cap_rows}
+use Rattle.sg_cert.specs.Text.{text_of, cap_rows}
 use Rattle.sg_cert.proofs.Adding.{folds_more, folds_stop, folds_end, folds_start}
-use Rattle.sg_cert.proofs.Rows.{folds_rows, folds_blocks}
+use Rattle.sg_cert.proofs.Rows.{folds_blocks}
 use Rattle.sg_cert.proofs.writing.put_caps.Goals as goal
 
 pub loop-cap-init : goal.loop-cap-init

@@ -1,6 +1,6 @@
-use Rattle.std.proofs.Common.{take, map}
+use Rattle.std.proofs.Common.{take}
 use Rattle.std.specs.List.{flat_map}
-use Rattle.sg_cert.specs.Text.{text_of, ticket_row, mark_row, line_row, fact_rows, cap_rows}
+use Rattle.sg_cert.specs.Text.{text_of, cap_rows}
 use Rattle.sg_cert.specs.Writing.{Adds}
 use Rattle.sg_cert.proofs.writing.put_caps.Given as goal
 

@@ -1,10 +1,7 @@
-use Rattle.sg_cert.proofs.Adding.{Writes-trans, Writes-as, Stops-early, Stops-as}
-use Rattle.std.proofs.Common.{[], ◌∷◌, ◌++◌, map, append_assoc, length}
-use Rattle.std.specs.Prelude.{decimal, codes}
-use Rattle.std.specs.Fmt.{signed_decimal}
-use Rattle.std.specs.List.{flat_map}
-use Rattle.sg_cert.specs.Text.{spell, text_of, fraction_row, ticket_row, claim_rows, mark_row, line_row, fact_rows, cap_row, cap_rows, base_rows, split_row, node_rows, verdict_row, head_rows, tail_rows}
-use Rattle.sg_cert.proofs.Rows.{text_then, head_text, tail_text, report_split}
+use Rattle.sg_cert.proofs.Adding.{Writes-trans, Stops-early}
+use Rattle.std.proofs.Common.{[], ◌∷◌}
+use Rattle.std.specs.Prelude.{codes}
+use Rattle.sg_cert.specs.Text.{spell, verdict_row}
 use Rattle.sg_cert.proofs.writing.put_end.Goals as goal
 
 pub returns-in-Ok : goal.returns-in-Ok

@@ -1,4 +1,4 @@
-use Rattle.std.proofs.Common.{◌≡◌, ◌∙◌, ap, ℕ, List, drop, ◌+◌}
+use Rattle.std.proofs.Common.{◌∙◌, ap, ℕ, List, drop}
 use Rattle.sg_cert.specs.Fields.{fields}
 use Rattle.sg_cert.proofs.Cut.{drop_once}
 use Rattle.sg_cert.proofs.field.Fields.after.Goals as goal
