@@ -11,7 +11,7 @@ use Rattle.std.specs.Prelude.{◌≤ℤ◌}
 use Rattle.sg_model.specs.declared.level.Level.TheVariants.{Resources, Target}
 use Rattle.sg_model.specs.declared.ticket.Ticket.{Ticket}
 use Rattle.sg_num.specs.Exact.{fits}
-use Rattle.sg_num.specs.Fractions.{Fraction}
+use Rattle.sg_frac.specs.Fractions.{Fraction}
 use Rattle.sg_tree.specs.Claims.{Claimed, comes_before, is_rising, are_positive, is_claim}
 use Rattle.sg_tree.specs.declared.fact.Mark.{Mark}
 use Rattle.sg_tree.specs.declared.fact.Line.{Line}

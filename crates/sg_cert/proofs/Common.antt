@@ -10,9 +10,9 @@ use Rattle.std.proofs.Common.{◌≢◌, ◌⊎◌}
 use Rattle.std.proofs.Math.Nat.{one-dvd}
 use Rattle.std.proofs.lemmas.Nat.Gcd.{dvd_refl}
 use Rattle.std.proofs.lemmas.Int.{ints}
-use Rattle.sg_num.specs.Fractions.{Fraction, IsReduced, IsReducedForm, IsReducedFormWide}
+use Rattle.sg_frac.specs.Fractions.{Fraction, IsReduced, IsReducedForm, IsReducedFormWide}
 use Rattle.sg_num.specs.Exact.{fits}
-use Rattle.sg_num.proofs.Reduced.{reduced_form-unique}
+use Rattle.sg_frac.proofs.Reduced.{reduced_form-unique}
 use Rattle.std.specs.Prelude.{FitsSigned, Ok, Err}
 use Rattle.std.specs.Int.{w128}
 use Rattle.sg_cert.specs.LineReading.{shares, reduced_of}

@@ -3,7 +3,7 @@
 use Rattle.std.specs.Prelude.{ℕ, zero, suc, ◌-◌, ◌^◌, ◌%◌, Bool, true, false, ◌&&◌, ◌||◌, ◌==◌, nat_lt, nat_le, if◌then◌else◌, List, [], drop, Option, Some, None, Result, Ok, Err, ℤ, pos, negsuc, unsigned_abs, codes, ◌≡◌, int_le}
 use Rattle.sg_model.specs.declared.level.Level.TheVariants.{Resources, Target}
 use Rattle.sg_model.specs.declared.ticket.Ticket.{Ticket}
-use Rattle.sg_num.specs.Fractions.{Fraction}
+use Rattle.sg_frac.specs.Fractions.{Fraction}
 use Rattle.sg_num.specs.declared.step.Op.{Op}
 use Rattle.sg_num.specs.declared.step.Op.TheVariants.{Sum, Less, Times}
 use Rattle.sg_num.specs.declared.step.Wide.{Wide}

@@ -6,7 +6,7 @@ use Rattle.sg_model.specs.declared.level.Level.{Level}
 use Rattle.sg_model.specs.declared.level.Level.TheVariants.{Resources, Target}
 use Rattle.sg_model.specs.declared.ticket.Ticket.{Ticket}
 use Rattle.sg_num.specs.Exact.{fits}
-use Rattle.sg_num.specs.Fractions.{Fraction, IsReduced}
+use Rattle.sg_frac.specs.Fractions.{Fraction, IsReduced}
 use Rattle.sg_tree.specs.Claims.{Claimed, is_claim}
 use Rattle.sg_tree.specs.declared.fact.Mark.{Mark}
 use Rattle.sg_tree.specs.declared.fact.Line.{Line}

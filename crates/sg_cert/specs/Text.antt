@@ -4,7 +4,7 @@ use Rattle.std.specs.Fmt.{signed_decimal}
 use Rattle.std.specs.List.{flat_map}
 use Rattle.sg_model.specs.declared.ticket.Ticket.{Ticket}
 use Rattle.sg_model.specs.ReportText.{line, reason_fields}
-use Rattle.sg_num.specs.Fractions.{Fraction}
+use Rattle.sg_frac.specs.Fractions.{Fraction}
 use Rattle.sg_num.specs.declared.step.Op.{Op}
 use Rattle.sg_num.specs.declared.step.Op.TheVariants.{Sum, Less, Times}
 use Rattle.sg_tree.specs.Claims.{Claimed}

@@ -1,7 +1,7 @@
 //! Reading fractions.
 
 ghost use Rattle.std.specs.Prelude.{◌≡◌, ◌-◌, ◌^◌, ◌≤◌, ◌≤ℤ◌, pos, unsigned_abs, Ok, Err};
-ghost use Rattle.sg_num.specs.Fractions.{IsReduced};
+ghost use Rattle.sg_frac.specs.Fractions.{IsReduced};
 ghost use Rattle.sg_cert.specs.Fields.{Steps, fields};
 ghost use Rattle.sg_cert.specs.Lines.{Reads};
 ghost use Rattle.sg_cert.specs.LineReading.{reduced_of, shares, fraction_next, fraction_of};
@@ -10,7 +10,8 @@ ghost use Rattle.sg_cert.specs.Reading.{fraction_at};
 use crate::fault::ReportFault;
 use crate::field::{Fields, shaped};
 use crate::lines::Lines;
-use sg_num::{Frac, gcd};
+use sg_frac::Frac;
+use sg_num::gcd;
 
 /// Whether a number above 1 divides both.
 fn has_common(a: u128, b: u128) -> bool

@@ -12,7 +12,7 @@ use crate::lines::Lines;
 use crate::node::{caps, node};
 use crate::ticket::claim;
 use crate::verdict::verdict;
-use sg_num::Frac;
+use sg_frac::Frac;
 use sg_tree::{Cap, Claim, Ending, Report, Tree};
 use sqlite_items::Items;
 use std::alloc::Global;

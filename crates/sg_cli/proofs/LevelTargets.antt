@@ -14,7 +14,7 @@ use Rattle.sg_model.proofs.Ints.{mul-le}
 use Rattle.sg_model.proofs.Numbers.{All-numbers, InRange-numbers}
 use Rattle.sg_model.proofs.Best.{top_item}
 use Rattle.sg_num.specs.Exact.{fits}
-use Rattle.sg_num.specs.Fractions.{IsReducedFormWide}
+use Rattle.sg_frac.specs.Fractions.{IsReducedFormWide}
 use Rattle.sg_origami.proofs.Bounds.{Within}
 use Rattle.sg_origami.proofs.Lowest.{lowers, within_factor}
 use Rattle.sg_origami.specs.declared.filling.Filling.{Filling}

@@ -10,7 +10,7 @@ use Rattle.sg_model.specs.Origami.{IsOrigami, IsWater, AreLevelTickets, count_at
 use Rattle.sg_model.proofs.Ints.{mul-le, product_nonneg}
 use Rattle.sg_model.proofs.Promises.{origami}
 use Rattle.sg_model.proofs.Tickets.{tickets-value, tickets-optimal}
-use Rattle.sg_num.specs.Fractions.{Fraction}
+use Rattle.sg_frac.specs.Fractions.{Fraction}
 use Rattle.sg_origami.specs.declared.filling.Filling.{Filling}
 use Rattle.sg_origami.specs.Fillings.{IsFilling}
 use Rattle.sg_cli.specs.Tickets.{IsSpread, spread}

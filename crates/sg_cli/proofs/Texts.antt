@@ -6,7 +6,7 @@ use Rattle.sg_model.specs.declared.level.Level.{Level}
 use Rattle.sg_model.specs.declared.ticket.Ticket.{Ticket}
 use Rattle.sg_model.specs.Commitments.{weight_total}
 use Rattle.sg_model.specs.ReportText.{line, ticket_line, reason_fields, report_text}
-use Rattle.sg_num.specs.Fractions.{Fraction}
+use Rattle.sg_frac.specs.Fractions.{Fraction}
 use Rattle.sg_cli.specs.Reports.{water_report, head_text, bounds_text}
 
 parts : (a b d e f g h : List ℕ) → (a ++ (b ++ d)) ++ ((e ++ (f ++ g)) ++ h) ≡ a ++ (b ++ (d ++ (e ++ (f ++ (g ++ h)))))

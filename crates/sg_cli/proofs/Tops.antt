@@ -12,7 +12,7 @@ use Rattle.sg_model.specs.Origami.{at_level, share, count_at, water_bound}
 use Rattle.sg_model.proofs.Ints.{v, plus, times, same_by, mul-le, cancel-le}
 use Rattle.sg_model.proofs.Numbers.{All-numbers, All-numbers-at, InRange-numbers, map-none}
 use Rattle.sg_model.proofs.Best.{greatest-reached, greatest-bounds, passes_have, filter_none, from_map, All-from_map}
-use Rattle.sg_num.specs.Fractions.{Fraction, IsReducedForm}
+use Rattle.sg_frac.specs.Fractions.{Fraction, IsReducedForm}
 use Rattle.sg_origami.specs.declared.filling.Filling.{Filling}
 use Rattle.sg_origami.specs.Fillings.{IsCoverage}
 use Rattle.sg_cli.specs.Gains.{gain_at, is_of_level, IsTopGain}

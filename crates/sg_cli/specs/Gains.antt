@@ -3,7 +3,7 @@ use Rattle.std.specs.Prelude.{◌≡◌, ℕ, ◌^◌, ◌≤◌, Bool, true, fa
 use Rattle.sg_model.specs.Sums.{nth}
 use Rattle.sg_model.specs.Games.{Payoff, Game, payoff}
 use Rattle.sg_model.specs.Limits.{IsWithin}
-use Rattle.sg_num.specs.Fractions.{Fraction, IsReducedForm}
+use Rattle.sg_frac.specs.Fractions.{Fraction, IsReducedForm}
 use Rattle.sg_origami.specs.declared.filling.Filling.{Filling}
 
 -- uncovered on all of so many tickets, but covered on `count` of them

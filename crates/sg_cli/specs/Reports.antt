@@ -5,7 +5,7 @@ use Rattle.sg_model.specs.declared.level.Level.{Level}
 use Rattle.sg_model.specs.declared.ticket.Ticket.{Ticket}
 use Rattle.sg_model.specs.Commitments.{weight_total}
 use Rattle.sg_model.specs.ReportText.{WaterReport, line, ticket_line, reason_fields}
-use Rattle.sg_num.specs.Fractions.{Fraction}
+use Rattle.sg_frac.specs.Fractions.{Fraction}
 
 -- these tickets, this value, which no commitment exceeds, and this level for this reason
 abbrev pub water_report : List Ticket → Fraction → Fraction → Level → WaterReport

@@ -8,7 +8,7 @@ use Rattle.sg_model.specs.Commitments.{IsCommitment, IsValue}
 use Rattle.sg_model.specs.Optimality.{IsOptimal}
 use Rattle.sg_model.specs.Origami.{IsWater, AreLevelTickets}
 use Rattle.sg_model.specs.ReportText.{WaterReport, report_text}
-use Rattle.sg_num.specs.Fractions.{IsReduced}
+use Rattle.sg_frac.specs.Fractions.{IsReduced}
 use Rattle.sg_origami.specs.Fillings.{IsReasonOf}
 use Rattle.sg_cli.specs.Tickets.{IsBefore}
 

@@ -8,7 +8,7 @@ ghost use Rattle.sg_cli.specs.Reports.{water_report, head_text, bounds_text};
 
 use itoa::Buffer;
 use sg_model::{Level, Ticket};
-use sg_num::Frac;
+use sg_frac::Frac;
 use std::alloc::{AllocError, Global};
 
 /// Adds a field of letters.

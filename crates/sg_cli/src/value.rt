@@ -3,13 +3,13 @@
 ghost use Rattle.std.specs.Prelude.{◌≡◌, ◌≤◌, ◌+◌, ◌-◌, ◌<◌, ◌^◌, true, length, pos, ◌-ℤ◌, ◌*ℤ◌, ◌≤ℤ◌, FitsSigned, slice_index_or};
 ghost use Rattle.std.specs.Int.{w128};
 ghost use Rattle.sg_model.specs.Games.{payoff};
-ghost use Rattle.sg_num.specs.Fractions.{IsReducedForm};
+ghost use Rattle.sg_frac.specs.Fractions.{IsReducedForm};
 ghost use Rattle.sg_origami.specs.Fillings.{IsFilling};
 ghost use Rattle.sg_cli.specs.Solutions.{IsSolved};
 ghost use Rattle.sg_cli.specs.Gains.{gain, gain_at, is_of_level, IsTop, IsTopGain, IsValueOf};
 
 use sg_game::Game;
-use sg_num::Frac;
+use sg_frac::Frac;
 use sg_origami::Filling;
 
 /// The product.

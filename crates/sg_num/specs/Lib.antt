@@ -1,4 +1,2 @@
 pub mod Exact
-pub mod Fractions
 pub mod Multiples
-pub mod Signed

@@ -6,7 +6,7 @@ use Rattle.sg_model.specs.Games.{Game, resource_count}
 use Rattle.sg_model.specs.Limits.{IsWithin}
 use Rattle.sg_model.specs.Origami.{IsWater}
 use Rattle.sg_model.proofs.Levels.{level_reached}
-use Rattle.sg_num.specs.Fractions.{Fraction, IsReduced, IsReducedForm}
+use Rattle.sg_frac.specs.Fractions.{Fraction, IsReduced, IsReducedForm}
 use Rattle.sg_origami.specs.declared.filling.Filling.{Filling}
 use Rattle.sg_origami.specs.Fillings.{IsCoverage, IsFilling}
 use Rattle.sg_origami.specs.Rates.{IsFillable}

@@ -6,7 +6,7 @@ use Rattle.std.proofs.lemmas.Int.{ints, unsigned_abs-mul}
 use Rattle.std.proofs.lemmas.Bool.Decides.{nat_tests}
 use Rattle.std.proofs.Math.Nat.{dvd-mul_left, mul-div_cancel'}
 use Rattle.sg_num.specs.Exact.{fits}
-use Rattle.sg_num.specs.Fractions.{Fraction, IsReducedForm, IsReducedFormWide}
+use Rattle.sg_frac.specs.Fractions.{Fraction, IsReducedForm, IsReducedFormWide}
 use Rattle.sg_num.proofs.Divisors.{dvd-coprime}
 use Rattle.sg_num.proofs.Signs.{cancel-nonzero}
 use Rattle.sg_model.proofs.Ints.{v, n, less, times, same_by, mul-le, cancel-le}

@@ -9,7 +9,7 @@ use Rattle.sg_model.specs.Games.{Game, payoff, resource_count}
 use Rattle.sg_model.specs.Commitments.{IsCommitment, weight_total, sum_a}
 use Rattle.sg_model.specs.Limits.{IsWithin}
 use Rattle.sg_model.specs.Origami.{IsFloor, IsWater, gap, count_at}
-use Rattle.sg_num.specs.Fractions.{IsReduced}
+use Rattle.sg_frac.specs.Fractions.{IsReduced}
 use Rattle.sg_origami.specs.declared.filling.Filling.{Filling}
 
 -- target j is the first that pays the attacker the level where it is covered for certain

@@ -1,7 +1,7 @@
 // Fillings of games, from the game to its level and its coverage.
 ghost use Rattle.std.specs.Prelude.{◌≡◌, ◌^◌, true, pos, ◌-ℤ◌, ◌≤ℤ◌, IfOk};
 ghost use Rattle.sg_model.specs.Limits.{is_scaled};
-ghost use Rattle.sg_num.specs.Fractions.{IsReducedForm};
+ghost use Rattle.sg_frac.specs.Fractions.{IsReducedForm};
 ghost use Rattle.sg_origami.specs.Fillings.{IsFilling};
 ghost use Rattle.sg_origami.specs.Rates.{IsFillable};
 
@@ -11,7 +11,7 @@ use crate::level::Height;
 use crate::rate::rates_of;
 use sg_game::Game;
 use sg_model::Level;
-use sg_num::Frac;
+use sg_frac::Frac;
 use sqlite_items::Items;
 use std::alloc::{AllocError, Global};
 

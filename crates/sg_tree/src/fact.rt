@@ -3,7 +3,7 @@
 ghost use Rattle.std.specs.Prelude.{◌≡◌, IfOk};
 
 use sg_model::Level;
-use sg_num::Frac;
+use sg_frac::Frac;
 use sqlite_items::Items;
 use std::alloc::{AllocError, Global};
 

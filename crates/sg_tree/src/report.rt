@@ -4,7 +4,8 @@ use crate::claim::Claim;
 use crate::fact::Fact;
 use crate::fix::Fix;
 use crate::tree::Tree;
-use sg_num::{Frac, Wide};
+use sg_frac::Frac;
+use sg_num::Wide;
 use sqlite_items::Items;
 
 /// The most that the defender is said to get against a type.

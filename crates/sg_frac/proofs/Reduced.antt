@@ -7,9 +7,9 @@ use Rattle.std.specs.Int.{◌∣◌, IsGcd}
 use Rattle.std.proofs.lemmas.Int.{ints, unsigned_abs-mul}
 use Rattle.std.proofs.Math.Nat.{one-dvd, dvd-mul_left, mul-div_cancel', mul-dvd-mul_left, dvd_of_mul-dvd-mul_left}
 use Rattle.std.proofs.lemmas.Nat.Gcd.{dvd_antisymm}
-use Rattle.sg_num.specs.Fractions.{Fraction, IsReducedForm, IsReducedFormWide}
+use Rattle.sg_frac.specs.Fractions.{Fraction, IsReducedForm, IsReducedFormWide}
 use Rattle.sg_num.specs.Exact.{fits}
-use Rattle.sg_num.specs.Signed.{signed, signed_if_fits}
+use Rattle.sg_frac.specs.Signed.{signed, signed_if_fits}
 use Rattle.sg_num.proofs.Divisors.{dvd-coprime, some_from_IsGcd}
 use Rattle.sg_num.proofs.Ring.{var, ◌⊗◌, ring}
 use Rattle.sg_num.proofs.Signs.{cancel-nonzero}

@@ -1,9 +1,9 @@
 // Fractions in their reduced form.
 ghost use Rattle.std.specs.Prelude.{◌≡◌, ◌↔◌, ◌⊎◌, pos, ◌≤ℤ◌, IfSome, IsNone};
-ghost use Rattle.sg_num.specs.Signed.{signed_if_fits};
-ghost use Rattle.sg_num.specs.Fractions.{IsReduced, IsReducedForm, IsReducedFormWide, ReducedFormIsUnique};
+ghost use Rattle.sg_frac.specs.Signed.{signed_if_fits};
+ghost use Rattle.sg_frac.specs.Fractions.{IsReduced, IsReducedForm, IsReducedFormWide, ReducedFormIsUnique};
 
-use crate::divisor::gcd;
+use sg_num::gcd;
 use std::marker::Model;
 
 /// A fraction in its reduced form: the denominator is at least 1 and has no common divisor above 1
@@ -15,7 +15,7 @@ pub struct Frac {
 }
 
 impl Model for Frac {
-    ghost use Rattle.sg_num.specs.Fractions.{Fraction, IsReduced};
+    ghost use Rattle.sg_frac.specs.Fractions.{Fraction, IsReduced};
 
     ghost Value = { Fraction };
 

@@ -1,5 +1,0 @@
-use Rattle.sg_num.proofs.Reduced.{reduced_form-unique}
-use Rattle.sg_num.proofs.frac.reduced_form_is_unique.Goals as goal
-
-pub returns : goal.returns
-returns c = reduced_form-unique
