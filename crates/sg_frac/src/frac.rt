@@ -1,9 +1,10 @@
 // Fractions in their reduced form.
-ghost use Rattle.std.specs.Prelude.{◌≡◌, ◌↔◌, ◌⊎◌, pos, ◌≤ℤ◌, IfSome, IsNone};
+ghost use Rattle.std.specs.Prelude.{◌≡◌, ◌↔◌, ◌⊎◌, pos, ◌≤ℤ◌, IfSome, IsNone, IfOk, string_bytes};
 ghost use Rattle.sg_frac.specs.Signed.{signed_if_fits};
-ghost use Rattle.sg_frac.specs.Fractions.{IsReduced, IsReducedForm, IsReducedFormWide, ReducedFormIsUnique};
+ghost use Rattle.sg_frac.specs.Fractions.{IsReduced, IsReducedForm, IsReducedFormWide, ReducedFormIsUnique, fraction_text};
 
 use sg_num::gcd;
+use std::alloc::{AllocError, Global};
 use std::marker::Model;
 
 /// A fraction in its reduced form: the denominator is at least 1 and has no common divisor above 1
@@ -61,6 +62,13 @@ impl Frac {
         ensures reduced { IsReduced self.now }
     {
         self.den
+    }
+
+    /// The text `num/den`, also where the denominator is 1.
+    pub fn text(self, alloc: Global) -> Result<String, AllocError>
+        ensures { IfOk result (λ text. string_bytes text ≡ fraction_text self) }
+    {
+        format!(in alloc; "{}/{}", self.num, self.den)
     }
 }
 
