@@ -1,8 +1,9 @@
 #!/usr/bin/env python3
-"""Times the proved program on ORIGAMI games of one patrol, beside a plain floating-point filling in the same run.
+"""Times the proved program on games of identical patrols, beside a plain floating-point filling in the same run.
 
-The program is crates/patrol/out/patrol, as `.ci/run` leaves it. Prints, for 100, 1,000 and 10,000 targets: the program's
-seconds (least of five runs, from file to report) and peak memory, the seconds of the floating-point filling, and their ratio.
+The program is crates/patrol/out/patrol, as `.ci/run` leaves it. Prints, for some numbers of targets and patrols: the program's
+seconds (least of five runs, from file to report), its peak memory, the size of the report, the seconds of the floating-point
+filling (which gives the level alone: no reading, no tickets, no text), and the ratio of the two.
 """
 import os
 import random
@@ -27,12 +28,12 @@ def payoffs_of(targets, seed):
     return rows
 
 
-def write_game(path, rows):
+def write_game(path, rows, patrols):
     names = ", ".join(f'"t{i + 1}"' for i in range(len(rows)))
     payoffs = ", ".join("[%d, %d, %d, %d]" % row for row in rows)
     with open(path, "w") as file:
         file.write(
-            f'version = 1\nform = "security"\nscale = {SCALE}\npatrols = 1\ntargets = [{names}]\n\n'
+            f'version = 1\nform = "security"\nscale = {SCALE}\npatrols = {patrols}\ntargets = [{names}]\n\n'
             f'[[type]]\nname = "a1"\nprior = 1\npayoffs = [{payoffs}]\n'
         )
 
@@ -58,12 +59,12 @@ def float_filling(rows, patrols):
 def main():
     if not os.path.exists(PROGRAM):
         sys.exit("no proved program: run .ci/run first")
-    print("targets  program s  peak MB  float s   ratio  value (program, float)")
+    print("targets  patrols  program s  peak MB  report MB  float s   ratio  value (program, float)")
     with tempfile.TemporaryDirectory() as folder:
-        for targets in (100, 1000, 10000):
+        for targets, patrols in ((100, 1), (1000, 1), (10000, 1), (1000, 50), (10000, 200)):
             rows = payoffs_of(targets, targets)
             path = os.path.join(folder, f"{targets}.toml")
-            write_game(path, rows)
+            write_game(path, rows, patrols)
             best = None
             for _ in range(5):
                 start = time.perf_counter()
@@ -72,12 +73,12 @@ def main():
                 best = spent if best is None else min(best, spent)
             peak = resource.getrusage(resource.RUSAGE_CHILDREN).ru_maxrss / 1024
             start = time.perf_counter()
-            value = float_filling(rows, 1)
+            value = float_filling(rows, patrols)
             plain = time.perf_counter() - start
             line = next(l for l in done.stdout.decode().split("\n") if l.startswith("value "))
             _, num, den = line.split()
             print(
-                f"{targets:7d}  {best:9.4f}  {peak:7.1f}  {plain:7.4f}  {best / plain:6.1f}  "
+                f"{targets:7d}  {patrols:7d}  {best:9.4f}  {peak:7.1f}  {len(done.stdout) / 2**20:9.1f}  {plain:7.4f}  {best / plain:6.1f}  "
                 f"{int(num) / int(den):.6f}, {value:.6f}"
             )
 

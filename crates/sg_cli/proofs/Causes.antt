@@ -5,7 +5,9 @@ use Rattle.sg_shelf.specs.Faults.{HasRisen}
 use Rattle.sg_shelf.specs.Taken.{Takes, TakesFront}
 use Rattle.sg_model.specs.Games.{Game}
 use Rattle.sg_words.specs.Commands.{Asked, solve}
-use Rattle.sg_cli.specs.Solutions.{IsReportText}
+use Rattle.sg_tree.specs.declared.report.Report.{Report}
+use Rattle.sg_cert.specs.Text.{report_text}
+use Rattle.sg_cli.specs.Solutions.{IsAnswer}
 use Rattle.sg_cli.specs.Runs.{scene, FileRefused, ReadsSolved, ComesOf, Solves, ReportIsNotWritten}
 use Rattle.sg_cli.specs.declared.refusal.Refusal.{Refusal}
 use Rattle.sg_cli.specs.declared.refusal.Refusal.TheVariants.{Words, GameNotRead, GameTooLong, GameRefused, NotYet, NotWritten, Memory}
@@ -23,22 +25,22 @@ module _ (asked : Option Asked) (files : Option Files) (name : List ℕ) (rb ra 
   refused_comes out Memory h = refl
 
   -- a report that was written whole
-  pub solves : (before after : Option (List ℕ)) (g : Game) (text : List ℕ) → ReadsSolved files name g → IsReportText g text → Takes before after text
+  pub solves : (before after : Option (List ℕ)) (g : Game) (r : Report) → ReadsSolved files name g → IsAnswer g r → Takes before after (report_text r)
       → Solves (scene asked files rb ra wb wa before after)
-  solves before after g text h t taken =
+  solves before after g r h a taken =
       record {
-        report = t.report;
-        reports = record { game = g; reads = record { name = name; names = names; bytes = h.says.bytes; reads = h.says.reads; game = h.says.game }; is_solved = h.is_solved; report = t.is_right };
-        takes = rw (← t.is_text) taken;
+        report = r;
+        reports = record { game = g; reads = record { name = name; names = names; bytes = h.says.bytes; reads = h.says.reads; game = h.says.game }; is_solved = h.is_solved; answer = a };
+        takes = taken;
       }
 
   -- one that was not
-  pub not_written : (before after : Option (List ℕ)) (g : Game) (text : List ℕ) → ReadsSolved files name g → IsReportText g text → TakesFront before after text → HasRisen wb wa
+  pub not_written : (before after : Option (List ℕ)) (g : Game) (r : Report) → ReadsSolved files name g → IsAnswer g r → TakesFront before after (report_text r) → HasRisen wb wa
       → ComesOf (scene asked files rb ra wb wa before after) NotWritten
-  not_written before after g text h t taken risen =
+  not_written before after g r h a taken risen =
       record {
         fault = risen;
-        report = t.report;
-        reports = record { game = g; reads = record { name = name; names = names; bytes = h.says.bytes; reads = h.says.reads; game = h.says.game }; is_solved = h.is_solved; report = t.is_right };
-        takes = rw (← t.is_text) taken;
+        report = r;
+        reports = record { game = g; reads = record { name = name; names = names; bytes = h.says.bytes; reads = h.says.reads; game = h.says.game }; is_solved = h.is_solved; answer = a };
+        takes = taken;
       }

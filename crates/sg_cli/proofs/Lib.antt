@@ -1,12 +1,5 @@
-pub mod Rests
-pub mod Spreads
-pub mod Texts
-pub mod Products
-pub mod LevelTargets
-pub mod TopSteps
-pub mod Tops
-pub mod Solutions
 pub mod Completes
 pub mod Tellings
 pub mod Causes
 pub mod Outcomes
+pub mod Ranges

@@ -3,13 +3,14 @@ use Rattle.std.specs.Prelude.{◌≡◌, ◌⊎◌, ℕ, ◌≤◌, List, map, l
 use Rattle.std.specs.declared.alloc.Global.{Global}
 use Rattle.sg_model.specs.declared.fault.GameFault.{GameFault}
 use Rattle.sg_model.specs.Games.{Game}
-use Rattle.sg_model.specs.ReportText.{WaterReport, report_text}
+use Rattle.sg_tree.specs.declared.report.Report.{Report}
+use Rattle.sg_cert.specs.Text.{report_text}
 use Rattle.sg_format.specs.GameFiles.{game_of_bytes}
 use Rattle.sg_shelf.specs.Faults.{HasRisen, HasNotRisen}
 use Rattle.sg_shelf.specs.Files.{Files, Reads, IsMissing, IsLong, held}
 use Rattle.sg_shelf.specs.Taken.{Takes, TakesFront}
 use Rattle.sg_words.specs.Commands.{Asked, solve}
-use Rattle.sg_cli.specs.Solutions.{IsSolved, IsOptimalReport}
+use Rattle.sg_cli.specs.Solutions.{IsSolved, IsAnswer}
 use Rattle.sg_cli.specs.Refusals.{status_of, line_of}
 use Rattle.sg_cli.specs.declared.refusal.Refusal.{Refusal}
 use Rattle.sg_cli.specs.declared.refusal.Refusal.TheVariants.{Words, GameNotRead, GameTooLong, GameRefused, NotYet, NotWritten, Memory}
@@ -56,15 +57,15 @@ pub record ReadsGame (s : Scene) (says : Result Game GameFault) : Type 0 where
   pub game : game_of_bytes bytes ≡ says
 
 -- a game that is solved was read, and this is a right report on it
-pub record Reports (s : Scene) (r : WaterReport) : Type 0 where
+pub record Reports (s : Scene) (r : Report) : Type 0 where
   pub game : Game
   pub reads : ReadsGame s (Ok game)
   pub is_solved : IsSolved game
-  pub report : IsOptimalReport game r
+  pub answer : IsAnswer game r
 
 -- the output took the text of a right report, and nothing else
 pub record Solves (s : Scene) : Type 0 where
-  pub report : WaterReport
+  pub report : Report
   pub reports : Reports s report
   pub takes : Takes s.out_before s.out_after (report_text report)
 
@@ -93,7 +94,7 @@ pub record GameIsNotYet (s : Scene) : Type 0 where
 -- the count of the output's faults rose, and the output took a front of the text of a right report
 pub record ReportIsNotWritten (s : Scene) : Type 0 where
   pub fault : HasRisen s.writes_before s.writes_after
-  pub report : WaterReport
+  pub report : Report
   pub reports : Reports s report
   pub takes : TakesFront s.out_before s.out_after (report_text report)
 

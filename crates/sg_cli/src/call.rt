@@ -6,7 +6,7 @@ ghost use Rattle.sg_cli.specs.Refusals.{IsGameRefused, line_of};
 ghost use Rattle.sg_cli.specs.Runs.{scene, texts, Answers, IsComplete, Tells};
 
 use crate::refusal::Refusal;
-use crate::solving::solve;
+use crate::solving::obey;
 use sg_shelf::{Shelf, Sink};
 use std::alloc::Global;
 
@@ -61,7 +61,7 @@ pub fn run<S: Shelf, O: Sink, E: Sink>(
     ensures writes { O.faults out.old ≤ O.faults out.new }
     ensures tellings { E.faults err.old ≤ E.faults err.new }
 {
-    match solve(alloc, words, shelf, out) {
+    match obey(alloc, words, shelf, out) {
         Ok(()) => 0,
         Err(refusal) => tell(alloc, refusal, err).status(),
     }

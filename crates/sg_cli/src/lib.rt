@@ -6,11 +6,8 @@
 
 mod call;
 mod refusal;
-mod report;
-mod solution;
+mod ranges;
 mod solving;
-mod tickets;
-mod value;
 
 pub use call::run;
 pub use refusal::Refusal;

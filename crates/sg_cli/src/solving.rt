@@ -3,15 +3,18 @@
 ghost use Rattle.std.specs.Prelude.{◌≡◌, ◌≢◌, ◌≤◌, ◌⊎◌, ◌↔◌, IfOk, IfErr, OnOk, IsTrue, IsErrOf, Ok, Err, length, map, string_bytes, vec_len, Some, option_map};
 ghost use Rattle.sg_format.specs.GameFiles.{game_of_bytes};
 ghost use Rattle.sg_shelf.specs.Files.{Reads};
-ghost use Rattle.sg_words.specs.Commands.{command_given, solve};
-ghost use Rattle.sg_cli.specs.Solutions.{IsSolved, IsReportText};
+ghost use Rattle.sg_words.specs.Commands as commands;
+ghost use Rattle.sg_cli.specs.Solutions.{IsSolved, IsAnswer};
 ghost use Rattle.sg_cli.specs.Runs.{scene, texts, ComesOf, Solves, FileFails, GameFails, FileRefused, ReadsSolved};
 
 use crate::refusal::Refusal;
-use crate::solution::report_on;
+use crate::ranges::lies_in_ranges;
+use sg_cert::write_report;
 use sg_file::{GameError, read_game};
 use sg_game::{Game, is_origami};
 use sg_shelf::{Shelf, ShelfError, Sink};
+use sg_solve::solve;
+use sg_tree::Report;
 use sg_words::{Command, command_of};
 use std::alloc::{AllocError, Global};
 
@@ -39,7 +42,7 @@ fn game_of(alloc: Global, bytes: &[u8]) -> Result<Game, Refusal>
 {
     match read_game(alloc, bytes) {
         Ok(game) => {
-            if is_origami(&game) && game.patrols() == Some(1) {
+            if is_origami(&game) {
                 Ok(game)
             } else {
                 Err(Refusal::NotYet)
@@ -63,12 +66,22 @@ fn game_named<S: Shelf>(alloc: Global, shelf: &mut S, name: &str) -> Result<Game
 
 /// The game that the words ask to solve, or none where they give no command.
 fn game_asked<'a>(alloc: Global, words: &'a [String]) -> Result<Option<&'a str>, AllocError>
-    ensures { IfOk result (λ o. option_map (λ name. solve name.now) o ≡ command_given (texts words.entry.now)) }
+    ensures { IfOk result (λ o. option_map (λ name. commands.solve name.now) o ≡ commands.command_given (texts words.entry.now)) }
 {
     match command_of(alloc, words)? {
         Some(Command::Solve { game }) => Ok(Some(game)),
         None => Ok(None),
     }
+}
+
+/// A right report on the game, whose text is a report text.
+fn report_on(alloc: Global, game: &Game) -> Result<Report, AllocError>
+    requires { IsSolved game.now }
+    ensures { IfOk result (IsAnswer game.now) }
+{
+    let report = solve(alloc, game)?;
+    lies_in_ranges(game, &report);
+    Ok(report)
 }
 
 /// Solves the game in the file of that name, and writes its report.
@@ -82,27 +95,27 @@ fn solve_named<S: Shelf, O: Sink>(
     ensures reads { S.faults shelf.old ≤ S.faults shelf.new }
     ensures writes { O.faults out.old ≤ O.faults out.new }
     ensures kept { IfErr result (λ e. e ≢ Refusal.NotWritten → out.new ≡ out.old) }
-    ensures ok { OnOk result (Solves (scene (Some (solve name.now)) (S.files shelf.old) (S.faults shelf.old) (S.faults shelf.new)
+    ensures ok { OnOk result (Solves (scene (Some (commands.solve name.now)) (S.files shelf.old) (S.faults shelf.old) (S.faults shelf.new)
         (O.faults out.old) (O.faults out.new) (O.taken out.old) (O.taken out.new))) }
-    ensures err { IfErr result (ComesOf (scene (Some (solve name.now)) (S.files shelf.old) (S.faults shelf.old) (S.faults shelf.new)
+    ensures err { IfErr result (ComesOf (scene (Some (commands.solve name.now)) (S.files shelf.old) (S.faults shelf.old) (S.faults shelf.new)
         (O.faults out.old) (O.faults out.new) (O.taken out.old) (O.taken out.new))) }
 {
     let game = match game_named(alloc, shelf, name) {
         Ok(game) => game,
         Err(refusal) => return Err(refusal),
     };
-    let text = match report_on(alloc, &game) {
-        Ok(text) => text,
+    let report = match report_on(alloc, &game) {
+        Ok(report) => report,
         Err(_) => return Err(Refusal::Memory),
     };
-    match out.put(text.as_slice()) {
+    match write_report(&report, out) {
         Ok(()) => Ok(()),
         Err(_) => Err(Refusal::NotWritten),
     }
 }
 
 /// Does what the words ask for.
-pub fn solve<S: Shelf, O: Sink>(
+pub fn obey<S: Shelf, O: Sink>(
     alloc: Global,
     words: &[String],
     shelf: &mut S,
@@ -112,9 +125,9 @@ pub fn solve<S: Shelf, O: Sink>(
     ensures reads { S.faults shelf.old ≤ S.faults shelf.new }
     ensures writes { O.faults out.old ≤ O.faults out.new }
     ensures kept { IfErr result (λ e. e ≢ Refusal.NotWritten → out.new ≡ out.old) }
-    ensures ok { OnOk result (Solves (scene (command_given (texts words.now)) (S.files shelf.old) (S.faults shelf.old) (S.faults shelf.new)
+    ensures ok { OnOk result (Solves (scene (commands.command_given (texts words.now)) (S.files shelf.old) (S.faults shelf.old) (S.faults shelf.new)
         (O.faults out.old) (O.faults out.new) (O.taken out.old) (O.taken out.new))) }
-    ensures err { IfErr result (ComesOf (scene (command_given (texts words.now)) (S.files shelf.old) (S.faults shelf.old) (S.faults shelf.new)
+    ensures err { IfErr result (ComesOf (scene (commands.command_given (texts words.now)) (S.files shelf.old) (S.faults shelf.old) (S.faults shelf.new)
         (O.faults out.old) (O.faults out.new) (O.taken out.old) (O.taken out.new))) }
 {
     match game_asked(alloc, words) {

@@ -47,8 +47,8 @@ fn answers(
     Ok(answer == status && out.bytes() == report.as_bytes() && err.bytes() == line.as_bytes())
 }
 
-/// Games of one patrol, worked out by hand: the top keys, the payoffs, and the report.
-const SOLVED: [(&str, &str, &str); 12] = [
+/// Games of identical patrols, worked out by hand: the top keys, the payoffs, and the report.
+const SOLVED: [(&str, &str, &str); 19] = [
     // Two targets, the first worth twice the second.
     (
         "scale = 4\npatrols = 1\ntargets = [\"t1\", \"t2\"]",
@@ -121,10 +121,52 @@ const SOLVED: [(&str, &str, &str); 12] = [
         "[[1, -4, -2, 4], [1, -4, -2, 4], [0, -1, -1, 2], [2, -9, 0, 1]]",
         "patrol-report 1\ntickets 3 12\nt 5 1\nt 5 2\nt 2 3\nvalue -5 6\nwater 3 2 resources\nupper -5 6\nverdict optimal\nend\n",
     ),
+    // No patrol at all.
+    (
+        "scale = 4\npatrols = 0\ntargets = [\"t1\", \"t2\"]",
+        "[[2, -2, 0, 4], [1, -1, 0, 2]]",
+        "patrol-report 1\ntickets 1 1\nt 1\nvalue -2 1\nwater 4 1 resources\nupper -2 1\nverdict optimal\nend\n",
+    ),
+    // Two patrols at three targets alike: each is covered on two of three tickets.
+    (
+        "scale = 1\npatrols = 2\ntargets = [\"t1\", \"t2\", \"t3\"]",
+        "[[0, -1, 0, 1], [0, -1, 0, 1], [0, -1, 0, 1]]",
+        "patrol-report 1\ntickets 3 3\nt 1 1 2\nt 1 1 3\nt 1 2 3\nvalue -1 3\nwater 1 3 resources\nupper -1 3\nverdict optimal\nend\n",
+    ),
+    // More patrols than targets, of which one target stays uncovered on a ticket: more would not help.
+    (
+        "scale = 4\npatrols = 3\ntargets = [\"t1\", \"t2\"]",
+        "[[2, -2, 0, 4], [1, -1, 1, 2]]",
+        "patrol-report 1\ntickets 2 4\nt 3 1 2 0\nt 1 2 0 0\nvalue 1 1\nwater 1 1 target 2\nupper 1 1\nverdict optimal\nend\n",
+    ),
+    // As many patrols as targets.
+    (
+        "scale = 4\npatrols = 2\ntargets = [\"t1\", \"t2\"]",
+        "[[2, -2, 0, 4], [1, -1, 0, 2]]",
+        "patrol-report 1\ntickets 1 1\nt 1 1 2\nvalue 2 1\nwater 0 1 target 1\nupper 2 1\nverdict optimal\nend\n",
+    ),
+    // Eight terminals and three patrols, one of which crosses the end of its tickets.
+    (
+        "scale = 12\npatrols = 3\ntargets = [\"t1\", \"t2\", \"t3\", \"t4\", \"t5\", \"t6\", \"t7\", \"t8\"]",
+        "[[2, -8, -2, 10], [1, -6, -4, 8], [1, -5, 0, 6], [1, -4, -2, 4], [1, -3, -1, 3], [0, -2, -2, 2], [0, -1, -3, 1], [0, -1, -4, 0]]",
+        "patrol-report 1\ntickets 6 144\nt 4 1 2 3\nt 34 1 2 4\nt 28 1 3 4\nt 37 1 3 5\nt 20 2 3 5\nt 21 2 3 6\nvalue -5 12\nwater 17 12 resources\nupper -5 12\nverdict optimal\nend\n",
+    ),
+    // A single target and two patrols.
+    (
+        "scale = 1\npatrols = 2\ntargets = [\"t1\"]",
+        "[[1, -1, 0, 1]]",
+        "patrol-report 1\ntickets 1 1\nt 1 1 0\nvalue 1 1\nwater 0 1 target 1\nupper 1 1\nverdict optimal\nend\n",
+    ),
+    // Two patrols at four targets alike: no patrol crosses the end of its tickets.
+    (
+        "scale = 1\npatrols = 2\ntargets = [\"t1\", \"t2\", \"t3\", \"t4\"]",
+        "[[0, -1, 0, 1], [0, -1, 0, 1], [0, -1, 0, 1], [0, -1, 0, 1]]",
+        "patrol-report 1\ntickets 2 2\nt 1 1 3\nt 1 2 4\nvalue -1 2\nwater 1 2 resources\nupper -1 2\nverdict optimal\nend\n",
+    ),
 ];
 
 #[test]
-fn solves_games_of_one_patrol(rt: HostRuntime) -> Result<(), AllocError> {
+fn solves_games_of_identical_patrols(rt: HostRuntime) -> Result<(), AllocError> {
     let alloc = rt.alloc();
     for (keys, payoffs, report) in SOLVED {
         let text = game_text(alloc, keys, payoffs)?;
@@ -187,12 +229,6 @@ const REFUSED: [(&str, &str, u8, &str); 10] = [
     ),
     (
         "patrols = 1\ntargets = [\"gate\", \"hall\"]",
-        "[[2, -2, 0, 4], [1, -1, 0, 2]]",
-        3,
-        "not yet\n",
-    ),
-    (
-        "scale = 4\npatrols = 2\ntargets = [\"gate\", \"hall\"]",
         "[[2, -2, 0, 4], [1, -1, 0, 2]]",
         3,
         "not yet\n",
@@ -302,7 +338,7 @@ fn tells_a_fault_of_the_outside(rt: HostRuntime) -> Result<(), AllocError> {
     assert!(rt; out.bytes().is_empty());
     assert!(rt; err.bytes() == "game not read\n".as_bytes());
 
-    // An output that fails after two bytes: the whole report is one piece.
+    // An output that fails after two bytes.
     let mut shelf = shelf_of(alloc, text.as_bytes(), &[])?;
     let mut out = MemSink::new(alloc, Vec::from_slice(alloc, &[1])?, 2)?;
     let mut err = MemSink::new(alloc, Vec::new(alloc), 0)?;

@@ -3,3 +3,4 @@ pub mod Standing
 pub mod Joins
 pub mod Shares
 pub mod Faults
+pub mod SharedTotals

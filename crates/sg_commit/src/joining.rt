@@ -84,7 +84,7 @@ fn join(tickets: &mut [Ticket]) -> usize
 }
 
 // The greatest number that divides all weights.
-fn common_divisor(tickets: &[Ticket]) -> i128
+pub(crate) fn common_divisor(tickets: &[Ticket]) -> i128
     requires some { 1 ≤ length tickets.now }
     requires positive { All (λ (x : Ticket). pos 1 ≤ℤ x.weight) tickets.now }
     ensures positive { pos 1 ≤ℤ result }

@@ -4,6 +4,7 @@
 mod commitment;
 mod joining;
 mod parts;
+mod rising;
 
 pub use commitment::Commitment;
 pub use parts::PartFault;

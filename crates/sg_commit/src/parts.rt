@@ -51,7 +51,7 @@ fn place_below(parts: &[Ticket]) -> Option<usize>
 }
 
 // The sum of the weights.
-fn running_sum(parts: &[Ticket]) -> Result<i128, Wide>
+pub(crate) fn running_sum(parts: &[Ticket]) -> Result<i128, Wide>
     ensures { result ≡ exact_total (pos 0) parts.now }
 {
     let mut acc = 0;

@@ -1,5 +1,5 @@
 -- What a report may say of its tickets.
-use Rattle.std.specs.Prelude.{ℕ, ℤ, pos, Bool, true, not, ◌&&◌, ◌==◌, int_le, List, [], ◌∷◌, length}
+use Rattle.std.specs.Prelude.{◌≡◌, ℕ, ℤ, pos, All, Bool, true, not, ◌&&◌, ◌==◌, int_le, List, [], ◌∷◌, length}
 use Rattle.std.specs.List.{list_all}
 use Rattle.std.specs.Ordering.{nat_cmp, is_lt}
 use Rattle.std.specs.Cmp.Lexicographic.{slice_cmp}
@@ -27,3 +27,7 @@ are_positive ts = list_all (λ t. int_le (pos 1) t.weight) ts
 -- whether there is a ticket, all weights are at least 1, and the lists of choices rise
 abbrev pub is_claim : List Ticket → Bool
 is_claim ts = not (length ts == 0) && (are_positive ts && is_rising ts)
+
+-- all lists of choices have one length
+abbrev pub HaveOneLength : List Ticket → Type 0
+HaveOneLength ts = (n : ℕ) × All (λ (t : Ticket). length t.play.code ≡ n) ts

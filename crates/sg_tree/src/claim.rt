@@ -1,8 +1,10 @@
 //! What a report says of its tickets.
 
-ghost use Rattle.std.specs.Prelude.{◌≡◌, true, Some, None, if◌then◌else◌};
-ghost use Rattle.sg_tree.specs.Claims.{is_claim, is_rising, are_positive, comes_before};
+ghost use Rattle.std.specs.Prelude.{◌≡◌, ◌↔◌, true, Some, None, IfSome, IsNone, if◌then◌else◌};
+ghost use Rattle.sg_commit.specs.Rising.{AreShares};
+ghost use Rattle.sg_tree.specs.Claims.{HaveOneLength, is_claim, is_rising, are_positive, comes_before};
 
+use sg_commit::Commitment;
 use sg_model::Ticket;
 use sqlite_items::Items;
 use std::cmp::Ordering;
@@ -46,6 +48,26 @@ impl Claim {
         ensures { result ≡ record { tickets = tickets; total = total } }
     {
         Claim { tickets, total }
+    }
+
+    /// The tickets and the total of a commitment, whose lists of choices have one length.
+    pub fn of(k: Commitment) -> Claim
+        requires { HaveOneLength k.tickets }
+        ensures { result ≡ record { tickets = k.tickets; total = k.total } }
+    {
+        let total = k.total();
+        let tickets = k.into_tickets();
+        Claim { tickets, total }
+    }
+
+    /// The same tickets and total, as a commitment. `None` exactly where the total is not the sum of the weights, or a
+    /// number above 1 divides all of them.
+    pub fn commit(self) -> Option<Commitment>
+        ensures value { IfSome result (λ k. k ≡ record { tickets = self.tickets; total = self.total }) }
+        ensures none { IsNone result ↔ (¬ (AreShares self.tickets self.total)) }
+    {
+        let Claim { tickets, total } = self;
+        Commitment::of_rising(tickets, total)
     }
 
     /// The tickets. The contract says too what holds of every claim.

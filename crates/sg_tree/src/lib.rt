@@ -9,12 +9,14 @@ mod fact;
 mod fix;
 mod report;
 mod tree;
+mod worked;
 
 pub use claim::{Claim, precedes};
 pub use fact::{Fact, Line, Mark};
 pub use fix::Fix;
 pub use report::{Cap, Cause, Ending, Report};
 pub use tree::Tree;
+pub use worked::Worked;
 
 #[cfg(test)]
 mod tests;

@@ -1,0 +1,6 @@
+use Rattle.sg_cli.proofs.Ranges.{in_ranges}
+use Rattle.sg_cli.proofs.ranges.lies_in_ranges.Goals as goal
+
+pub returns : goal.returns
+returns c =
+    in_ranges c.args.game.now c.promises.ensures c.requires.solved c.args.report.now c.requires.right c.sizes_of-_sizes.ensures c.parts_of-_value.ensures c.level_of-_level.ensures

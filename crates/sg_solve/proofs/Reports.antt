@@ -1,0 +1,65 @@
+-- Tickets that cover each target as a filling counts make a right report.
+use Rattle.std.proofs.Common.{◌≡◌, ◌≢◌, ℕ, zero, suc, ◌≤◌, ◌<◌, ◌^◌, ◌-◌, ◌+◌, true, List, [], ◌∷◌, length, ℤ, pos, ◌+ℤ◌, ◌*ℤ◌, ◌≤ℤ◌, Some, sym, ◌∙◌, ap, subst, refl, arith}
+use Rattle.std.specs.List.{All}
+use Rattle.std.proofs.lemmas.Int.{ints}
+use Rattle.sg_model.specs.declared.ticket.Ticket.{Ticket}
+use Rattle.sg_model.specs.Sums.{nth, total}
+use Rattle.sg_model.specs.Games.{Game, resource_count, prior_total}
+use Rattle.sg_model.specs.Limits.{IsGame, is_scaled}
+use Rattle.sg_model.specs.Commitments.{IsCommitment, IsValue, cover_count, weight_total, worth}
+use Rattle.sg_model.specs.Optimality.{IsOptimal}
+use Rattle.sg_model.specs.Origami.{IsOrigami, IsWater, AreLevelTickets, count_at}
+use Rattle.sg_model.proofs.Ints.{v, times, same_by, mul-le, product_nonneg, cancel}
+use Rattle.sg_model.proofs.Promises.{origami}
+use Rattle.sg_model.proofs.Tickets.{tickets-optimal}
+use Rattle.sg_frac.specs.Fractions.{Fraction, IsReducedForm}
+use Rattle.sg_origami.specs.declared.filling.Filling.{Filling}
+use Rattle.sg_origami.specs.Fillings.{IsFilling, IsCoverage}
+use Rattle.sg_tree.specs.Claims.{is_claim}
+use Rattle.sg_solve.specs.Solutions.{AreLowest, AreRightTickets, IsRightLevel}
+
+-- tickets of this total that cover each target as often, out of it, as the filling counts
+pub record AreServed (g : Game) (f : Filling) (k : List Ticket) (d : ℤ) : Type 0 where
+  pub right : AreRightTickets g (record { tickets = k; total = d })
+  pub counts : (t : ℕ) → 1 ≤ t → t ≤ length g.goals → cover_count g k t *ℤ f.total ≡ nth f.counts t (pos 0) *ℤ d
+
+swap : (a b c : ℤ) → (a *ℤ b) *ℤ c ≡ (a *ℤ c) *ℤ b
+swap a b c = same_by (times (times (v a) (v b)) (v c)) (times (times (v a) (v c)) (v b)) (omega arith)
+
+pub level_tickets : (g : Game) (f : Filling) → IsFilling g f → (k : List Ticket) (d : ℤ) → AreServed g f k d → AreLevelTickets g f.level.num f.level.den k
+level_tickets g f h k d s t low high =
+    let c = h.coverage in
+    let ds : ℤ = f.level.den *ℤ g.scale in
+    let n : ℤ = nth f.counts t (pos 0) in
+    let here : ℤ = cover_count g k t in
+    let want : ℤ = count_at g f.level.num f.level.den t in
+    let a : (here *ℤ ds) *ℤ f.total ≡ (here *ℤ f.total) *ℤ ds = swap here ds f.total in
+    let b : (here *ℤ f.total) *ℤ ds ≡ (n *ℤ d) *ℤ ds = ap (λ (z : ℤ). z *ℤ ds) (s.counts t low high) in
+    let e : (n *ℤ d) *ℤ ds ≡ (n *ℤ ds) *ℤ d = swap n d ds in
+    let j : (n *ℤ ds) *ℤ d ≡ (want *ℤ f.total) *ℤ d = ap (λ (z : ℤ). z *ℤ d) (c.shares t low high) in
+    let m : (want *ℤ f.total) *ℤ d ≡ (want *ℤ d) *ℤ f.total = swap want f.total d in
+    let same : want *ℤ d ≡ want *ℤ weight_total k = ap (λ (z : ℤ). want *ℤ z) s.right.total in
+    cancel (here *ℤ ds) (want *ℤ d) f.total (a ∙ (b ∙ (e ∙ (j ∙ m)))) c.ticket_range.at_least ∙ same
+
+-- the level of a filling is one for the patrols of the game
+resource_is : (g : Game) (n : ℕ) → g.patrols ≡ Some n → resource_count g ≡ n
+resource_is g n e = rw e refl
+
+pub is_origami : (g : Game) → IsGame g → is_scaled g ≡ true → IsOrigami g (resource_count g)
+is_origami g is s =
+    let o = origami g is s in
+    subst (IsOrigami g) (sym (resource_is g o.0 o.1.identical)) o.1
+
+pub right_level : (g : Game) (f : Filling) → IsFilling g f → (k : List Ticket) (d : ℤ) → AreServed g f k d → IsRightLevel g k f.level f.reason
+right_level g f h k d s = record { water = h.water; reduced = h.reduced; reason = h.reason; coverage = level_tickets g f h k d s }
+
+pub served_optimal : (g : Game) → IsGame g → is_scaled g ≡ true → (f : Filling) → IsFilling g f → (k : List Ticket) (d : ℤ) → AreServed g f k d → IsOptimal g k
+served_optimal g is sc f h k d s =
+    tickets-optimal g (resource_count g) (is_origami g is sc) f.level.num f.level.den h.water.positive k s.right.commitment (level_tickets g f h k d s) f.reason h.water
+
+-- worth over the total and the priors is the value
+pub is_value : (g : Game) (k : List Ticket) (d : ℤ) → d ≡ weight_total k → (f : Fraction) → IsReducedForm (worth g k) (d *ℤ prior_total g) f → IsValue g k f.num f.den
+is_value g k d e f h = record {
+  positive = h.reduced.positive;
+  same = sym h.equal ∙ (same_by (times (v f.num) (times (v d) (v (prior_total g)))) (times (times (v f.num) (v d)) (v (prior_total g))) (omega arith) ∙ ap (λ (z : ℤ). (f.num *ℤ z) *ℤ prior_total g) e);
+}

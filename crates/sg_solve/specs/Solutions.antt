@@ -1,0 +1,60 @@
+-- What a right report on a game of identical patrols says.
+use Rattle.std.specs.Prelude.{◌≡◌, ℕ, true, List, [], All, unsigned_abs}
+use Rattle.std.specs.Int.{◌∣◌}
+use Rattle.sg_model.specs.declared.level.Level.{Level}
+use Rattle.sg_model.specs.declared.ticket.Ticket.{Ticket}
+use Rattle.sg_model.specs.Games.{Game, resource_count}
+use Rattle.sg_model.specs.Commitments.{IsCommitment, IsValue, weight_total}
+use Rattle.sg_model.specs.Optimality.{IsOptimal}
+use Rattle.sg_model.specs.Origami.{IsWater, AreLevelTickets}
+use Rattle.sg_frac.specs.Fractions.{Fraction, IsReduced}
+use Rattle.sg_origami.specs.Fillings.{IsReasonOf}
+use Rattle.sg_tree.specs.Claims.{Claimed, is_claim}
+use Rattle.sg_tree.specs.declared.fact.Fact.TheVariants.{Water}
+use Rattle.sg_tree.specs.declared.tree.Tree.{Tree}
+use Rattle.sg_tree.specs.declared.tree.Tree.TheVariants.{Closed}
+use Rattle.sg_tree.specs.declared.report.Ending.TheVariants.{Optimal}
+use Rattle.sg_tree.specs.declared.report.Report.{Report}
+
+-- no number above 1 divides all the weights
+abbrev pub AreLowest : List Ticket → Type 0
+AreLowest k = (d : ℕ) → All (λ (x : Ticket). d ∣ unsigned_abs x.weight) k → d ≡ 1
+
+-- the tickets are a commitment, with their total, in lowest terms
+pub record AreRightTickets (g : Game) (c : Claimed) : Type 0 where
+  -- they are legal, different, and each has a weight of at least 1
+  pub commitment : IsCommitment g c.tickets
+  -- their plays stand in rising order
+  pub rising : is_claim c.tickets ≡ true
+  -- the total is the sum of their weights, which are in lowest terms
+  pub total : c.total ≡ weight_total c.tickets
+  pub lowest : AreLowest c.tickets
+
+-- one water-level fact, which holds, and which the tickets reach
+pub record IsRightLevel (g : Game) (k : List Ticket) (level : Fraction) (why : Level) : Type 0 where
+  -- the attacker's best payoff can't fall below the level, for this reason
+  pub water : IsWater g (resource_count g) level.num level.den why
+  -- the level is in lowest terms
+  pub reduced : IsReduced level
+  -- the reason is the first target that pays the level where it is covered for certain, else the patrols
+  pub reason : IsReasonOf g level.num level.den why
+  -- the tickets cover each target just as the level asks
+  pub coverage : AreLevelTickets g level.num level.den k
+
+-- a report that says what is true of the game, and leaves nothing open
+pub record IsOptimalReport (g : Game) (r : Report) : Type 0 where
+  pub tickets : AreRightTickets g r.tickets
+  -- the value is theirs, ties to the defender, in lowest terms
+  pub value : IsValue g r.tickets.tickets r.value.num r.value.den
+  pub reduced : IsReduced r.value
+  -- no commitment has more
+  pub optimal : IsOptimal g r.tickets.tickets
+  -- the tree is one water-level fact, and there are no caps
+  pub level : Fraction
+  pub why : Level
+  pub tree : r.tree ≡ Closed (Water level why)
+  pub right_level : IsRightLevel g r.tickets.tickets level why
+  pub caps : r.caps ≡ []
+  -- the upper bound is the value, and the verdict says so
+  pub upper : r.upper ≡ r.value
+  pub ending : r.ending ≡ Optimal
