@@ -1,0 +1,11 @@
+pub mod Commits
+pub mod Counted
+pub mod Covered
+pub mod CutPlaces
+pub mod Ends
+pub mod Firsts
+pub mod Kept
+pub mod Legal
+pub mod Mixes
+pub mod Moments
+pub mod Tickets

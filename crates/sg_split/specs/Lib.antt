@@ -1,0 +1,4 @@
+pub mod Laying
+pub mod Laws
+pub mod Lines
+pub mod Wraps

@@ -1,0 +1,13 @@
+//! Laws about counts that lie end to end on identical patrols, each as the contract of a function that does nothing.
+
+ghost use Rattle.sg_split.specs.Laws.{MomentsCoverCounts, PlaysStayBetweenCuts};
+
+/// Over all moments, the patrols cover each target just as often as its count says, with legal plays.
+pub fn moments_cover_counts()
+    ensures { MomentsCoverCounts }
+{}
+
+/// From a moment to before the next cut place nobody moves, so each interval between neighbouring cut places has one play.
+pub fn plays_stay_between_cuts()
+    ensures { PlaysStayBetweenCuts }
+{}
