@@ -4,3 +4,4 @@ pub mod Joins
 pub mod Shares
 pub mod Faults
 pub mod SharedTotals
+pub mod Distinct

@@ -3,8 +3,10 @@
 
 mod commitment;
 mod joining;
+mod laws;
 mod parts;
 mod rising;
 
 pub use commitment::Commitment;
+pub use laws::committed_is_commitment;
 pub use parts::PartFault;

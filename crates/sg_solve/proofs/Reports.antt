@@ -1,21 +1,29 @@
 -- Tickets that cover each target as a filling counts make a right report.
 use Rattle.std.proofs.Common.{◌≡◌, ◌≢◌, ℕ, zero, suc, ◌≤◌, ◌<◌, ◌^◌, ◌-◌, ◌+◌, true, List, [], ◌∷◌, length, ℤ, pos, ◌+ℤ◌, ◌*ℤ◌, ◌≤ℤ◌, Some, sym, ◌∙◌, ap, subst, refl, arith}
 use Rattle.std.specs.List.{All}
+use Rattle.std.proofs.lemmas.List.Elements.{All-weaker}
 use Rattle.std.proofs.lemmas.Int.{ints}
 use Rattle.sg_model.specs.declared.ticket.Ticket.{Ticket}
 use Rattle.sg_model.specs.Sums.{nth, total}
 use Rattle.sg_model.specs.Games.{Game, resource_count, prior_total}
 use Rattle.sg_model.specs.Limits.{IsGame, is_scaled}
+use Rattle.sg_model.specs.Plays.{IsLegal, IsLegalJoint}
 use Rattle.sg_model.specs.Commitments.{IsCommitment, IsValue, cover_count, weight_total, worth}
 use Rattle.sg_model.specs.Optimality.{IsOptimal}
 use Rattle.sg_model.specs.Origami.{IsOrigami, IsWater, AreLevelTickets, count_at}
 use Rattle.sg_model.proofs.Ints.{v, times, same_by, mul-le, product_nonneg, cancel}
+use Rattle.sg_model.proofs.Forms.{no_matrix}
 use Rattle.sg_model.proofs.Promises.{origami}
 use Rattle.sg_model.proofs.Tickets.{tickets-optimal}
 use Rattle.sg_frac.specs.Fractions.{Fraction, IsReducedForm}
 use Rattle.sg_origami.specs.declared.filling.Filling.{Filling}
 use Rattle.sg_origami.specs.Fillings.{IsFilling, IsCoverage}
-use Rattle.sg_tree.specs.Claims.{is_claim}
+use Rattle.sg_commit.specs.Committed.{AreLegal, Committed, IsCommitted}
+use Rattle.sg_commit.proofs.Distinct.{commitment_of}
+use Rattle.sg_split.specs.Laying.{AreCounts}
+use Rattle.sg_split.specs.Wraps.{IsWrap}
+use Rattle.sg_tree.specs.Claims.{HaveOneLength}
+use Rattle.sg_tree.proofs.Committing.{claim_of}
 use Rattle.sg_solve.specs.Solutions.{AreLowest, AreRightTickets, IsRightLevel}
 
 -- tickets of this total that cover each target as often, out of it, as the filling counts
@@ -62,4 +70,29 @@ pub is_value : (g : Game) (k : List Ticket) (d : ℤ) → d ≡ weight_total k �
 is_value g k d e f h = record {
   positive = h.reduced.positive;
   same = sym h.equal ∙ (same_by (times (v f.num) (times (v d) (v (prior_total g)))) (times (times (v f.num) (v d)) (v (prior_total g))) (omega arith) ∙ ap (λ (z : ℤ). (f.num *ℤ z) *ℤ prior_total g) e);
+}
+
+-- the counts of a filling are such as the patrols can cover
+pub are_counts : (g : Game) → IsGame g → is_scaled g ≡ true → (f : Filling) → IsFilling g f → AreCounts g f.counts f.total
+are_counts g is sc f h =
+    let c = h.coverage in
+    record { patrolled = (is_origami g is sc).identical; positive = c.ticket_range.at_least; one_each = c.one_each; within = c.within; few = c.few }
+
+-- the plays of a game with a scale have one length
+pub one_length : (g : Game) → IsGame g → is_scaled g ≡ true → (k : List Ticket) → AreLegal g k → HaveOneLength k
+one_length g is sc k h = (resource_count g, All-weaker (λ (x : Ticket). IsLegal g x.play.code) (λ (x : Ticket). length x.play.code ≡ resource_count g) each k h)
+  where
+    each : (x : Ticket) → IsLegal g x.play.code → length x.play.code ≡ resource_count g
+    each x legal = let joint : IsLegalJoint g x.play.code = rw (no_matrix g (is_origami g is sc).security) at legal in joint.one_each
+
+-- a commitment that covers each target in its count is served
+pub served : (g : Game) → IsGame g → is_scaled g ≡ true → (f : Filling) → IsFilling g f → (k : Committed) → IsCommitted k → IsWrap g f.counts f.total k → AreServed g f k.tickets k.total
+served g is sc f h k committed w = record {
+  right = record {
+    commitment = commitment_of g k committed w.legal;
+    rising = claim_of k committed (one_length g is sc k.tickets w.legal);
+    total = committed.sum;
+    lowest = committed.lowest;
+  };
+  counts = w.covered;
 }

@@ -2,5 +2,3 @@
 #![tactic(auto)]
 
 mod solution;
-
-pub use solution::solve;
