@@ -3,3 +3,7 @@ pub mod Standing
 pub mod Joins
 pub mod Shares
 pub mod Faults
+pub mod ExactSums
+pub mod Responses
+pub mod Worths
+pub mod Counting

@@ -1,3 +1,5 @@
 pub mod Committed
 pub mod Parts
 pub mod Joining
+pub mod ExactSums
+pub mod Responses

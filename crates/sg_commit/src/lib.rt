@@ -2,8 +2,16 @@
 #![tactic(auto)]
 
 mod commitment;
+mod coverage;
 mod joining;
 mod parts;
+mod response;
+mod sums;
+mod values;
 
 pub use commitment::Commitment;
+pub use coverage::cover_count;
 pub use parts::PartFault;
+pub use response::{is_best, take};
+pub use sums::{sum_a, sum_d};
+pub use values::{value, worth};
