@@ -5,3 +5,7 @@ pub mod Shares
 pub mod Faults
 pub mod SharedTotals
 pub mod Distinct
+pub mod ExactSums
+pub mod Responses
+pub mod Worths
+pub mod Counting

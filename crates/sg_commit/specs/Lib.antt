@@ -2,3 +2,5 @@ pub mod Committed
 pub mod Parts
 pub mod Joining
 pub mod Rising
+pub mod ExactSums
+pub mod Responses

@@ -2,11 +2,19 @@
 #![tactic(auto)]
 
 mod commitment;
+mod coverage;
 mod joining;
 mod laws;
 mod parts;
+mod response;
 mod rising;
+mod sums;
+mod values;
 
 pub use commitment::Commitment;
+pub use coverage::cover_count;
 pub use laws::committed_is_commitment;
 pub use parts::PartFault;
+pub use response::{is_best, take};
+pub use sums::{sum_a, sum_d};
+pub use values::{value, worth};
