@@ -184,7 +184,7 @@ fn solves_games_of_identical_patrols(rt: HostRuntime) -> Result<(), AllocError> 
 }
 
 /// Games that are refused or not solved yet: the top keys, the payoffs, the status and the line.
-const REFUSED: [(&str, &str, u8, &str); 10] = [
+const REFUSED: [(&str, &str, u8, &str); 9] = [
     (
         "scale = 6\npatrols = 1\ntargets = [\"gate\", \"hall\"]",
         "[[2, -2, 0, 4], [1, -1, 0, 2]]",

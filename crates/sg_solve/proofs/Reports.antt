@@ -1,8 +1,11 @@
 -- Tickets that cover each target as a filling counts make a right report.
-use Rattle.std.proofs.Common.{◌≡◌, ◌≢◌, ℕ, zero, suc, ◌≤◌, ◌<◌, ◌^◌, ◌-◌, ◌+◌, true, List, [], ◌∷◌, length, ℤ, pos, ◌+ℤ◌, ◌*ℤ◌, ◌≤ℤ◌, Some, sym, ◌∙◌, ap, subst, refl, arith}
+use Rattle.std.proofs.Common.{◌≡◌, ◌≢◌, ℕ, zero, suc, ◌≤◌, ◌<◌, ◌^◌, ◌-◌, ◌+◌, true, List, [], ◌∷◌, length, ℤ, pos, negsuc, ◌+ℤ◌, ◌*ℤ◌, ◌≤ℤ◌, Some, sym, ◌∙◌, ap, subst, refl, arith}
 use Rattle.std.specs.List.{All}
 use Rattle.std.proofs.lemmas.List.Elements.{All-weaker}
+use Rattle.std.specs.Int.{◌∣◌}
+use Rattle.std.specs.Prelude.{Err, unsigned_abs}
 use Rattle.std.proofs.lemmas.Int.{ints}
+use Rattle.std.proofs.lemmas.Nat.Gcd.{le_of_dvd}
 use Rattle.sg_model.specs.declared.ticket.Ticket.{Ticket}
 use Rattle.sg_model.specs.Sums.{nth, total}
 use Rattle.sg_model.specs.Games.{Game, resource_count, prior_total}
@@ -15,16 +18,22 @@ use Rattle.sg_model.proofs.Ints.{v, times, same_by, mul-le, product_nonneg, canc
 use Rattle.sg_model.proofs.Forms.{no_matrix}
 use Rattle.sg_model.proofs.Promises.{origami}
 use Rattle.sg_model.proofs.Tickets.{tickets-optimal}
-use Rattle.sg_frac.specs.Fractions.{Fraction, IsReducedForm}
+use Rattle.sg_num.specs.declared.step.Wide.{Wide}
+use Rattle.sg_frac.specs.Fractions.{Fraction, IsReduced, IsReducedForm}
 use Rattle.sg_origami.specs.declared.filling.Filling.{Filling}
 use Rattle.sg_origami.specs.Fillings.{IsFilling, IsCoverage}
 use Rattle.sg_commit.specs.Committed.{AreLegal, Committed, IsCommitted}
+use Rattle.sg_commit.specs.ExactSums.{exact_base}
 use Rattle.sg_commit.proofs.Distinct.{commitment_of}
+use Rattle.sg_commit.proofs.Small.{scaled-small, small-value}
 use Rattle.sg_split.specs.Laying.{AreCounts}
 use Rattle.sg_split.specs.Wraps.{IsWrap}
 use Rattle.sg_tree.specs.Claims.{HaveOneLength}
 use Rattle.sg_tree.proofs.Committing.{claim_of}
-use Rattle.sg_solve.specs.Solutions.{AreLowest, AreRightTickets, IsRightLevel}
+use Rattle.sg_tree.specs.declared.fact.Fact.TheVariants.{Water}
+use Rattle.sg_tree.specs.declared.tree.Tree.TheVariants.{Closed}
+use Rattle.sg_tree.specs.declared.report.Ending.TheVariants.{Optimal}
+use Rattle.sg_solve.specs.Solutions.{AreRightTickets, IsOptimalReport, IsRightLevel}
 
 -- tickets of this total that cover each target as often, out of it, as the filling counts
 pub record AreServed (g : Game) (f : Filling) (k : List Ticket) (d : ℤ) : Type 0 where
@@ -65,13 +74,6 @@ pub served_optimal : (g : Game) → IsGame g → is_scaled g ≡ true → (f : F
 served_optimal g is sc f h k d s =
     tickets-optimal g (resource_count g) (is_origami g is sc) f.level.num f.level.den h.water.positive k s.right.commitment (level_tickets g f h k d s) f.reason h.water
 
--- worth over the total and the priors is the value
-pub is_value : (g : Game) (k : List Ticket) (d : ℤ) → d ≡ weight_total k → (f : Fraction) → IsReducedForm (worth g k) (d *ℤ prior_total g) f → IsValue g k f.num f.den
-is_value g k d e f h = record {
-  positive = h.reduced.positive;
-  same = sym h.equal ∙ (same_by (times (v f.num) (times (v d) (v (prior_total g)))) (times (times (v f.num) (v d)) (v (prior_total g))) (omega arith) ∙ ap (λ (z : ℤ). (f.num *ℤ z) *ℤ prior_total g) e);
-}
-
 -- the counts of a filling are such as the patrols can cover
 pub are_counts : (g : Game) → IsGame g → is_scaled g ≡ true → (f : Filling) → IsFilling g f → AreCounts g f.counts f.total
 are_counts g is sc f h =
@@ -96,3 +98,33 @@ served g is sc f h k committed w = record {
   };
   counts = w.covered;
 }
+
+-- the total of such a commitment divides that of the filling, so it is no more
+pub small_total : (a t : ℤ) → unsigned_abs a ∣ unsigned_abs t → pos 1 ≤ℤ t → t ≤ℤ pos (2 ^ 78) → a ≤ℤ pos (2 ^ 78)
+small_total (pos a) (pos t) d low high = let le : a ≤ t = le_of_dvd (omega (arith, ints, low)) d in omega (arith, ints, high, le)
+small_total (pos a) (negsuc t) d low high = absurd (omega (arith, ints, low))
+small_total (negsuc a) t d low high = omega (arith, ints)
+
+-- no operation under its value leaves 128 bits
+pub never_wide : (g : Game) → IsGame g → is_scaled g ≡ true → (k : Committed) → IsCommitted k → k.total ≤ℤ pos (2 ^ 78) → (wide : Wide) → exact_base g k.tickets ≡ Err wide → ⊥
+never_wide g is sc k h small wide =
+    small-value g is k.tickets h.positive (scaled-small g is (is_origami g is sc).scaled k.tickets (omega (arith, ints, h.sum, small))) wide
+
+pub right_report : (g : Game) → IsGame g → is_scaled g ≡ true → (f : Filling) → IsFilling g f → (k : Committed) → IsCommitted k → IsWrap g f.counts f.total k
+    → (value : Fraction) → IsValue g k.tickets value.num value.den → IsReduced value
+    → IsOptimalReport g (record { tickets = record { tickets = k.tickets; total = k.total }; value = value; caps = []; tree = Closed (Water f.level f.reason); upper = value; ending = Optimal })
+right_report g is sc f h k committed w value is_v reduced =
+    let s = served g is sc f h k committed w in
+    record {
+      tickets = s.right;
+      value = is_v;
+      reduced = reduced;
+      optimal = served_optimal g is sc f h k.tickets k.total s;
+      level = f.level;
+      why = f.reason;
+      tree = refl;
+      right_level = right_level g f h k.tickets k.total s;
+      caps = refl;
+      upper = refl;
+      ending = refl;
+    }

@@ -2,3 +2,5 @@
 #![tactic(auto)]
 
 mod solution;
+
+pub use solution::solve;

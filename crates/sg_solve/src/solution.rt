@@ -30,3 +30,47 @@ fn tickets_of(alloc: Global, game: &Game, filling: &Filling) -> Result<Commitmen
     let _rules = commitment.tickets();
     Ok(commitment)
 }
+
+/// The defender value of tickets that a filling allows: nothing that it is formed of leaves 128 bits.
+fn value_of(game: &Game, commitment: &Commitment) -> Frac
+    requires scaled { is_scaled game.now ≡ true }
+    requires legal { AreLegal game.now commitment.now.tickets }
+    requires small { commitment.now.total ≤ℤ pos (2 ^ 78) }
+    ensures value { IsValue game.now commitment.now.tickets result.num result.den }
+    ensures reduced { IsReduced result }
+{
+    game.promises();
+    let _rules = commitment.tickets();
+    match value(game, commitment) {
+        Ok(value) => value,
+        Err(_) => unreachable!(),
+    }
+}
+
+/// The right report on a game that declares a scale: tickets that no commitment betters, with their value, and the level
+/// that shows why.
+///
+/// # Errors
+///
+/// Want of memory, and nothing else.
+pub fn solve(alloc: Global, game: &Game) -> Result<Report, AllocError>
+    requires { is_scaled game.now ≡ true }
+    ensures { IfOk result (IsOptimalReport game.now) }
+{
+    game.promises();
+    let filling = water(alloc, game)?;
+    let commitment = tickets_of(alloc, game, &filling)?;
+    let value = value_of(game, &commitment);
+    let fact = Fact::Water {
+        level: filling.level,
+        reason: filling.reason,
+    };
+    Ok(Report {
+        tickets: Claim::of(commitment),
+        value,
+        caps: Items::new(alloc),
+        tree: Tree::Closed(fact),
+        upper: value,
+        ending: Ending::Optimal,
+    })
+}
