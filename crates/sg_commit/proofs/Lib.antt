@@ -7,3 +7,5 @@ pub mod ExactSums
 pub mod Responses
 pub mod Worths
 pub mod Counting
+pub mod Small
+pub mod Kept

@@ -3,3 +3,4 @@ pub mod Parts
 pub mod Joining
 pub mod ExactSums
 pub mod Responses
+pub mod CommitmentLaws
