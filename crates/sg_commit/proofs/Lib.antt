@@ -4,8 +4,9 @@ pub mod Joins
 pub mod Shares
 pub mod Faults
 pub mod SharedTotals
-pub mod Distinct
 pub mod ExactSums
 pub mod Responses
 pub mod Worths
 pub mod Counting
+pub mod Small
+pub mod Kept

@@ -4,3 +4,4 @@ pub mod Joining
 pub mod Rising
 pub mod ExactSums
 pub mod Responses
+pub mod CommitmentLaws

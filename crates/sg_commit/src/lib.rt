@@ -13,7 +13,7 @@ mod values;
 
 pub use commitment::Commitment;
 pub use coverage::cover_count;
-pub use laws::committed_is_commitment;
+pub use laws::{kept_is_commitment, legal_parts_stay_legal, scaled_is_small, small_is_formed};
 pub use parts::PartFault;
 pub use response::{is_best, take};
 pub use sums::{sum_a, sum_d};
