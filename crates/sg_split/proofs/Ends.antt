@@ -80,3 +80,8 @@ pub ends_from-more : (ends : List ℤ) (place next : ℤ) (counts : List ℤ) (i
 ends_from-more ends place next counts i lt e =
     let step : ends_from place (drop i counts) ≡ (place +ℤ get_or counts i (pos 0)) ∷ ends_from (place +ℤ get_or counts i (pos 0)) (drop (i + 1) counts) = at_drop_more (ends_from place) counts i (pos 0) lt in
     ap (λ (xs : List ℤ). ends ++ xs) (step ∙ ap (λ (z : ℤ). z ∷ ends_from z (drop (i + 1) counts)) (sym e)) ∙ sym (append_assoc ends (next ∷ []) (ends_from next (drop (i + 1) counts)))
+
+pub last_end : (counts : List ℤ) → 1 ≤ length counts → get_or (ends_from (pos 0) counts) (length counts - 1) (pos 0) ≡ total (λ c. c) counts
+last_end counts some =
+    let e : length counts ≡ suc (length counts - 1) = omega (arith, some) in
+    sym (ap (edge (pos 0) (ends_from (pos 0) counts)) e) ∙ (edge-last (pos 0) counts ∙ omega (arith, ints))

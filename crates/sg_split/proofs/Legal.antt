@@ -12,6 +12,7 @@ use Rattle.sg_model.specs.Games.{Game, is_matrix, resource_count, resource_sched
 use Rattle.sg_model.specs.Limits.{IsGame, is_scaled}
 use Rattle.sg_model.specs.Plays.{IsLegal, IsLegalJoint, IsRow}
 use Rattle.sg_model.specs.Commitments.{weight_on}
+use Rattle.sg_game.specs.Counts.{target_count}
 use Rattle.sg_model.proofs.Forms.{no_matrix}
 use Rattle.sg_model.proofs.Numbers.{length-numbers_from, nth-numbers_from}
 use Rattle.sg_model.proofs.Promises.{game_cases}
@@ -67,3 +68,9 @@ targets_few g h = elim (game_cases g h) [
   | inl s ↦ at_most (is_scaled g) (length g.goals) s.game.target_count.at_most
   | inr m ↦ omega (arith, m.game.row_count.at_most)
 ]
+
+pub patrols_are : (g : Game) (n : ℕ) → g.patrols ≡ Some n → g.patrols ≡ Some (resource_count g)
+patrols_are g n e = let count : resource_count g ≡ n = rw e refl in e ∙ ap Some (sym count)
+
+pub targets_are : (g : Game) (n t : ℕ) → IsGame g → g.patrols ≡ Some n → t ≡ target_count g → t ≡ length g.goals
+targets_are g n t is e same = let form = patrols_form g n is e in rw form at same

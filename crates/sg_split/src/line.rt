@@ -19,7 +19,7 @@ pub struct Line {
 }
 
 /// Whether an end, counted from 0, isn't past a place.
-fn has_ended(line: &Line, k: usize, place: &Place) -> bool
+pub(crate) fn has_ended(line: &Line, k: usize, place: &Place) -> bool
     requires line { IsLine line.now }
     requires end { k < length line.now.ends }
     requires moment { IsMoment line.now.moments place.now.moment }

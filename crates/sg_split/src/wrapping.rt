@@ -1,6 +1,6 @@
 // From counts to a commitment.
-ghost use Rattle.std.specs.Prelude.{◌≡◌, IfOk, None};
-ghost use Rattle.sg_model.specs.Limits.{IsGame};
+ghost use Rattle.std.specs.Prelude.{◌≡◌, All, IfOk, None, length, pos, ◌≤ℤ◌};
+ghost use Rattle.sg_model.specs.Limits.{IsGame, IsWithin};
 ghost use Rattle.sg_commit.specs.Committed.{IsCommitted};
 ghost use Rattle.sg_commit.specs.Parts.{AreMultiple, fault_of};
 ghost use Rattle.sg_split.specs.Laying.{AreCounts};
@@ -15,9 +15,16 @@ use sg_model::Ticket;
 use std::alloc::{AllocError, Global};
 
 /// The patrols of a game, with counts laid on them.
-fn line_of(alloc: Global, game: &Game, counts: &[i128], total: i128) -> Result<Line, AllocError>
+pub(crate) fn line_of(
+    alloc: Global,
+    game: &Game,
+    counts: &[i128],
+    total: i128,
+) -> Result<Line, AllocError>
     requires game { IsGame game.now }
-    requires counts { AreCounts game.now counts.now total }
+    requires positive { pos 1 ≤ℤ total }
+    requires one_each { length counts.now ≡ length game.now.goals }
+    requires within { All (IsWithin (pos 0) total) counts.now }
     ensures { IfOk result (IsLineOf game.now counts.now total) }
 {
     let ends = ends_of(alloc, counts, total)?;

@@ -14,12 +14,11 @@ returns c =
     let total : ℤ = to_z w128 (of_z w128 c.args.total) in
     let fits : FitsSigned w128 c.args.total = c.ranges.total in
     let same : total ≡ c.args.total = omega (arith, ints, fits) in
-    let are = c.requires.counts in
     record {
       sound = record {
-        positive = omega (arith, ints, same, are.positive);
+        positive = omega (arith, ints, same, c.requires.positive);
         each = c.in_ok-ends.ensures.each;
-        few = omega (arith, ap length c.in_ok-ends.ensures.spots, length-map c.in_ok-ends.ends (spot total), length-ends_from (pos 0) c.args.counts.now, are.one_each, targets_few c.args.game.now c.requires.game);
+        few = omega (arith, ap length c.in_ok-ends.ensures.spots, length-map c.in_ok-ends.ends (spot total), length-ends_from (pos 0) c.args.counts.now, c.requires.one_each, targets_few c.args.game.now c.requires.game);
       };
       patrols = c.resources.ensures.count;
       moments = same;
