@@ -1,5 +1,5 @@
 -- Numerators over denominators as they are formed, step by step.
-use Rattle.std.specs.Prelude.{Bool, if◌then◌else◌, ℤ, pos, int_lt, Result, Ok}
+use Rattle.std.specs.Prelude.{if◌then◌else◌, ℤ, pos, int_lt, Result, Ok}
 use Rattle.sg_num.specs.declared.step.Wide.{Wide}
 use Rattle.sg_num.specs.Exact.{exact_sum, exact_less, exact_times, and_then}
 use Rattle.sg_frac.specs.Fractions.{Fraction}
