@@ -9,5 +9,5 @@ use Rattle.sg_solve.proofs.solution.value_of.Goals as goal
 pub unreachable-requires : goal.unreachable-requires
 unreachable-requires c =
     let k = c.args.commitment.now in
-    let h : IsExactValue c.args.game.now k.tickets (Err c.in-Err.field-0) = subst (λ (r : Result Fraction Wide). IsExactValue c.args.game.now k.tickets r) c.in-Err.is c.value.ensures in
+    let h : IsExactValue c.args.game.now k.tickets (Err c.in-Err.field-0) = subst (λ (r : Result Fraction Wide). IsExactValue c.args.game.now k.tickets r) c.in-Err.is c.value.ensures.value in
     never_wide c.args.game.now c.promises.ensures c.requires.scaled k c.tickets-rules.ensures.rules c.requires.small c.in-Err.field-0 h
