@@ -3,3 +3,9 @@ pub mod Standing
 pub mod Joins
 pub mod Shares
 pub mod Faults
+pub mod ExactSums
+pub mod Responses
+pub mod Worths
+pub mod Counting
+pub mod Small
+pub mod Kept

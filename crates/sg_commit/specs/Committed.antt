@@ -6,8 +6,7 @@ use Rattle.std.specs.Cmp.Lexicographic.{slice_cmp}
 use Rattle.sg_model.specs.declared.ticket.Ticket.{Ticket}
 use Rattle.sg_model.specs.Games.{Game}
 use Rattle.sg_model.specs.Plays.{IsLegal}
-use Rattle.sg_model.specs.Commitments.{IsCommitment, scaled, weight_total}
-use Rattle.sg_model.specs.OptimalityLaws.{AreOneMix}
+use Rattle.sg_model.specs.Commitments.{weight_total}
 
 -- tickets, and the sum of their weights
 pub record Committed : Type 0 where
@@ -39,12 +38,3 @@ pub record IsCommitted (c : Committed) : Type 0 where
 -- the plays of the tickets are legal
 abbrev pub AreLegal : Game → List Ticket → Type 0
 AreLegal g k = All (λ (x : Ticket). IsLegal g x.play.code) k
-
--- tickets that are kept are distinct plays, so where they are legal they are a commitment
-abbrev pub CommittedIsCommitment : Type 0
-CommittedIsCommitment = (g : Game) (c : Committed) → IsCommitted c → AreLegal g c.tickets → IsCommitment g c.tickets
-
--- what is kept is fixed by the shares of the plays: two that are one mix, each with its weights multiplied, are the same
-abbrev pub SharesFixCommitted : Type 0
-SharesFixCommitted = (c other : Committed) → IsCommitted c → IsCommitted other → (m n : ℤ) → pos 1 ≤ℤ m → pos 1 ≤ℤ n
-    → AreOneMix (scaled m c.tickets) (scaled n other.tickets) → c ≡ other

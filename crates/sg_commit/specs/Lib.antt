@@ -1,3 +1,6 @@
 pub mod Committed
 pub mod Parts
 pub mod Joining
+pub mod ExactSums
+pub mod Responses
+pub mod CommitmentLaws

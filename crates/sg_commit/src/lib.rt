@@ -2,8 +2,18 @@
 #![tactic(auto)]
 
 mod commitment;
+mod coverage;
 mod joining;
+mod laws;
 mod parts;
+mod response;
+mod sums;
+mod values;
 
 pub use commitment::Commitment;
+pub use coverage::cover_count;
+pub use laws::{kept_is_commitment, legal_parts_stay_legal, scaled_is_small, small_is_formed};
 pub use parts::PartFault;
+pub use response::{is_best, take};
+pub use sums::{sum_a, sum_d};
+pub use values::{value, worth};

@@ -1,0 +1,23 @@
+//! Laws about commitments, each as the contract of a function that does nothing.
+
+ghost use Rattle.sg_commit.specs.CommitmentLaws.{KeptIsCommitment, LegalPartsStayLegal, ScaledIsSmall, SmallIsFormed};
+
+/// The tickets of a commitment are distinct plays: where they are legal, they are a commitment of the game.
+pub fn kept_is_commitment()
+    ensures { KeptIsCommitment }
+{}
+
+/// The tickets of a commitment are legal where it was made of legal parts.
+pub fn legal_parts_stay_legal()
+    ensures { LegalPartsStayLegal }
+{}
+
+/// Where the total times the sum of the priors is at most 2^96, nothing that is formed leaves 128 bits.
+pub fn small_is_formed()
+    ensures { SmallIsFormed }
+{}
+
+/// Where a scale is declared, that is so of every total up to 2^96.
+pub fn scaled_is_small()
+    ensures { ScaledIsSmall }
+{}

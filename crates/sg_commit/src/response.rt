@@ -1,0 +1,175 @@
+//! How a type of attacker answers a commitment, and what that leaves the defender.
+
+ghost use Rattle.std.specs.Prelude.{◌≡◌, ◌≤◌, ◌-◌, None, Ok, IfOk};
+ghost use Rattle.std.specs.Int.{int_max};
+ghost use Rattle.sg_model.specs.Sums.{numbers, numbers_from};
+ghost use Rattle.sg_model.specs.Games.{action_count};
+ghost use Rattle.sg_model.specs.Commitments.{is_best, take_of};
+ghost use Rattle.sg_game.specs.Counts.{IsActionOf, IsTypeOf};
+ghost use Rattle.sg_commit.specs.Committed.{AreLegal};
+ghost use Rattle.sg_commit.specs.ExactSums.{compared, exact_is_best, exact_take, unless};
+ghost use Rattle.sg_commit.specs.Responses.{settled, take_from, take_step, taken_with, top_from, top_sum};
+
+use crate::commitment::Commitment;
+use crate::sums::{sum_a, sum_d};
+use sg_game::Game;
+use sg_num::Wide;
+
+// The greater of two sums.
+fn greater(a: i128, b: i128) -> i128
+    ensures { result ≡ int_max a b }
+{
+    if a < b { b } else { a }
+}
+
+// The greatest of a first sum of type `l` and those of its actions from 2 on.
+fn top_after(game: &Game, k: &Commitment, l: u8, first: i128) -> Result<i128, Wide>
+    requires legal { AreLegal game.now k.now.tickets }
+    requires known_type { IsTypeOf game.now l }
+    ensures { result ≡ top_from game.now k.now.tickets l first (numbers_from 2 (action_count game.now l - 1)) }
+{
+    let mut top = first;
+    for i in 1..game.actions(l) {
+        match sum_a(game, k, l, i + 1) {
+            Ok(sum) => top = greater(top, sum),
+            Err(wide) => return Err(wide),
+        }
+    }
+    Ok(top)
+}
+
+// Nothing: its contract says that each type has an action.
+fn has_action(game: &Game, l: u8)
+    requires { IsTypeOf game.now l }
+    ensures { 1 ≤ action_count game.now l }
+{
+    let _count = game.actions(l);
+}
+
+// The greatest sum of type `l` over its actions.
+fn top_of(game: &Game, k: &Commitment, l: u8) -> Result<i128, Wide>
+    requires legal { AreLegal game.now k.now.tickets }
+    requires known_type { IsTypeOf game.now l }
+    ensures { result ≡ unless (compared game.now k.now.tickets l) (Ok (top_sum game.now k.now.tickets l)) }
+{
+    has_action(game, l);
+    match sum_a(game, k, l, 1) {
+        Ok(first) => top_after(game, k, l, first),
+        Err(wide) => Err(wide),
+    }
+}
+
+// Whether the sum of action `a` is the greatest, where all are known to fit.
+fn attains(game: &Game, k: &Commitment, l: u8, a: u16, top: i128) -> bool
+    requires legal { AreLegal game.now k.now.tickets }
+    requires known_type { IsTypeOf game.now l }
+    requires known_action { IsActionOf game.now l a }
+    requires compared { compared game.now k.now.tickets l ≡ None }
+    requires top { top ≡ top_sum game.now k.now.tickets l }
+    ensures { result ≡ is_best game.now k.now.tickets l a }
+{
+    match sum_a(game, k, l, a) {
+        Ok(sum) => top <= sum,
+        Err(_) => unreachable!(),
+    }
+}
+
+// The greater of what was taken before, if anything, and of one sum more.
+fn taken_with(taken: Option<i128>, sum: i128) -> i128
+    ensures { result ≡ taken_with taken sum }
+{
+    match taken {
+        None => sum,
+        Some(best) => greater(best, sum),
+    }
+}
+
+// What is taken where action `a` is looked at too.
+fn look(
+    game: &Game,
+    k: &Commitment,
+    l: u8,
+    a: u16,
+    top: i128,
+    taken: Option<i128>,
+) -> Result<Option<i128>, Wide>
+    requires legal { AreLegal game.now k.now.tickets }
+    requires known_type { IsTypeOf game.now l }
+    requires known_action { IsActionOf game.now l a }
+    requires compared { compared game.now k.now.tickets l ≡ None }
+    requires top { top ≡ top_sum game.now k.now.tickets l }
+    ensures { result ≡ take_step game.now k.now.tickets l taken a }
+{
+    if !attains(game, k, l, a, top) {
+        return Ok(taken);
+    }
+    match sum_d(game, k, l, a) {
+        Ok(sum) => Ok(Some(taken_with(taken, sum))),
+        Err(wide) => Err(wide),
+    }
+}
+
+// What is taken where all actions are looked at.
+fn look_at_all(game: &Game, k: &Commitment, l: u8, top: i128) -> Result<Option<i128>, Wide>
+    requires legal { AreLegal game.now k.now.tickets }
+    requires known_type { IsTypeOf game.now l }
+    requires compared { compared game.now k.now.tickets l ≡ None }
+    requires top { top ≡ top_sum game.now k.now.tickets l }
+    ensures { result ≡ take_from game.now k.now.tickets l None (numbers (action_count game.now l)) }
+{
+    let mut taken = None;
+    for i in 0..game.actions(l) {
+        match look(game, k, l, i + 1, top, taken) {
+            Ok(next) => taken = next,
+            Err(wide) => return Err(wide),
+        }
+    }
+    Ok(taken)
+}
+
+// What is taken in the end.
+fn settle(taken: Result<Option<i128>, Wide>) -> Result<i128, Wide>
+    ensures { result ≡ settled taken }
+{
+    match taken {
+        Ok(Some(taken)) => Ok(taken),
+        Ok(None) => Ok(0),
+        Err(wide) => Err(wide),
+    }
+}
+
+/// Whether action `a` is best for type `l`: no action has a greater sum.
+///
+/// # Errors
+///
+/// The first operation that does not fit, where the sums of all actions are formed by rising action.
+pub fn is_best(game: &Game, k: &Commitment, l: u8, a: u16) -> Result<bool, Wide>
+    requires legal { AreLegal game.now k.now.tickets }
+    requires known_type { IsTypeOf game.now l }
+    requires known_action { IsActionOf game.now l a }
+    ensures steps { result ≡ exact_is_best game.now k.now.tickets l a }
+    ensures value { IfOk result (λ best. best ≡ is_best game.now k.now.tickets l a) }
+{
+    match top_of(game, k, l) {
+        Ok(top) => Ok(attains(game, k, l, a, top)),
+        Err(wide) => Err(wide),
+    }
+}
+
+/// The defender's greatest sum over the best actions of type `l`: ties go to the defender.
+///
+/// # Errors
+///
+/// The first operation that does not fit, where the attacker's sums of all actions are formed by rising action, and
+/// then the defender's sums of the best ones.
+pub fn take(game: &Game, k: &Commitment, l: u8) -> Result<i128, Wide>
+    requires legal { AreLegal game.now k.now.tickets }
+    requires known_type { IsTypeOf game.now l }
+    ensures steps { result ≡ exact_take game.now k.now.tickets l }
+    ensures value { IfOk result (λ taken. taken ≡ take_of game.now k.now.tickets l) }
+{
+    match top_of(game, k, l) {
+        Ok(top) => settle(look_at_all(game, k, l, top)),
+        Err(wide) => Err(wide),
+    }
+}
