@@ -21,6 +21,7 @@ use Rattle.sg_model.proofs.Sums.{total-nonneg}
 use Rattle.sg_num.specs.declared.step.Op.TheVariants.{Sum}
 use Rattle.sg_num.proofs.Steps.{exact-fits, fits-from_FitsSigned}
 use Rattle.sg_commit.specs.Committed.{Committed, IsCommitted}
+use Rattle.sg_commit.proofs.Kept.{kept}
 use Rattle.sg_commit.specs.Parts.{AreMultiple, exact_total, fault_of, first_below}
 use Rattle.sg_split.specs.declared.line.Line.{Line}
 use Rattle.sg_split.specs.Laying.{AreCounts, moment_tickets, tickets_at}
@@ -117,12 +118,12 @@ wrap_is g is counts d are parts are_parts k multiple rules =
     let count : (t : ℕ) → 1 ≤ t → t ≤ length g.goals → nth counts t (pos 0) ≡ c *ℤ cover_count g k.tickets t = λ t low high.
     sym (moments_cover g counts d are t low high) ∙ (same_cover_count g all (scaled c k.tickets) mix t ∙ scaled-passing (λ p. covers g p t) c k.tickets) in
     record {
-      legal = λ i x lt.
+      commitment = kept g k rules (λ i x lt.
           let code : List ℕ = (get_or k.tickets i x).play.code in
           let on : weight_on all code ≡ c *ℤ weight_on k.tickets code = mix code ∙ scaled-passing (λ p. bytes_eq p code) c k.tickets in
           let some : pos 1 ≤ℤ weight_on k.tickets code = weight_on-positive k.tickets rules.positive i x lt in
           let more = mul-le (pos 1) c (weight_on k.tickets code) c_low (omega (arith, ints, some)) in
-          holds-weighed (IsLegal g) all (moments_legal g is counts d are) code (λ e. absurd (omega (arith, ints, on, some, more, e)));
+          holds-weighed (IsLegal g) all (moments_legal g is counts d are) code (λ e. absurd (omega (arith, ints, on, some, more, e))));
       covered = λ t low high.
           let a : ℤ = cover_count g k.tickets t in
           let e : a *ℤ d ≡ a *ℤ (c *ℤ k.total) = ap (λ (z : ℤ). a *ℤ z) whole in

@@ -4,9 +4,9 @@ use Rattle.std.specs.Int.{◌∣◌}
 use Rattle.sg_model.specs.declared.ticket.Ticket.{Ticket}
 use Rattle.sg_model.specs.Sums.{nth}
 use Rattle.sg_model.specs.Games.{Game, resource_count}
-use Rattle.sg_model.specs.Commitments.{cover_count}
+use Rattle.sg_model.specs.Commitments.{IsCommitment, cover_count}
 use Rattle.sg_model.specs.OptimalityLaws.{AreOneMix}
-use Rattle.sg_commit.specs.Committed.{AreLegal, Committed}
+use Rattle.sg_commit.specs.Committed.{Committed}
 use Rattle.sg_commit.specs.Parts.{AreMultiple}
 use Rattle.sg_split.specs.declared.line.Line.{Line}
 use Rattle.sg_split.specs.Laying.{ends_from, moment_tickets}
@@ -26,8 +26,8 @@ pub record AreParts (g : Game) (counts : List ℤ) (tickets : ℤ) (parts : List
 
 -- the commitment that covers each target in its count out of so many tickets
 pub record IsWrap (g : Game) (counts : List ℤ) (tickets : ℤ) (k : Committed) : Type 0 where
-  -- its plays are legal
-  pub legal : AreLegal g k.tickets
+  -- its plays are legal, and no two are the same
+  pub commitment : IsCommitment g k.tickets
   -- each target is covered in its share, which is its count out of the tickets
   pub covered : (t : ℕ) → 1 ≤ t → t ≤ length g.goals → cover_count g k.tickets t *ℤ tickets ≡ nth counts t (pos 0) *ℤ k.total
   -- its total divides the tickets
