@@ -2,4 +2,4 @@ pub mod Completes
 pub mod Tellings
 pub mod Causes
 pub mod Outcomes
-pub mod Ranges
+pub mod SmallNumbers

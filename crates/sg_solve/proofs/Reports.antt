@@ -24,7 +24,6 @@ use Rattle.sg_origami.specs.declared.filling.Filling.{Filling}
 use Rattle.sg_origami.specs.Fillings.{IsFilling, IsCoverage}
 use Rattle.sg_commit.specs.Committed.{AreLegal, Committed, IsCommitted}
 use Rattle.sg_commit.specs.ExactSums.{exact_base}
-use Rattle.sg_commit.proofs.Kept.{kept}
 use Rattle.sg_commit.proofs.Small.{scaled-small, small-value}
 use Rattle.sg_split.specs.Laying.{AreCounts}
 use Rattle.sg_split.specs.Wraps.{IsWrap}
@@ -91,8 +90,8 @@ one_length g is sc k h = (resource_count g, All-weaker (λ (x : Ticket). IsLegal
 pub served : (g : Game) → IsGame g → is_scaled g ≡ true → (f : Filling) → IsFilling g f → (k : Committed) → IsCommitted k → IsWrap g f.counts f.total k → AreServed g f k.tickets k.total
 served g is sc f h k committed w = record {
   right = record {
-    commitment = kept g k committed w.legal;
-    rising = claim_of k committed (one_length g is sc k.tickets w.legal);
+    commitment = w.commitment;
+    rising = claim_of k committed (one_length g is sc k.tickets w.commitment.legal);
     total = committed.sum;
     lowest = committed.lowest;
   };

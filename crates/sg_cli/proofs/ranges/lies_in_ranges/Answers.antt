@@ -1,4 +1,4 @@
-use Rattle.sg_cli.proofs.Ranges.{in_ranges}
+use Rattle.sg_cli.proofs.SmallNumbers.{in_ranges}
 use Rattle.sg_cli.proofs.ranges.lies_in_ranges.Goals as goal
 
 pub returns : goal.returns

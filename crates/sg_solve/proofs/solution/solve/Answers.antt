@@ -11,7 +11,7 @@ value_of-value-requires-clause-small c =
     small_total c.in_ok-commitment.commitment.total c.in_ok-filling.filling.total c.in_ok-commitment.ensures.wrap.divides t.at_least t.at_most
 
 pub of-requires : goal.of-requires
-of-requires c = one_length c.args.game.now c.promises.ensures c.requires c.in_ok-commitment.commitment.tickets c.in_ok-commitment.ensures.wrap.legal
+of-requires c = one_length c.args.game.now c.promises.ensures c.requires c.in_ok-commitment.commitment.tickets c.in_ok-commitment.ensures.wrap.commitment.legal
 
 pub returns : goal.returns
 returns c =
@@ -20,3 +20,6 @@ returns c =
     let h = right_report g c.promises.ensures c.requires f c.in_ok-filling.ensures c.in_ok-commitment.commitment c.in_ok-commitment.ensures.rules c.in_ok-commitment.ensures.wrap
         c.value_of-value.result c.value_of-value.ensures.value c.value_of-value.ensures.reduced in
     rw c.of.ensures (rw c.new.ensures h)
+
+pub value_of-value-requires-clause-legal : goal.value_of-value-requires-clause-legal
+value_of-value-requires-clause-legal c = c.in_ok-commitment.ensures.wrap.commitment.legal
