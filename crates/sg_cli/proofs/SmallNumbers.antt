@@ -21,9 +21,10 @@ use Rattle.sg_origami.specs.Fillings.{IsReasonOf}
 use Rattle.sg_tree.specs.declared.fact.Fact.TheVariants.{Water}
 use Rattle.sg_tree.specs.declared.tree.Tree.TheVariants.{Closed}
 use Rattle.sg_tree.specs.declared.report.Report.{Report}
-use Rattle.sg_cert.specs.Ranges.{Fits, IsCap, IsEnding, IsFraction, IsLevel, IsNode, IsReport, IsTicket}
+use Rattle.sg_cert.specs.Ranges.{Fits, IsCap, IsEnding, IsFact, IsFraction, IsLayer, IsLevel, IsNode, IsReport, IsTicket}
+use Rattle.sg_cert.proofs.Trees.{out_closed}
 use Rattle.sg_solve.specs.Solutions.{IsOptimalReport}
-use Rattle.sg_cli.specs.Widths.{AreParts, HasParts, IsSized}
+use Rattle.sg_cli.specs.Widths.{AreParts, HasParts, HasPartsLayer, IsSized}
 
 -- a number from 1 to one that fits
 fits_below : (a b : ℤ) → pos 1 ≤ℤ a → a ≤ℤ b → Fits b → Fits a
@@ -98,9 +99,10 @@ in_ranges g is sc r h sized value level =
     let few = few_of g is sc in
     let k = r.tickets.tickets in
     let c = h.tickets.commitment in
-    let parts : AreParts h.level = subst HasParts h.tree level in
+    let parts : AreParts h.level = subst HasPartsLayer (out_closed (Water h.level h.why)) (subst HasParts h.tree level) in
     let short = All-weaker (λ (x : Ticket). IsLegal g x.play.code) (λ (x : Ticket). IsShort x.play.code) (λ x. short_play g few x.play.code) k c.legal in
-    let node : IsNode 8 (Closed (Water h.level h.why)) = (fraction_in h.level h.right_level.reduced parts, level_in g few h.level.num h.level.den h.why h.right_level.reason) in
+    let fact : IsFact (Water h.level h.why) = (fraction_in h.level h.right_level.reduced parts, level_in g few h.level.num h.level.den h.why h.right_level.reason) in
+    let node : IsNode 8 (Closed (Water h.level h.why)) = subst (IsLayer (IsNode 7)) (sym (out_closed (Water h.level h.why))) fact in
     record {
       tickets = record {
         rules = h.tickets.rising;
