@@ -4,3 +4,4 @@ pub mod Joining
 pub mod ExactSums
 pub mod Responses
 pub mod CommitmentLaws
+pub mod Tallies
