@@ -39,19 +39,19 @@ fits_in : (z : ℤ) → Within (pos (2 ^ 126)) z → fits z ≡ true
 fits_in (pos k) w = let lt : k < 2 ^ 127 = omega (arith, ints, w.high) in grind (arith, nat_tests)
 fits_in (negsuc k) w = let lt : k < 2 ^ 127 = omega (arith, ints, w.low) in grind (arith, nat_tests)
 
-exact_ok : (op : Op) (a b : ℤ) → Within (pos (2 ^ 126)) (result_of op a b) → exact op a b ≡ Ok (result_of op a b)
+pub exact_ok : (op : Op) (a b : ℤ) → Within (pos (2 ^ 126)) (result_of op a b) → exact op a b ≡ Ok (result_of op a b)
 exact_ok op a b w = by (fits (result_of op a b)) _ (fits_in (result_of op a b) w)
   where
     by : (t : Bool) (e : Wide) → t ≡ true → cond t (Ok (result_of op a b)) (Err e) ≡ Ok (result_of op a b)
     by true e h = refl
     by false e h = cc
 
-dot_step-ok : (acc a b : ℤ) → Within (pos (2 ^ 126)) (a *ℤ b) → Within (pos (2 ^ 126)) (acc +ℤ a *ℤ b) → exact_dot_step acc a b ≡ Ok (acc +ℤ a *ℤ b)
+pub dot_step-ok : (acc a b : ℤ) → Within (pos (2 ^ 126)) (a *ℤ b) → Within (pos (2 ^ 126)) (acc +ℤ a *ℤ b) → exact_dot_step acc a b ≡ Ok (acc +ℤ a *ℤ b)
 dot_step-ok acc a b p s =
     ap (λ r. and_then r (λ product. exact_sum acc product)) (exact_ok Times a b p) ∙ exact_ok Sum acc (a *ℤ b) s
 
 -- a product with what is within m is within as many times m
-product-within : (w m z : ℤ) → pos 0 ≤ℤ w → Within m z → Within (w *ℤ m) (w *ℤ z)
+pub product-within : (w m z : ℤ) → pos 0 ≤ℤ w → Within m z → Within (w *ℤ m) (w *ℤ z)
 product-within w m z h b =
     let turn : (y : ℤ) → y *ℤ w ≡ w *ℤ y = λ y. same_by (times (v y) (v w)) (times (v w) (v y)) (omega arith) in
     let least : (pos 0 -ℤ m) *ℤ w ≡ pos 0 -ℤ w *ℤ m = same_by (times (less (n 0) (v m)) (v w)) (less (n 0) (times (v w) (v m))) (omega arith) in
@@ -129,6 +129,19 @@ priors-sum g = by_place (λ (x : Attacker). x.prior) nobody g.types
 
 -- ---- all that is formed
 
+module _ (g : Game) (h : IsGame g) (k : List Ticket) (positive : ArePositive k) (few : weight_total k ≤ℤ pos (2 ^ 96)) where
+  room_at_first : Within (pos (2 ^ 126) -ℤ weight_total k *ℤ pos (2 ^ 30)) (pos 0)
+  room_at_first =
+      let m = mul-le (weight_total k) (pos (2 ^ 96)) (pos (2 ^ 30)) few (omega (arith, ints)) in
+      let whole : pos (2 ^ 96) *ℤ pos (2 ^ 30) ≡ pos (2 ^ 126) = refl in
+      record { low = omega (arith, ints, m, whole); high = omega (arith, ints, m, whole) }
+
+  pub few-sum_d : (l a : ℕ) → exact_sum_d g k l a ≡ Ok (sum_d g k l a)
+  few-sum_d l a = dot-ok (λ (x : Ticket). pay_d g l x.play.code a) (λ x. pay_d-in_range g h l x.play.code a) (pos 0) k positive room_at_first ∙ ap Ok (omega (arith, ints))
+
+  pub few-sum_a : (l a : ℕ) → exact_sum_a g k l a ≡ Ok (sum_a g k l a)
+  few-sum_a l a = dot-ok (λ (x : Ticket). pay_a g l x.play.code a) (λ x. pay_a-in_range g h l x.play.code a) (pos 0) k positive room_at_first ∙ ap Ok (omega (arith, ints))
+
 module _ (g : Game) (h : IsGame g) (k : List Ticket) (positive : ArePositive k) (small : IsSmall g k) where
   people : IsPeopled g
   people = peopled g h
@@ -141,17 +154,11 @@ module _ (g : Game) (h : IsGame g) (k : List Ticket) (positive : ArePositive k) 
       let one : pos 1 *ℤ weight_total k ≡ weight_total k = same_by (times (n 1) (v (weight_total k))) (v (weight_total k)) (omega arith) in
       omega (arith, ints, m, turn, one, small)
 
-  room_at_first : Within (pos (2 ^ 126) -ℤ weight_total k *ℤ pos (2 ^ 30)) (pos 0)
-  room_at_first =
-      let m = mul-le (weight_total k) (pos (2 ^ 96)) (pos (2 ^ 30)) few (omega (arith, ints)) in
-      let whole : pos (2 ^ 96) *ℤ pos (2 ^ 30) ≡ pos (2 ^ 126) = refl in
-      record { low = omega (arith, ints, m, whole); high = omega (arith, ints, m, whole) }
-
   sum_d-ok : (l a : ℕ) → exact_sum_d g k l a ≡ Ok (sum_d g k l a)
-  sum_d-ok l a = dot-ok (λ (x : Ticket). pay_d g l x.play.code a) (λ x. pay_d-in_range g h l x.play.code a) (pos 0) k positive room_at_first ∙ ap Ok (omega (arith, ints))
+  sum_d-ok l a = few-sum_d g h k positive few l a
 
   sum_a-ok : (l a : ℕ) → exact_sum_a g k l a ≡ Ok (sum_a g k l a)
-  sum_a-ok l a = dot-ok (λ (x : Ticket). pay_a g l x.play.code a) (λ x. pay_a-in_range g h l x.play.code a) (pos 0) k positive room_at_first ∙ ap Ok (omega (arith, ints))
+  sum_a-ok l a = few-sum_a g h k positive few l a
 
   take-ok : (l : ℕ) → exact_take g k l ≡ Ok (take_of g k l)
   take-ok l =

@@ -5,3 +5,4 @@ pub mod Rising
 pub mod ExactSums
 pub mod Responses
 pub mod CommitmentLaws
+pub mod Tallies

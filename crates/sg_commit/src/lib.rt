@@ -5,15 +5,18 @@ mod commitment;
 mod coverage;
 mod joining;
 mod laws;
+mod legality;
 mod parts;
 mod response;
 mod rising;
 mod sums;
+mod tally;
 mod values;
 
 pub use commitment::Commitment;
 pub use coverage::cover_count;
 pub use laws::{kept_is_commitment, legal_parts_stay_legal, scaled_is_small, small_is_formed};
+pub use legality::are_legal;
 pub use parts::PartFault;
 pub use response::{is_best, take};
 pub use sums::{sum_a, sum_d};

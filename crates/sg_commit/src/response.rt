@@ -1,19 +1,23 @@
 //! How a type of attacker answers a commitment, and what that leaves the defender.
 
-ghost use Rattle.std.specs.Prelude.{◌≡◌, ◌≤◌, ◌-◌, None, Ok, IfOk};
+ghost use Rattle.std.specs.Prelude.{◌≡◌, ◌≤◌, ◌-◌, ◌^◌, false, pos, ◌≤ℤ◌, None, Ok, IfOk, IsTrue};
 ghost use Rattle.std.specs.Int.{int_max};
 ghost use Rattle.sg_model.specs.Sums.{numbers, numbers_from};
-ghost use Rattle.sg_model.specs.Games.{action_count};
+ghost use Rattle.sg_model.specs.Games.{action_count, is_matrix};
 ghost use Rattle.sg_model.specs.Commitments.{is_best, take_of};
 ghost use Rattle.sg_game.specs.Counts.{IsActionOf, IsTypeOf};
 ghost use Rattle.sg_commit.specs.Committed.{AreLegal};
 ghost use Rattle.sg_commit.specs.ExactSums.{compared, exact_is_best, exact_take, unless};
+ghost use Rattle.sg_commit.specs.Tallies.{IsTable};
 ghost use Rattle.sg_commit.specs.Responses.{settled, take_from, take_step, taken_with, top_from, top_sum};
 
 use crate::commitment::Commitment;
-use crate::sums::{sum_a, sum_d};
-use sg_game::Game;
+use crate::tally::{Cell, ROOM, count_all, table_sum_a, table_sum_d};
+use sg_game::{Game, Kind};
 use sg_num::Wide;
+
+// The greatest total for which the sums come from counts.
+const MOST: i128 = 39614081257132168796771975168; // 2^95
 
 // The greater of two sums.
 fn greater(a: i128, b: i128) -> i128
@@ -23,14 +27,15 @@ fn greater(a: i128, b: i128) -> i128
 }
 
 // The greatest of a first sum of type `l` and those of its actions from 2 on.
-fn top_after(game: &Game, k: &Commitment, l: u8, first: i128) -> Result<i128, Wide>
+fn top_after(game: &Game, k: &Commitment, table: &[Cell], l: u8, first: i128) -> Result<i128, Wide>
     requires legal { AreLegal game.now k.now.tickets }
+    requires table { IsTable game.now k.now.tickets table.now }
     requires known_type { IsTypeOf game.now l }
     ensures { result ≡ top_from game.now k.now.tickets l first (numbers_from 2 (action_count game.now l - 1)) }
 {
     let mut top = first;
     for i in 1..game.actions(l) {
-        match sum_a(game, k, l, i + 1) {
+        match table_sum_a(game, k, table, l, i + 1) {
             Ok(sum) => top = greater(top, sum),
             Err(wide) => return Err(wide),
         }
@@ -47,28 +52,30 @@ fn has_action(game: &Game, l: u8)
 }
 
 // The greatest sum of type `l` over its actions.
-fn top_of(game: &Game, k: &Commitment, l: u8) -> Result<i128, Wide>
+fn top_of(game: &Game, k: &Commitment, table: &[Cell], l: u8) -> Result<i128, Wide>
     requires legal { AreLegal game.now k.now.tickets }
+    requires table { IsTable game.now k.now.tickets table.now }
     requires known_type { IsTypeOf game.now l }
     ensures { result ≡ unless (compared game.now k.now.tickets l) (Ok (top_sum game.now k.now.tickets l)) }
 {
     has_action(game, l);
-    match sum_a(game, k, l, 1) {
-        Ok(first) => top_after(game, k, l, first),
+    match table_sum_a(game, k, table, l, 1) {
+        Ok(first) => top_after(game, k, table, l, first),
         Err(wide) => Err(wide),
     }
 }
 
 // Whether the sum of action `a` is the greatest, where all are known to fit.
-fn attains(game: &Game, k: &Commitment, l: u8, a: u16, top: i128) -> bool
+fn attains(game: &Game, k: &Commitment, table: &[Cell], l: u8, a: u16, top: i128) -> bool
     requires legal { AreLegal game.now k.now.tickets }
+    requires table { IsTable game.now k.now.tickets table.now }
     requires known_type { IsTypeOf game.now l }
     requires known_action { IsActionOf game.now l a }
     requires compared { compared game.now k.now.tickets l ≡ None }
     requires top { top ≡ top_sum game.now k.now.tickets l }
     ensures { result ≡ is_best game.now k.now.tickets l a }
 {
-    match sum_a(game, k, l, a) {
+    match table_sum_a(game, k, table, l, a) {
         Ok(sum) => top <= sum,
         Err(_) => unreachable!(),
     }
@@ -88,30 +95,39 @@ fn taken_with(taken: Option<i128>, sum: i128) -> i128
 fn look(
     game: &Game,
     k: &Commitment,
+    table: &[Cell],
     l: u8,
     a: u16,
     top: i128,
     taken: Option<i128>,
 ) -> Result<Option<i128>, Wide>
     requires legal { AreLegal game.now k.now.tickets }
+    requires table { IsTable game.now k.now.tickets table.now }
     requires known_type { IsTypeOf game.now l }
     requires known_action { IsActionOf game.now l a }
     requires compared { compared game.now k.now.tickets l ≡ None }
     requires top { top ≡ top_sum game.now k.now.tickets l }
     ensures { result ≡ take_step game.now k.now.tickets l taken a }
 {
-    if !attains(game, k, l, a, top) {
+    if !attains(game, k, table, l, a, top) {
         return Ok(taken);
     }
-    match sum_d(game, k, l, a) {
+    match table_sum_d(game, k, table, l, a) {
         Ok(sum) => Ok(Some(taken_with(taken, sum))),
         Err(wide) => Err(wide),
     }
 }
 
 // What is taken where all actions are looked at.
-fn look_at_all(game: &Game, k: &Commitment, l: u8, top: i128) -> Result<Option<i128>, Wide>
+fn look_at_all(
+    game: &Game,
+    k: &Commitment,
+    table: &[Cell],
+    l: u8,
+    top: i128,
+) -> Result<Option<i128>, Wide>
     requires legal { AreLegal game.now k.now.tickets }
+    requires table { IsTable game.now k.now.tickets table.now }
     requires known_type { IsTypeOf game.now l }
     requires compared { compared game.now k.now.tickets l ≡ None }
     requires top { top ≡ top_sum game.now k.now.tickets l }
@@ -119,7 +135,7 @@ fn look_at_all(game: &Game, k: &Commitment, l: u8, top: i128) -> Result<Option<i
 {
     let mut taken = None;
     for i in 0..game.actions(l) {
-        match look(game, k, l, i + 1, top, taken) {
+        match look(game, k, table, l, i + 1, top, taken) {
             Ok(next) => taken = next,
             Err(wide) => return Err(wide),
         }
@@ -138,6 +154,71 @@ fn settle(taken: Result<Option<i128>, Wide>) -> Result<i128, Wide>
     }
 }
 
+// `is_best`, by the table of counts where there is one.
+fn table_is_best(game: &Game, k: &Commitment, table: &[Cell], l: u8, a: u16) -> Result<bool, Wide>
+    requires legal { AreLegal game.now k.now.tickets }
+    requires table { IsTable game.now k.now.tickets table.now }
+    requires known_type { IsTypeOf game.now l }
+    requires known_action { IsActionOf game.now l a }
+    ensures { result ≡ exact_is_best game.now k.now.tickets l a }
+{
+    match top_of(game, k, table, l) {
+        Ok(top) => Ok(attains(game, k, table, l, a, top)),
+        Err(wide) => Err(wide),
+    }
+}
+
+// `take`, by the table of counts where there is one.
+fn table_take(game: &Game, k: &Commitment, table: &[Cell], l: u8) -> Result<i128, Wide>
+    requires legal { AreLegal game.now k.now.tickets }
+    requires table { IsTable game.now k.now.tickets table.now }
+    requires known_type { IsTypeOf game.now l }
+    ensures { result ≡ exact_take game.now k.now.tickets l }
+{
+    match top_of(game, k, table, l) {
+        Ok(top) => settle(look_at_all(game, k, table, l, top)),
+        Err(wide) => Err(wide),
+    }
+}
+
+// Whether the sums can come from counts: in security form, with a total of at most 2^95.
+fn is_countable(game: &Game, k: &Commitment) -> bool
+    ensures security { IsTrue result → is_matrix game.now ≡ false }
+    ensures few { IsTrue result → k.now.total ≤ℤ pos (2 ^ 95) }
+{
+    match game.kind() {
+        Kind::Security => k.total() <= MOST,
+        Kind::Matrix => false,
+    }
+}
+
+// `is_best`, by counts.
+fn counted_is_best(game: &Game, k: &Commitment, l: u8, a: u16) -> Result<bool, Wide>
+    requires security { is_matrix game.now ≡ false }
+    requires few { k.now.total ≤ℤ pos (2 ^ 95) }
+    requires legal { AreLegal game.now k.now.tickets }
+    requires known_type { IsTypeOf game.now l }
+    requires known_action { IsActionOf game.now l a }
+    ensures { result ≡ exact_is_best game.now k.now.tickets l a }
+{
+    let mut cells = [Cell { mark: 0, count: 0 }; ROOM];
+    count_all(game, k, &mut cells);
+    table_is_best(game, k, &cells, l, a)
+}
+
+// `take`, by counts.
+fn counted_take(game: &Game, k: &Commitment, l: u8) -> Result<i128, Wide>
+    requires security { is_matrix game.now ≡ false }
+    requires few { k.now.total ≤ℤ pos (2 ^ 95) }
+    requires legal { AreLegal game.now k.now.tickets }
+    requires known_type { IsTypeOf game.now l }
+    ensures { result ≡ exact_take game.now k.now.tickets l }
+{
+    let mut cells = [Cell { mark: 0, count: 0 }; ROOM];
+    count_all(game, k, &mut cells);
+    table_take(game, k, &cells, l)
+}
+
 /// Whether action `a` is best for type `l`: no action has a greater sum.
 ///
 /// # Errors
@@ -150,9 +231,10 @@ pub fn is_best(game: &Game, k: &Commitment, l: u8, a: u16) -> Result<bool, Wide>
     ensures steps { result ≡ exact_is_best game.now k.now.tickets l a }
     ensures value { IfOk result (λ best. best ≡ is_best game.now k.now.tickets l a) }
 {
-    match top_of(game, k, l) {
-        Ok(top) => Ok(attains(game, k, l, a, top)),
-        Err(wide) => Err(wide),
+    if is_countable(game, k) {
+        counted_is_best(game, k, l, a)
+    } else {
+        table_is_best(game, k, &[], l, a)
     }
 }
 
@@ -168,8 +250,9 @@ pub fn take(game: &Game, k: &Commitment, l: u8) -> Result<i128, Wide>
     ensures steps { result ≡ exact_take game.now k.now.tickets l }
     ensures value { IfOk result (λ taken. taken ≡ take_of game.now k.now.tickets l) }
 {
-    match top_of(game, k, l) {
-        Ok(top) => settle(look_at_all(game, k, l, top)),
-        Err(wide) => Err(wide),
+    if is_countable(game, k) {
+        counted_take(game, k, l)
+    } else {
+        table_take(game, k, &[], l)
     }
 }

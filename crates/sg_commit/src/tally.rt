@@ -1,0 +1,217 @@
+//! Counts of the tickets that cover each target, made in one walk over the tickets.
+
+ghost use Rattle.std.specs.Prelude.{◌≡◌, ◌≤◌, ◌<◌, ◌^◌, false, length, pos, ◌≤ℤ◌, All, replicate, slice_index_or};
+ghost use Rattle.sg_model.specs.Games.{is_matrix, payoff, resource_schedules, schedule_targets};
+ghost use Rattle.sg_model.specs.Plays.{IsLegal};
+ghost use Rattle.sg_model.specs.Sums.{nth};
+ghost use Rattle.sg_num.specs.Exact.{exact_sum};
+ghost use Rattle.sg_game.specs.Counts.{IsActionOf, IsGoalOf, IsResourceOf, IsTypeOf};
+ghost use Rattle.sg_commit.specs.Committed.{AreLegal};
+ghost use Rattle.sg_commit.specs.ExactSums.{exact_sum_a, exact_sum_d};
+ghost use Rattle.sg_commit.specs.Tallies.{IsTable, counted_sum, marked, no_cell, tallied, touched, touched_all, touched_from, value_or};
+
+use crate::commitment::Commitment;
+use crate::sums::{sum_a, sum_d};
+use sg_game::Game;
+use sg_model::Ticket;
+use sg_num::{Wide, dot_step, sum, times};
+
+/// One more than the greatest number of targets.
+pub(crate) const ROOM: usize = 10001;
+
+/// What is counted of a target: the weights of the tickets that cover it, and the last of these tickets.
+#[derive(Clone, Copy)]
+pub(crate) struct Cell {
+    /// The number of that ticket, from 1, and 0 before the first.
+    pub(crate) mark: usize,
+    /// The weights of the tickets so far.
+    pub(crate) count: i128,
+}
+
+// The sum, which fits where the total of all weights does.
+fn added(count: i128, weight: i128) -> i128
+    ensures { result ≡ value_or count (exact_sum count weight) }
+{
+    match sum(count, weight) {
+        Ok(count) => count,
+        Err(_) => count,
+    }
+}
+
+// The cell of a target that ticket `n` covers: the ticket counts once.
+fn marked(cell: &Cell, n: usize, weight: i128) -> Cell
+    ensures { result ≡ marked n weight cell.now }
+{
+    if cell.mark == n {
+        *cell
+    } else {
+        Cell {
+            mark: n,
+            count: added(cell.count, weight),
+        }
+    }
+}
+
+// Ticket `n` covers target `t`.
+fn touch(cells: &mut [Cell], t: u16, n: usize, weight: i128)
+    requires { t < length cells.old }
+    ensures { cells.new ≡ touched cells.old t n weight }
+{
+    let cell = marked(&cells[t as usize], n, weight);
+    cells[t as usize] = cell;
+}
+
+// Ticket `n` covers these targets.
+fn touch_all(cells: &mut [Cell], targets: &[u16], n: usize, weight: i128)
+    requires { All (λ t. t < length cells.old) targets.now }
+    ensures { cells.new ≡ touched_all cells.old targets.now n weight }
+{
+    for t in targets {
+        touch(cells, *t, n, weight);
+    }
+}
+
+// Ticket `n` has choice `c` of resource `r`.
+fn touch_choice(game: &Game, cells: &mut [Cell], r: u16, c: u16, n: usize, weight: i128)
+    requires resource { IsResourceOf game.now r }
+    requires choice { c ≤ length (resource_schedules game.now r) }
+    requires room { length game.now.goals < length cells.old }
+    ensures { cells.new ≡ touched_all cells.old (schedule_targets game.now (nth (resource_schedules game.now r) c 0)) n weight }
+{
+    if c == 0 {
+        return;
+    }
+    let s = game.resource_schedules(r)[c as usize - 1];
+    touch_all(cells, game.schedule_targets(s), n, weight);
+}
+
+// Ticket `n` has this play.
+fn touch_play(game: &Game, cells: &mut [Cell], code: &[u16], n: usize, weight: i128)
+    requires security { is_matrix game.now ≡ false }
+    requires legal { IsLegal game.now code.now }
+    requires room { length game.now.goals < length cells.old }
+    ensures { cells.new ≡ touched_from game.now 1 cells.old code.now n weight }
+{
+    for i in 0..game.resources() {
+        touch_choice(game, cells, i + 1, code[i as usize], n, weight);
+    }
+}
+
+// Counts the tickets for each target that they cover: the cell of target `t` is that at place `t`.
+fn tally(game: &Game, tickets: &[Ticket], cells: &mut [Cell])
+    requires security { is_matrix game.now ≡ false }
+    requires legal { AreLegal game.now tickets.now }
+    requires room { length game.now.goals < length cells.old }
+    ensures { cells.new ≡ tallied game.now cells.old 1 tickets.now }
+{
+    for i in 0..tickets.len() {
+        let ticket = &tickets[i];
+        touch_play(
+            game,
+            cells,
+            ticket.play.code.as_slice(),
+            i + 1,
+            ticket.weight,
+        );
+    }
+}
+
+/// Counts all tickets of the commitment in cells in which nothing is counted yet.
+pub(crate) fn count_all(game: &Game, k: &Commitment, cells: &mut [Cell])
+    requires security { is_matrix game.now ≡ false }
+    requires few { k.now.total ≤ℤ pos (2 ^ 95) }
+    requires legal { AreLegal game.now k.now.tickets }
+    requires room { 10000 < length cells.old }
+    requires fresh { cells.old ≡ replicate (length cells.old) no_cell }
+    ensures { IsTable game.now k.now.tickets cells.new }
+{
+    let _targets = game.targets();
+    tally(game, k.tickets(), cells);
+}
+
+// The count of a target.
+fn count_at(cells: &[Cell], t: u16) -> i128
+    requires { t < length cells.now }
+    ensures { result ≡ (slice_index_or cells.now t no_cell).count }
+{
+    cells[t as usize].count
+}
+
+// The sum where so many tickets have the covered payoff, and the others the uncovered one.
+fn mixed(total: i128, count: i128, covered: i64, uncovered: i64) -> Result<i128, Wide>
+    ensures { result ≡ counted_sum total count covered uncovered }
+{
+    let more = i128::from(covered) - i128::from(uncovered);
+    match times(i128::from(uncovered), total) {
+        Ok(all) => dot_step(all, more, count),
+        Err(wide) => Err(wide),
+    }
+}
+
+// The defender's sum of a target, by its count.
+fn counted_d(game: &Game, total: i128, count: i128, l: u8, t: u16) -> Result<i128, Wide>
+    requires security { is_matrix game.now ≡ false }
+    requires known_type { IsTypeOf game.now l }
+    requires known_target { IsGoalOf game.now t }
+    ensures { result ≡ counted_sum total count (payoff game.now l t).dc (payoff game.now l t).du }
+{
+    let [covered, uncovered, _, _] = game.payoffs(l, t);
+    mixed(total, count, covered, uncovered)
+}
+
+// The attacker's sum of a target, by its count.
+fn counted_a(game: &Game, total: i128, count: i128, l: u8, t: u16) -> Result<i128, Wide>
+    requires security { is_matrix game.now ≡ false }
+    requires known_type { IsTypeOf game.now l }
+    requires known_target { IsGoalOf game.now t }
+    ensures { result ≡ counted_sum total count (payoff game.now l t).ac (payoff game.now l t).au }
+{
+    let [_, _, covered, uncovered] = game.payoffs(l, t);
+    mixed(total, count, covered, uncovered)
+}
+
+/// `sum_d`, by the table of counts where there is one.
+pub(crate) fn table_sum_d(
+    game: &Game,
+    k: &Commitment,
+    table: &[Cell],
+    l: u8,
+    a: u16,
+) -> Result<i128, Wide>
+    requires legal { AreLegal game.now k.now.tickets }
+    requires table { IsTable game.now k.now.tickets table.now }
+    requires known_type { IsTypeOf game.now l }
+    requires known_action { IsActionOf game.now l a }
+    ensures { result ≡ exact_sum_d game.now k.now.tickets l a }
+{
+    if table.is_empty() {
+        return sum_d(game, k, l, a);
+    }
+    game.promises();
+    let _tickets = k.tickets();
+    let count = count_at(table, a);
+    counted_d(game, k.total(), count, l, a)
+}
+
+/// `sum_a`, by the table of counts where there is one.
+pub(crate) fn table_sum_a(
+    game: &Game,
+    k: &Commitment,
+    table: &[Cell],
+    l: u8,
+    a: u16,
+) -> Result<i128, Wide>
+    requires legal { AreLegal game.now k.now.tickets }
+    requires table { IsTable game.now k.now.tickets table.now }
+    requires known_type { IsTypeOf game.now l }
+    requires known_action { IsActionOf game.now l a }
+    ensures { result ≡ exact_sum_a game.now k.now.tickets l a }
+{
+    if table.is_empty() {
+        return sum_a(game, k, l, a);
+    }
+    game.promises();
+    let _tickets = k.tickets();
+    let count = count_at(table, a);
+    counted_a(game, k.total(), count, l, a)
+}
