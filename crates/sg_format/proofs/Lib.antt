@@ -4,3 +4,4 @@ pub mod Listed
 pub mod Typed
 pub mod Accepted
 pub mod Shapes
+pub mod Texts

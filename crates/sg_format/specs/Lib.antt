@@ -3,4 +3,6 @@ pub mod Documents
 pub mod Lists
 pub mod Types
 pub mod GameFiles
+pub mod GameText
 pub mod GameFileLaws
+pub mod GameTextLaws

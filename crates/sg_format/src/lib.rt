@@ -6,4 +6,4 @@
 
 mod laws;
 
-pub use laws::accepted_is_game;
+pub use laws::{accepted_is_game, worked_texts};
