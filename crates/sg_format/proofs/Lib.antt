@@ -5,3 +5,6 @@ pub mod Typed
 pub mod Accepted
 pub mod Shapes
 pub mod Texts
+pub mod Keys
+pub mod Files
+pub mod Faults

@@ -6,3 +6,5 @@ pub mod GameFiles
 pub mod GameText
 pub mod GameFileLaws
 pub mod GameTextLaws
+pub mod Changes
+pub mod FaultLaws

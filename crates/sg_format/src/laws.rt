@@ -1,5 +1,6 @@
 //! Laws about the definition of a game file, each as the contract of a function that does nothing.
 
+ghost use Rattle.sg_format.specs.FaultLaws.{MissingKeyIsRefused, NotTomlIsRefused, OtherVersionIsRefused, UnknownKeyIsRefused};
 ghost use Rattle.sg_format.specs.GameFileLaws.{AcceptedIsGame};
 ghost use Rattle.sg_format.specs.GameTextLaws.{WorkedTexts};
 
@@ -11,4 +12,24 @@ pub fn accepted_is_game()
 /// The canonical texts of four small games are those that were written out by hand.
 pub fn worked_texts()
     ensures { WorkedTexts }
+{}
+
+/// Bytes that are no UTF-8 or no TOML document are refused as such.
+pub fn not_toml_is_refused()
+    ensures { NotTomlIsRefused }
+{}
+
+/// A document whose version is another integer than 1 is refused for it.
+pub fn other_version_is_refused()
+    ensures { OtherVersionIsRefused }
+{}
+
+/// The document of a game, without one of the top keys that it needs, is refused for that.
+pub fn missing_key_is_refused()
+    ensures { MissingKeyIsRefused }
+{}
+
+/// The document of a game with a top key more than such a game has is refused for that.
+pub fn unknown_key_is_refused()
+    ensures { UnknownKeyIsRefused }
 {}

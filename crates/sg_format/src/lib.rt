@@ -6,4 +6,7 @@
 
 mod laws;
 
-pub use laws::{accepted_is_game, worked_texts};
+pub use laws::{
+    accepted_is_game, missing_key_is_refused, not_toml_is_refused, other_version_is_refused,
+    unknown_key_is_refused, worked_texts,
+};

@@ -1,0 +1,28 @@
+-- What each reason means: a file that breaks one rule is refused for it.
+use Rattle.std.specs.Prelude.{◌≡◌, ◌≢◌, ◌⊎◌, ℕ, true, false, List, ℤ, pos, Some, None, Ok, codes}
+use Rattle.std.specs.Str.{is_utf8}
+use Rattle.toml.specs.Data.{Data, Members, integer, get_member}
+use Rattle.toml.specs.Parse.{parse_document}
+use Rattle.sg_model.specs.declared.fault.Place.TheVariants.{Document}
+use Rattle.sg_model.specs.Games.{Game}
+use Rattle.sg_format.specs.Steps.{refused, not_toml, bad_version, missing_key, unknown_key}
+use Rattle.sg_format.specs.GameFiles.{game_of_bytes, game_of_table}
+use Rattle.sg_format.specs.Changes.{DiffersAt, is_needed_key, is_top_key}
+
+-- bytes that are no UTF-8, or no TOML document
+abbrev pub NotTomlIsRefused : Type 0
+NotTomlIsRefused = (bytes : List ℕ) → (is_utf8 bytes ≡ false) ⊎ (parse_document bytes ≡ None) → game_of_bytes bytes ≡ refused not_toml Document
+
+-- a document whose version is another integer than 1
+abbrev pub OtherVersionIsRefused : Type 0
+OtherVersionIsRefused = (table : Members) (z : ℤ) → get_member (codes "version") table ≡ Some (integer z) → z ≢ pos 1 → game_of_table table ≡ refused bad_version Document
+
+-- the document of a game without one of the keys that it needs
+abbrev pub MissingKeyIsRefused : Type 0
+MissingKeyIsRefused = (table other : Members) (g : Game) (key : List ℕ) → game_of_table table ≡ Ok g → is_needed_key g key ≡ true
+    → DiffersAt key None table other → game_of_table other ≡ refused missing_key Document
+
+-- the document of a game with a key that such a game doesn't have
+abbrev pub UnknownKeyIsRefused : Type 0
+UnknownKeyIsRefused = (table other : Members) (g : Game) (key : List ℕ) (value : Data) → game_of_table table ≡ Ok g → is_top_key g key ≡ false
+    → DiffersAt key (Some value) table other → game_of_table other ≡ refused unknown_key Document
