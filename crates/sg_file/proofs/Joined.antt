@@ -1,5 +1,5 @@
 -- Arrays and tables that are written item by item.
-use Rattle.std.proofs.Common.{◌≡◌, ◌∙◌, ℕ, zero, suc, ◌+◌, ◌<◌, ◌≤◌, List, [], ◌∷◌, ◌++◌, length, map, take, get_or, codes, ap, sym, refl, arith, append_assoc, add-one}
+use Rattle.std.proofs.Common.{◌≡◌, ◌∙◌, ℕ, ◌+◌, ◌<◌, ◌≤◌, List, [], ◌∷◌, ◌++◌, length, map, take, get_or, codes, ap, sym, refl, arith, append_assoc, add-one}
 use Rattle.std.specs.List.{flat_map}
 use Rattle.std.proofs.lemmas.List.{take_more, map_more, append-nil, length-map, length-take-le, take_all}
 use Rattle.std.proofs.lemmas.Grind.{flat_map-append}

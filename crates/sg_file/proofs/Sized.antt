@@ -1,6 +1,5 @@
 -- How long the lists of a game are that are written.
-use Rattle.std.proofs.Common.{◌≡◌, ◌∙◌, ℕ, ◌≤◌, Bool, true, false, List, [], length, ℤ, refl, sym, arith, inl, inr, Option, None}
-use Rattle.std.specs.List.{All}
+use Rattle.std.proofs.Common.{◌≡◌, ◌∙◌, ℕ, true, false, List, [], length, ℤ, refl, sym, arith, inl, inr, None}
 use Rattle.std.proofs.lemmas.Bool.{true≢false}
 use Rattle.sg_model.specs.Games.{Attacker, Game, action_count, attacker, is_matrix, nobody, resource_count, schedule_count, schedule_targets, resource_schedules, unnamed}
 use Rattle.sg_model.specs.Limits.{IsGame, IsMatrixType, IsSecurityType, IsTable}

@@ -9,7 +9,9 @@ ghost use Rattle.sg_game.specs.Counts.{IsActionOf, IsGoalOf, IsTypeOf};
 ghost use Rattle.sg_format.specs.GameText.{four_pays, line, names_array, pay_lines, pays_array, table_array, type_table};
 ghost use Rattle.sg_file.specs.Writing.{table_of};
 
-use crate::text::{put_comma, put_head, put_key, put_name_line, put_number, put_number_line, put_quoted};
+use crate::text::{
+    put_comma, put_head, put_key, put_name_line, put_number, put_number_line, put_quoted,
+};
 use sg_game::{Game, Kind};
 use std::alloc::AllocError;
 
@@ -52,13 +54,7 @@ fn pay(game: &Game, side: Side, l: u8, i: u16, a: u16) -> i64
 }
 
 /// Adds row `i` of a table of type `l`.
-fn put_row(
-    text: &mut Vec<u8>,
-    game: &Game,
-    side: Side,
-    l: u8,
-    i: u16,
-) -> Result<(), AllocError>
+fn put_row(text: &mut Vec<u8>, game: &Game, side: Side, l: u8, i: u16) -> Result<(), AllocError>
     requires matrix { is_matrix game.now ≡ true }
     requires known_type { IsTypeOf game.now l }
     requires known_row { IsGoalOf game.now i }

@@ -48,11 +48,7 @@ pub(crate) fn put_key(text: &mut Vec<u8>, key: &[u8]) -> Result<(), AllocError>
 }
 
 /// Adds a line that gives the key a name.
-pub(crate) fn put_name_line(
-    text: &mut Vec<u8>,
-    key: &[u8],
-    name: &str,
-) -> Result<(), AllocError>
+pub(crate) fn put_name_line(text: &mut Vec<u8>, key: &[u8], name: &str) -> Result<(), AllocError>
     ensures { OnOk result (text.new.items ≡ text.old.items ++ line key.now (quoted name.now)) }
 {
     put_key(text, key)?;
@@ -62,11 +58,7 @@ pub(crate) fn put_name_line(
 }
 
 /// Adds a line that gives the key a number.
-pub(crate) fn put_number_line(
-    text: &mut Vec<u8>,
-    key: &[u8],
-    number: i64,
-) -> Result<(), AllocError>
+pub(crate) fn put_number_line(text: &mut Vec<u8>, key: &[u8], number: i64) -> Result<(), AllocError>
     ensures { OnOk result (text.new.items ≡ text.old.items ++ line key.now (signed_decimal number)) }
 {
     put_key(text, key)?;

@@ -1,4 +1,4 @@
-use Rattle.std.proofs.Common.{◌≡◌, ◌++◌, List, [], ℕ, map, take}
+use Rattle.std.proofs.Common.{◌≡◌, ◌++◌, map, take}
 use Rattle.sg_model.specs.Games.{attacker}
 use Rattle.sg_format.specs.GameText.{joined, quoted}
 use Rattle.sg_file.proofs.tables.put_actions.Given as goal

@@ -1,4 +1,4 @@
-use Rattle.std.proofs.Common.{◌≡◌, ◌++◌, List, [], ℕ, map, take}
+use Rattle.std.proofs.Common.{◌≡◌, ◌++◌, map, take}
 use Rattle.sg_model.specs.Games.{attacker}
 use Rattle.sg_format.specs.GameText.{joined, four_pays, pays_array}
 use Rattle.sg_file.proofs.tables.put_payoffs.Given as goal

@@ -1,4 +1,4 @@
-use Rattle.std.proofs.Common.{◌≡◌, ◌++◌, List, [], ℕ, map, take}
+use Rattle.std.proofs.Common.{◌≡◌, ◌++◌, [], map, take}
 use Rattle.std.specs.Fmt.{signed_decimal}
 use Rattle.sg_model.specs.Games.{attacker}
 use Rattle.sg_model.specs.Sums.{nth}
