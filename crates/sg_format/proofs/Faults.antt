@@ -199,15 +199,15 @@ matrix_missing table other g key head m d known =
     ]
 
 -- where the patrols' number is gone, schedules are missing
-unnumbered : (table other : Members) (g : Game) → IsHeaded table Security → IsPatrolsFile table g → DiffersAt (codes "patrols") None table other
+unnumbered : (given : Data) (table other : Members) (g : Game) → IsHeaded table Security → IsPatrolsFile given table g → DiffersAt (codes "patrols") None table other
     → game_of_table other ≡ refused missing_key Document
-unnumbered table other g head p c =
+unnumbered given table other g head p c =
     let none = c.here in
     let schedule = c.elsewhere (codes "schedule") (apart (codes "schedule") (codes "patrols") refl) ∙ none_there is_patrols_key (codes "schedule") table p.known refl (get_member (codes "schedule") table) refl in
     headed (codes "patrols") None table other Security c head (apart (codes "version") (codes "patrols") refl) (apart (codes "form") (codes "patrols") refl)
     ∙ (rw none (no_schedules other p.listed (only_listed table other c p.known) (c.elsewhere (codes "targets") (apart (codes "targets") (codes "patrols") refl) ∙ p.targets_there) schedule))
 
-patrols_missing : (table other : Members) (g : Game) (key : List ℕ) (given : Data) → IsHeaded table Security → get_member (codes "patrols") table ≡ Some given → IsPatrolsFile table g
+patrols_missing : (table other : Members) (g : Game) (key : List ℕ) (given : Data) → IsHeaded table Security → get_member (codes "patrols") table ≡ Some given → IsPatrolsFile given table g
     → DiffersAt key None table other → bytes_eq key (codes "scale") ≡ false → is_patrols_key key ≡ true → game_of_table other ≡ refused missing_key Document
 patrols_missing table other g key given head there p d unscaled known =
     elim (or_cases _ (bytes_eq key (codes "type")) known) [
@@ -218,7 +218,7 @@ patrols_missing table other g key given head there p d unscaled known =
           ∙ (rw still (no_patrols_types given other p.listed (changed_only is_patrols_key (codes "type") None table other c refl p.known)
           (c.elsewhere (codes "targets") (apart (codes "targets") (codes "type") refl) ∙ p.targets_there) c.here)))
       | inl more ↦ elim (or_cases _ (bytes_eq key (codes "patrols")) more) [
-        | inr patrols ↦ unnumbered table other g head p (at_key key (codes "patrols") table other patrols d)
+        | inr patrols ↦ unnumbered given table other g head p (at_key key (codes "patrols") table other patrols d)
         | inl further ↦ elim (or_cases _ (bytes_eq key (codes "scale")) further) [
           | inr scale ↦ absurd (true≢false (sym scale ∙ unscaled))
           | inl others ↦ elim (or_cases _ (bytes_eq key (codes "targets")) others) [

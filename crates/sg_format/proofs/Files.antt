@@ -1,5 +1,5 @@
 -- The steps by which a document is the document of a game.
-use Rattle.std.proofs.Common.{◌≡◌, ℕ, Bool, true, false, not, [], length, pos, Option, Some, None, is_some, unwrap_or, Ok, refl, subst}
+use Rattle.std.proofs.Common.{◌≡◌, ℕ, Bool, true, false, not, [], length, ℤ, pos, Option, Some, None, is_some, unwrap_or, Ok, refl, subst}
 use Rattle.std.specs.Prelude.{codes, if◌then◌else◌}
 use Rattle.std.proofs.lemmas.Bool.{not-true}
 use Rattle.toml.specs.Data.{Data, Members, get_member}
@@ -7,10 +7,12 @@ use Rattle.sg_model.specs.declared.fault.Place.TheVariants as place_of
 use Rattle.sg_model.specs.declared.kind.Kind.{Kind}
 use Rattle.sg_model.specs.declared.kind.Kind.TheVariants.{Security, Matrix}
 use Rattle.sg_model.specs.Games.{Game}
+use Rattle.sg_model.specs.Limits.{is_scaled}
 use Rattle.sg_format.specs.Documents.{has_only, needed_at, number_at}
 use Rattle.sg_format.specs.Lists.{names_at, resources_at, schedules_at}
 use Rattle.sg_format.specs.Types.{matrix_types_at, security_types_at}
 use Rattle.sg_format.specs.GameFiles.{count_of, form_of, game_of_form, game_of_table, is_matrix_key, is_patrols_key, is_resources_key, limits_of, listed_game, matrix_game, patrols_game, resources_game, scale_at, security_game, version_of}
+use Rattle.sg_format.proofs.Accepted.{scale_at-scale}
 use Rattle.sg_format.proofs.Inversion.{after, after_test, needed_is}
 
 -- a document in matrix form
@@ -48,19 +50,24 @@ matrix_file table g h =
     subst (IsMatrixFile table) same is))))))
 
 -- a document with patrols
-pub record IsPatrolsFile (table : Members) (g : Game) : Type 0 where
+pub record IsPatrolsFile (given : Data) (table : Members) (g : Game) : Type 0 where
   pub listed : Data
   pub attackers : Data
   pub patrols : ℕ
   pub kind : g.kind ≡ Security
   pub identical : g.patrols ≡ Some patrols
+  pub scale : Option ℤ
+  pub count : ℤ
+  pub scaled : is_scaled g ≡ is_some (get_member (codes "scale") table)
   pub known : has_only is_patrols_key table ≡ true
   pub targets_there : get_member (codes "targets") table ≡ Some listed
   pub types_there : get_member (codes "type") table ≡ Some attackers
   pub targets : names_at place_of.Document place_of.Target (if is_some (get_member (codes "scale") table) then 10000 else 200) listed ≡ Ok g.goals
+  pub scale_read : scale_at (get_member (codes "scale") table) ≡ Ok scale
+  pub count_read : number_at place_of.Document (pos 0) (pos (if is_some (get_member (codes "scale") table) then 200 else 32)) given ≡ Ok count
   pub types : security_types_at (is_some (get_member (codes "scale") table)) (length g.goals) attackers ≡ Ok g.types
 
-patrols_file : (given : Data) (table : Members) (g : Game) → patrols_game given table ≡ Ok g → IsPatrolsFile table g
+patrols_file : (given : Data) (table : Members) (g : Game) → patrols_game given table ≡ Ok g → IsPatrolsFile given table g
 unfolding patrols_game
 patrols_file given table g h =
     after_test (has_only is_patrols_key table) _ _ h (λ e1 h1.
@@ -75,10 +82,15 @@ patrols_file given table g h =
     let y : Game = record { kind = Security; scale = unwrap_or scale (pos 0); patrols = Some (count_of patrols); goals = targets; schedules = []; resources = []; types = types } in
     after (limits_of y scaled) h7 (λ u e8 last.
     let same : y ≡ g = cc in
-    let is : IsPatrolsFile table y = record {
+    let is : IsPatrolsFile given table y = record {
       listed = listed;
       attackers = attackers;
       patrols = count_of patrols;
+      scale = scale;
+      count = patrols;
+      scaled = (scale_at-scale declared scale e5).is;
+      scale_read = e5;
+      count_read = e6;
       kind = refl;
       identical = refl;
       known = e1;
@@ -87,7 +99,7 @@ patrols_file given table g h =
       targets = e4;
       types = e7;
     } in
-    subst (IsPatrolsFile table) same is))))))))
+    subst (IsPatrolsFile given table) same is))))))))
 
 -- a document with listed schedules and resources
 pub record IsListedFile (table : Members) (g : Game) : Type 0 where
@@ -149,7 +161,7 @@ pub record IsHeaded (table : Members) (kind : Kind) : Type 0 where
   pub version : version_of table ≡ Ok tt
   pub form : form_of table ≡ Ok kind
 
-by_patrols : (table : Members) (g : Game) (Goal : Type 0) → ((given : Data) → get_member (codes "patrols") table ≡ Some given → IsPatrolsFile table g → Goal)
+by_patrols : (table : Members) (g : Game) (Goal : Type 0) → ((given : Data) → get_member (codes "patrols") table ≡ Some given → IsPatrolsFile given table g → Goal)
     → (get_member (codes "patrols") table ≡ None → IsListedFile table g → Goal)
     → (o : Option Data) → get_member (codes "patrols") table ≡ o → security_game o table ≡ Ok g → Goal
 by_patrols table g Goal with_patrols without (Some given) e h = with_patrols given e (patrols_file given table g h)
@@ -157,7 +169,7 @@ by_patrols table g Goal with_patrols without None e h = without e (listed_file t
 
 by_kind : (table : Members) (g : Game) (Goal : Type 0)
     → (IsHeaded table Matrix → IsMatrixFile table g → Goal)
-    → (IsHeaded table Security → (given : Data) → get_member (codes "patrols") table ≡ Some given → IsPatrolsFile table g → Goal)
+    → (IsHeaded table Security → (given : Data) → get_member (codes "patrols") table ≡ Some given → IsPatrolsFile given table g → Goal)
     → (IsHeaded table Security → get_member (codes "patrols") table ≡ None → IsListedFile table g → Goal)
     → (kind : Kind) → IsHeaded table kind → game_of_form kind table ≡ Ok g → Goal
 by_kind table g Goal matrix with_patrols without Matrix head h = matrix head (matrix_file table g h)
@@ -166,7 +178,7 @@ by_kind table g Goal matrix with_patrols without Security head h = by_patrols ta
 -- the document of a game is of one of three kinds
 pub by_file : (table : Members) (g : Game) (Goal : Type 0) → game_of_table table ≡ Ok g
     → (IsHeaded table Matrix → IsMatrixFile table g → Goal)
-    → (IsHeaded table Security → (given : Data) → get_member (codes "patrols") table ≡ Some given → IsPatrolsFile table g → Goal)
+    → (IsHeaded table Security → (given : Data) → get_member (codes "patrols") table ≡ Some given → IsPatrolsFile given table g → Goal)
     → (IsHeaded table Security → get_member (codes "patrols") table ≡ None → IsListedFile table g → Goal)
     → Goal
 unfolding game_of_table

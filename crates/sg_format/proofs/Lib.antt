@@ -8,3 +8,5 @@ pub mod Texts
 pub mod Keys
 pub mod Files
 pub mod Faults
+pub mod FaultyLists
+pub mod TopLists

@@ -12,9 +12,10 @@ worked_texts =
     let two : decimal 2 ≡ 50 ∷ [] = decimal_digit 2 (omega arith) in
     let three : decimal 3 ≡ 51 ∷ [] = decimal_digit 3 (omega arith) in
     let four : decimal 4 ≡ 52 ∷ [] = decimal_digit 4 (omega arith) in
+    let five : decimal 5 ≡ 53 ∷ [] = decimal_digit 5 (omega arith) in
     record {
       listed = rw (zero, one) refl;
       scaled = rw (zero, one, two, four) refl;
       matrix = rw (zero, one, two, three, four) refl;
-      empty = rw (zero, one) refl;
+      empty = rw (zero, one, five) refl;
     }

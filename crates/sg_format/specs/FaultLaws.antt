@@ -1,13 +1,14 @@
 -- What each reason means: a file that breaks one rule is refused for it.
-use Rattle.std.specs.Prelude.{◌≡◌, ◌≢◌, ◌⊎◌, ℕ, true, false, List, ℤ, pos, Some, None, Ok, codes}
+use Rattle.std.specs.Prelude.{◌≡◌, ◌≢◌, ◌⊎◌, ℕ, true, false, List, ℤ, pos, Some, None, Ok, Err, codes}
 use Rattle.std.specs.Str.{is_utf8}
-use Rattle.toml.specs.Data.{Data, Members, integer, get_member}
+use Rattle.toml.specs.Data.{Data, Members, array, as_array, integer, get_member, no_items}
 use Rattle.toml.specs.Parse.{parse_document}
 use Rattle.sg_model.specs.declared.fault.Place.TheVariants.{Document}
+use Rattle.sg_model.specs.declared.fault.GameFault.{GameFault}
 use Rattle.sg_model.specs.Games.{Game}
-use Rattle.sg_format.specs.Steps.{refused, not_toml, bad_version, missing_key, unknown_key}
+use Rattle.sg_format.specs.Steps.{refused, not_toml, bad_version, missing_key, wrong_kind, unknown_key, empty_list}
 use Rattle.sg_format.specs.GameFiles.{game_of_bytes, game_of_table}
-use Rattle.sg_format.specs.Changes.{DiffersAt, is_needed_key, is_top_key}
+use Rattle.sg_format.specs.Changes.{DiffersAt, is_needed_key, is_filled_key, is_list_key, is_top_key, list_fault}
 
 -- bytes that are no UTF-8, or no TOML document
 abbrev pub NotTomlIsRefused : Type 0
@@ -26,3 +27,18 @@ MissingKeyIsRefused = (table other : Members) (g : Game) (key : List ℕ) → ga
 abbrev pub UnknownKeyIsRefused : Type 0
 UnknownKeyIsRefused = (table other : Members) (g : Game) (key : List ℕ) (value : Data) → game_of_table table ≡ Ok g → is_top_key g key ≡ false
     → DiffersAt key (Some value) table other → game_of_table other ≡ refused unknown_key Document
+
+-- the document of a game with another list of targets, rows, schedules, resources or types, which has a fault of its own
+abbrev pub FaultyListIsRefused : Type 0
+FaultyListIsRefused = (table other : Members) (g : Game) (key : List ℕ) (value : Data) (fault : GameFault) → game_of_table table ≡ Ok g
+    → DiffersAt key (Some value) table other → list_fault g.kind g.patrols g key value ≡ Some fault → game_of_table other ≡ Err fault
+
+-- the document of a game with something else in place of a list
+abbrev pub OtherKindIsRefused : Type 0
+OtherKindIsRefused = (table other : Members) (g : Game) (key : List ℕ) (value : Data) → game_of_table table ≡ Ok g → is_list_key g key ≡ true
+    → DiffersAt key (Some value) table other → as_array value ≡ None → game_of_table other ≡ refused wrong_kind Document
+
+-- the document of a game with no targets, rows or types
+abbrev pub EmptyListIsRefused : Type 0
+EmptyListIsRefused = (table other : Members) (g : Game) (key : List ℕ) → game_of_table table ≡ Ok g → is_filled_key g key ≡ true
+    → DiffersAt key (Some (array no_items)) table other → game_of_table other ≡ refused empty_list Document

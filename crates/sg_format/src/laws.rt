@@ -1,6 +1,6 @@
 //! Laws about the definition of a game file, each as the contract of a function that does nothing.
 
-ghost use Rattle.sg_format.specs.FaultLaws.{MissingKeyIsRefused, NotTomlIsRefused, OtherVersionIsRefused, UnknownKeyIsRefused};
+ghost use Rattle.sg_format.specs.FaultLaws.{EmptyListIsRefused, FaultyListIsRefused, MissingKeyIsRefused, NotTomlIsRefused, OtherKindIsRefused, OtherVersionIsRefused, UnknownKeyIsRefused};
 ghost use Rattle.sg_format.specs.GameFileLaws.{AcceptedIsGame};
 ghost use Rattle.sg_format.specs.GameTextLaws.{WorkedTexts};
 
@@ -32,4 +32,20 @@ pub fn missing_key_is_refused()
 /// The document of a game with a top key more than such a game has is refused for that.
 pub fn unknown_key_is_refused()
     ensures { UnknownKeyIsRefused }
+{}
+
+/// The document of a game with another list of targets, rows, schedules, resources or types, which has a fault of its
+/// own, is refused for that fault at its place.
+pub fn faulty_list_is_refused()
+    ensures { FaultyListIsRefused }
+{}
+
+/// The document of a game with something other than an array in place of a list is refused for that.
+pub fn other_kind_is_refused()
+    ensures { OtherKindIsRefused }
+{}
+
+/// The document of a game with no targets, rows or types is refused for that.
+pub fn empty_list_is_refused()
+    ensures { EmptyListIsRefused }
 {}
