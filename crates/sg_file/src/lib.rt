@@ -24,4 +24,8 @@ pub use game::{read_game, read_parts};
 pub use write::write_game;
 
 #[cfg(test)]
+mod hostile_tests;
+#[cfg(test)]
 mod tests;
+#[cfg(test)]
+mod writing_tests;
