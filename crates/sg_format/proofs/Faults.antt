@@ -3,16 +3,16 @@ use Rattle.std.proofs.Common.{◌≡◌, ◌≢◌, ◌∙◌, ℕ, Bool, true, 
 use Rattle.std.specs.Prelude.{bytes_eq, codes}
 use Rattle.std.specs.Str.{is_utf8}
 use Rattle.std.proofs.lemmas.Bool.{and_parts, cases_Bool, eqb-true, not-true, or_cases, true≢false}
-use Rattle.toml.specs.Data.{Data, Members, get_member}
+use Rattle.toml.specs.Data.{Data, Members, get_member, string}
 use Rattle.sg_model.specs.declared.fault.Place.TheVariants.{Document}
 use Rattle.sg_model.specs.declared.kind.Kind.{Kind}
 use Rattle.sg_model.specs.declared.kind.Kind.TheVariants.{Security, Matrix}
 use Rattle.sg_model.specs.Games.{Game}
-use Rattle.sg_format.specs.Steps.{refused, missing_key, unknown_key}
+use Rattle.sg_format.specs.Steps.{refused, missing_key, out_of_range, unknown_key}
 use Rattle.sg_format.specs.Documents.{document_of, has_only}
 use Rattle.sg_format.specs.GameFiles.{form_of, game_of_bytes, game_of_form, game_of_table, is_matrix_key, is_one, is_patrols_key, is_resources_key, matrix_game, patrols_game, resources_game, version_of}
 use Rattle.sg_format.specs.Changes.{DiffersAt, is_key_of, is_top_key}
-use Rattle.sg_format.specs.FaultLaws.{MissingKeyIsRefused, NotTomlIsRefused, OtherVersionIsRefused, UnknownKeyIsRefused}
+use Rattle.sg_format.specs.FaultLaws.{MissingKeyIsRefused, NotTomlIsRefused, OtherFormIsRefused, OtherVersionIsRefused, UnknownKeyIsRefused}
 use Rattle.sg_format.proofs.Keys.{apart, changed_only, known_found, only_from, same, unknown_found}
 use Rattle.sg_format.proofs.Files.{IsHeaded, IsListedFile, IsMatrixFile, IsPatrolsFile, by_file}
 
@@ -295,3 +295,26 @@ missing table other g key h needed d =
     (λ head m. matrix_missing table other g key head m d (rw m.kind at top))
     (λ head given there p. patrols_missing table other g key given head there p d unscaled (rw (p.kind, p.identical) at top))
     (λ head there l. listed_missing table other g key head there l d unscaled (rw (l.kind, l.no_patrols) at top))
+
+differs : (a b : List ℕ) → a ≢ b → bytes_eq a b ≡ false
+differs a b ne = elim (cases_Bool (bytes_eq a b)) [
+  | inl is ↦ absurd (ne (same a b is))
+  | inr isnt ↦ isnt
+]
+
+form_fails : (first second : Members) (kind : Kind) (text : List ℕ) → IsHeaded first kind → text ≢ codes "security" → text ≢ codes "matrix"
+    → DiffersAt (codes "form") (Some (string text)) first second → game_of_table second ≡ refused out_of_range Document
+unfolding game_of_table form_of
+form_fails first second kind text head s m d =
+    let a : version_of second ≡ Ok tt = version_same first second (d.elsewhere (codes "version") (apart (codes "version") (codes "form") refl)) ∙ head.version in
+    let here = d.here in
+    let one = differs text (codes "security") s in
+    let two = differs text (codes "matrix") m in
+    rw (a, here, one, two) refl
+
+pub other_form : OtherFormIsRefused
+other_form table other g text h s m d =
+    by_file table g (game_of_table other ≡ refused out_of_range Document) h
+    (λ head file. form_fails table other Matrix text head s m d)
+    (λ head given there file. form_fails table other Security text head s m d)
+    (λ head there file. form_fails table other Security text head s m d)

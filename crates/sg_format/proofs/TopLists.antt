@@ -1,7 +1,8 @@
 -- Faults of a list as a whole, in the document of a game.
-use Rattle.std.proofs.Common.{◌≡◌, ℕ, Bool, true, false, not, ◌&&◌, ◌||◌, List, length, map, Option, Some, None, is_none, Result, Err, refl, sym, ap, subst, inl, inr}
+use Rattle.std.proofs.Common.{◌≡◌, ℕ, ◌<◌, nat_le, nat_lt, Bool, true, false, not, ◌&&◌, ◌||◌, List, length, map, Option, Some, None, is_none, Result, Err, refl, sym, ap, subst, inl, inr, arith}
 use Rattle.std.specs.Prelude.{bytes_eq, codes, if◌then◌else◌}
 use Rattle.std.proofs.lemmas.Bool.{cases_Bool, or_cases}
+use Rattle.std.proofs.lemmas.Bool.Decides.{nat_tests}
 use Rattle.toml.specs.Data.{Data, Items, array, as_array, no_items}
 use Rattle.sg_model.specs.declared.fault.Place.{Place}
 use Rattle.sg_model.specs.declared.fault.Place.TheVariants as place_of
@@ -10,12 +11,12 @@ use Rattle.sg_model.specs.declared.kind.Kind.{Kind}
 use Rattle.sg_model.specs.declared.kind.Kind.TheVariants.{Security, Matrix}
 use Rattle.sg_model.specs.Games.{Game, Named, is_kind_matrix}
 use Rattle.sg_model.specs.Limits.{is_scaled}
-use Rattle.sg_format.specs.Steps.{refused, wrong_kind, empty_list}
+use Rattle.sg_format.specs.Steps.{refused, wrong_kind, empty_list, too_large}
 use Rattle.sg_format.specs.GameText.{goals_key}
-use Rattle.sg_format.specs.Lists.{few_at, named_lists_at, names_at, some_at}
+use Rattle.sg_format.specs.Lists.{few_at, item_count, named_lists_at, names_at, some_at}
 use Rattle.sg_format.specs.Types.{matrix_types_at, security_types_at}
-use Rattle.sg_format.specs.Changes.{fault_in, list_fault}
-use Rattle.sg_format.specs.FaultLaws.{EmptyListIsRefused, OtherKindIsRefused}
+use Rattle.sg_format.specs.Changes.{fault_in, list_fault, list_limit}
+use Rattle.sg_format.specs.FaultLaws.{EmptyListIsRefused, LongListIsRefused, OtherKindIsRefused}
 use Rattle.sg_format.proofs.Keys.{same}
 use Rattle.sg_format.proofs.FaultyLists.{faulty_list}
 
@@ -144,3 +145,38 @@ pub empty : EmptyListIsRefused
 empty table other g key h k d =
     faulty_list table other g key (array no_items) (record { reason = empty_list; place = place_of.Document }) h d
     (begun g.kind g.patrols g key (array no_items) (record { reason = empty_list; place = place_of.Document }) (or_left (is_filled g.kind key) _ k) (empty_begin g.kind g.patrols (is_scaled g) key k))
+
+some_long : (n : ℕ) (items : Items) → n < item_count items → some_at place_of.Document n (array items) ≡ refused too_large place_of.Document
+unfolding some_at
+some_long n items long =
+    let some : nat_lt 0 (item_count items) ≡ true = grind (arith, nat_tests) in
+    let many : nat_le (item_count items) n ≡ false = grind (arith, nat_tests) in
+    rw (some, many) refl
+
+few_long : (n : ℕ) (items : Items) → n < item_count items → few_at place_of.Document n (array items) ≡ refused too_large place_of.Document
+unfolding few_at
+few_long n items long = let many : nat_le (item_count items) n ≡ false = grind (arith, nat_tests) in rw many refl
+
+long_if : (answer : Result Items GameFault) (count : ℕ) (b : Bool) (m n : ℕ) (x y : Result Items GameFault) → (m < count → x ≡ answer) → (n < count → y ≡ answer)
+    → (if b then m else n) < count → (if b then x else y) ≡ answer
+long_if answer count true m n x y p q h = p h
+long_if answer count false m n x y p q h = q h
+
+long_begin : (kind : Kind) (patrols : Option ℕ) (scaled : Bool) (key : List ℕ) (items : Items) → list_limit kind patrols scaled key < item_count items
+    → list_begin kind patrols scaled key (array items) ≡ refused too_large place_of.Document
+long_begin Matrix patrols scaled key items h =
+    long_if (refused too_large place_of.Document) (item_count items) (bytes_eq key (codes "rows")) 4096 8 _ _ (some_long 4096 items) (some_long 8 items) h
+long_begin Security (Some n) scaled key items h =
+    long_if (refused too_large place_of.Document) (item_count items) (bytes_eq key (codes "targets")) (if scaled then 10000 else 200) (if scaled then 1 else 8) _ _
+    (some_long (if scaled then 10000 else 200) items) (some_long (if scaled then 1 else 8) items) h
+long_begin Security None scaled key items h =
+    let to : Result Items GameFault = refused too_large place_of.Document in
+    let c = item_count items in
+    long_if to c (bytes_eq key (codes "targets")) 200 _ _ _ (some_long 200 items)
+    (long_if to c (bytes_eq key (codes "schedule")) 500 _ _ _ (few_long 500 items)
+    (long_if to c (bytes_eq key (codes "resource")) 32 8 _ _ (few_long 32 items) (some_long 8 items))) h
+
+pub long : LongListIsRefused
+long table other g key items h k many d =
+    faulty_list table other g key (array items) (record { reason = too_large; place = place_of.Document }) h d
+    (begun g.kind g.patrols g key (array items) (record { reason = too_large; place = place_of.Document }) k (long_begin g.kind g.patrols (is_scaled g) key items many))

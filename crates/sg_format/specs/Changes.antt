@@ -60,3 +60,10 @@ is_filled_key g key = bytes_eq key (goals_key g.kind) || bytes_eq key (codes "ty
 -- the key of a list in the document of a game
 abbrev pub is_list_key : Game → List ℕ → Bool
 is_list_key g key = is_filled_key g key || (is_listed g && (bytes_eq key (codes "schedule") || bytes_eq key (codes "resource")))
+
+-- how many items the list at a key may have
+abbrev pub list_limit : Kind → Option ℕ → Bool → List ℕ → ℕ
+list_limit Matrix patrols scaled key = if bytes_eq key (codes "rows") then 4096 else 8
+list_limit Security (Some n) scaled key = if bytes_eq key (codes "targets") then (if scaled then 10000 else 200) else (if scaled then 1 else 8)
+list_limit Security None scaled key =
+    if bytes_eq key (codes "targets") then 200 else (if bytes_eq key (codes "schedule") then 500 else (if bytes_eq key (codes "resource") then 32 else 8))

@@ -1,14 +1,16 @@
 -- What each reason means: a file that breaks one rule is refused for it.
-use Rattle.std.specs.Prelude.{◌≡◌, ◌≢◌, ◌⊎◌, ℕ, true, false, List, ℤ, pos, Some, None, Ok, Err, codes}
+use Rattle.std.specs.Prelude.{◌≡◌, ◌≢◌, ◌⊎◌, ℕ, ◌<◌, true, false, List, ℤ, pos, Some, None, Ok, Err, codes}
 use Rattle.std.specs.Str.{is_utf8}
-use Rattle.toml.specs.Data.{Data, Members, array, as_array, integer, get_member, no_items}
+use Rattle.toml.specs.Data.{Data, Items, Members, array, as_array, get_member, integer, no_items, string}
 use Rattle.toml.specs.Parse.{parse_document}
 use Rattle.sg_model.specs.declared.fault.Place.TheVariants.{Document}
 use Rattle.sg_model.specs.declared.fault.GameFault.{GameFault}
 use Rattle.sg_model.specs.Games.{Game}
-use Rattle.sg_format.specs.Steps.{refused, not_toml, bad_version, missing_key, wrong_kind, unknown_key, empty_list}
+use Rattle.sg_format.specs.Steps.{refused, not_toml, bad_version, missing_key, wrong_kind, unknown_key, empty_list, out_of_range, too_large}
+use Rattle.sg_model.specs.Limits.{is_scaled}
+use Rattle.sg_format.specs.Lists.{item_count}
 use Rattle.sg_format.specs.GameFiles.{game_of_bytes, game_of_table}
-use Rattle.sg_format.specs.Changes.{DiffersAt, is_needed_key, is_filled_key, is_list_key, is_top_key, list_fault}
+use Rattle.sg_format.specs.Changes.{DiffersAt, is_needed_key, is_filled_key, is_list_key, is_top_key, list_fault, list_limit}
 
 -- bytes that are no UTF-8, or no TOML document
 abbrev pub NotTomlIsRefused : Type 0
@@ -42,3 +44,13 @@ OtherKindIsRefused = (table other : Members) (g : Game) (key : List ℕ) (value 
 abbrev pub EmptyListIsRefused : Type 0
 EmptyListIsRefused = (table other : Members) (g : Game) (key : List ℕ) → game_of_table table ≡ Ok g → is_filled_key g key ≡ true
     → DiffersAt key (Some (array no_items)) table other → game_of_table other ≡ refused empty_list Document
+
+-- the document of a game with a list that is too long
+abbrev pub LongListIsRefused : Type 0
+LongListIsRefused = (table other : Members) (g : Game) (key : List ℕ) (items : Items) → game_of_table table ≡ Ok g → is_list_key g key ≡ true
+    → list_limit g.kind g.patrols (is_scaled g) key < item_count items → DiffersAt key (Some (array items)) table other → game_of_table other ≡ refused too_large Document
+
+-- the document of a game whose form is another text
+abbrev pub OtherFormIsRefused : Type 0
+OtherFormIsRefused = (table other : Members) (g : Game) (text : List ℕ) → game_of_table table ≡ Ok g → text ≢ codes "security" → text ≢ codes "matrix"
+    → DiffersAt (codes "form") (Some (string text)) table other → game_of_table other ≡ refused out_of_range Document

@@ -1,6 +1,6 @@
 //! Laws about the definition of a game file, each as the contract of a function that does nothing.
 
-ghost use Rattle.sg_format.specs.FaultLaws.{EmptyListIsRefused, FaultyListIsRefused, MissingKeyIsRefused, NotTomlIsRefused, OtherKindIsRefused, OtherVersionIsRefused, UnknownKeyIsRefused};
+ghost use Rattle.sg_format.specs.FaultLaws.{EmptyListIsRefused, FaultyListIsRefused, LongListIsRefused, MissingKeyIsRefused, NotTomlIsRefused, OtherFormIsRefused, OtherKindIsRefused, OtherVersionIsRefused, UnknownKeyIsRefused};
 ghost use Rattle.sg_format.specs.GameFileLaws.{AcceptedIsGame};
 ghost use Rattle.sg_format.specs.GameTextLaws.{WorkedTexts};
 
@@ -48,4 +48,14 @@ pub fn other_kind_is_refused()
 /// The document of a game with no targets, rows or types is refused for that.
 pub fn empty_list_is_refused()
     ensures { EmptyListIsRefused }
+{}
+
+/// The document of a game with a list that is longer than it may be is refused for that.
+pub fn long_list_is_refused()
+    ensures { LongListIsRefused }
+{}
+
+/// The document of a game whose form is another text is refused for that.
+pub fn other_form_is_refused()
+    ensures { OtherFormIsRefused }
 {}
