@@ -1,3 +1,5 @@
 pub mod Steps
 pub mod Items
 pub mod Numbers
+pub mod Joined
+pub mod Sized

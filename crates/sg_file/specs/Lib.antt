@@ -1,3 +1,4 @@
 pub mod Answers
 pub mod Sections
 pub mod Numbers
+pub mod Writing

@@ -4,19 +4,19 @@ use std::alloc::{AllocError, Global};
 use std::test::*;
 
 /// A game of one patrol and two targets.
-const TWO_TARGETS: &str =
+pub(crate) const TWO_TARGETS: &str =
     "version = 1\nform = \"security\"\nscale = 4\npatrols = 1\ntargets = [\"gate\", \"hall\"]\n\n[[type]]\nname = \"thief\"\nprior = 1\npayoffs = [[2, -2, 0, 4], [1, -1, 0, 2]]\n";
 
 /// A game in matrix form.
-const MATRIX: &str =
+pub(crate) const MATRIX: &str =
     "version = 1\nform = \"matrix\"\nrows = [\"A\", \"B\"]\n\n[[type]]\nname = \"thief\"\nprior = 1\nactions = [\"x\", \"y\"]\nleader = [[2, 4], [1, 3]]\nfollower = [[1, 0], [0, 2]]\n";
 
 /// Four targets, and two resources of two schedules each.
-const FOUR_TARGETS: &str =
+pub(crate) const FOUR_TARGETS: &str =
     "version = 1\nform = \"security\"\ntargets = [\"t1\", \"t2\", \"t3\", \"t4\"]\nschedule = [{name = \"a\", targets = [\"t1\", \"t2\"]}, {name = \"b\", targets = [\"t4\", \"t3\"]}, {name = \"c\", targets = [\"t1\", \"t3\"]}, {name = \"d\", targets = [\"t2\", \"t4\"]}]\n\n[[resource]]\nname = \"r1\"\nschedules = [\"a\", \"b\"]\n\n[[resource]]\nname = \"r2\"\nschedules = [\"d\", \"c\"]\n\n[[type]]\nname = \"thief\"\nprior = 1048576\npayoffs = [[0, -1, 0, 1], [0, -1, 0, 1], [0, -1, 0, 1], [0, -1, -1073741824, 1073741824]]\n";
 
 /// Whether the bytes are refused for this reason at this place.
-fn refused(alloc: Global, bytes: &[u8], reason: u8, place: Place) -> bool {
+pub(crate) fn refused(alloc: Global, bytes: &[u8], reason: u8, place: Place) -> bool {
     match read_parts(alloc, bytes) {
         Err(GameError::Refused(fault)) => fault.reason == reason && fault.place == place,
         _ => false,
@@ -24,7 +24,7 @@ fn refused(alloc: Global, bytes: &[u8], reason: u8, place: Place) -> bool {
 }
 
 /// Whether the text is refused so after a change of one piece of it.
-fn refused_with(
+pub(crate) fn refused_with(
     alloc: Global,
     text: &str,
     old: &str,

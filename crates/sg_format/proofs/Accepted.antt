@@ -24,11 +24,11 @@ use Rattle.sg_format.proofs.Typed.{matrix_types_at-types, security_types_at-type
 use Rattle.sg_format.specs.GameFileLaws.{AcceptedIsGame}
 
 -- the scale of a game: 0, or from 1 where one is declared
-record IsScale (declared : Bool) (z : ℤ) : Type 0 where
-  is : int_lt (pos 0) z ≡ declared
-  range : IsWithin (pos 0) (pos (2 ^ 32)) z
+pub record IsScale (declared : Bool) (z : ℤ) : Type 0 where
+  pub is : int_lt (pos 0) z ≡ declared
+  pub range : IsWithin (pos 0) (pos (2 ^ 32)) z
 
-scale_at-scale : (declared : Option Data) (scale : Option ℤ) → scale_at declared ≡ Ok scale → IsScale (is_some declared) (unwrap_or scale (pos 0))
+pub scale_at-scale : (declared : Option Data) (scale : Option ℤ) → scale_at declared ≡ Ok scale → IsScale (is_some declared) (unwrap_or scale (pos 0))
 unfolding scale_at
 scale_at-scale None scale h =
     let same : None ≡ scale = cc in

@@ -4,3 +4,9 @@ pub mod Listed
 pub mod Typed
 pub mod Accepted
 pub mod Shapes
+pub mod Texts
+pub mod Keys
+pub mod Files
+pub mod Faults
+pub mod FaultyLists
+pub mod TopLists

@@ -1,5 +1,5 @@
 -- The table that the bytes of a file are, the keys of a table, and the kinds and ranges of values.
-use Rattle.std.specs.Prelude.{ℕ, Bool, true, ◌&&◌, ℤ, int_le, List, Option, None, Result, Ok, codes, bytes_eq, if◌then◌else◌}
+use Rattle.std.specs.Prelude.{ℕ, Bool, true, ◌&&◌, ℤ, int_le, List, None, Result, Ok, if◌then◌else◌}
 use Rattle.std.specs.Str.{is_utf8}
 use Rattle.toml.specs.Data.{Data, Items, Members, no_members, member, get_member, as_str, as_integer, as_array, as_table}
 use Rattle.toml.specs.Parse.{parse_document}

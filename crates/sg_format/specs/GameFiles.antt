@@ -1,5 +1,5 @@
 -- Which bytes are a game file, and of which game: the game, or the first reason for which they are none, with its place.
-use Rattle.std.specs.Prelude.{ℕ, ◌^◌, ◌==◌, Bool, false, not, ◌&&◌, ◌||◌, nat_le, ℤ, pos, negsuc, int_le, int_lt, int_rem, List, [], map, length, Option, Some, None, is_some, unwrap_or, Result, Ok, Err, codes, bytes_eq, if◌then◌else◌}
+use Rattle.std.specs.Prelude.{ℕ, ◌^◌, ◌==◌, Bool, false, not, ◌&&◌, ◌||◌, nat_le, ℤ, pos, negsuc, int_lt, int_rem, List, [], length, Option, Some, None, is_some, unwrap_or, Result, Ok, codes, bytes_eq, if◌then◌else◌}
 use Rattle.std.specs.List.{list_all}
 use Rattle.toml.specs.Data.{Data, Members, get_member}
 use Rattle.sg_model.specs.declared.fault.Place.TheVariants as place_of
@@ -9,7 +9,7 @@ use Rattle.sg_model.specs.declared.kind.Kind.TheVariants.{Security, Matrix}
 use Rattle.sg_model.specs.Games.{Payoff, Attacker, Game}
 use Rattle.sg_model.specs.Limits.{program_rows}
 use Rattle.sg_model.specs.Origami.{gap}
-use Rattle.sg_format.specs.Steps.{◌>>=◌, needed, passed, refused, bad_version, missing_key, unknown_key, out_of_range, too_large, bad_scale}
+use Rattle.sg_format.specs.Steps.{◌>>=◌, needed, passed, bad_version, missing_key, unknown_key, out_of_range, too_large, bad_scale}
 use Rattle.sg_format.specs.Documents.{document_of, has_only, needed_at, integer_at, text_at, number_at}
 use Rattle.sg_format.specs.Lists.{names_at, schedules_at, resources_at}
 use Rattle.sg_format.specs.Types.{security_types_at, matrix_types_at}

@@ -3,4 +3,8 @@ pub mod Documents
 pub mod Lists
 pub mod Types
 pub mod GameFiles
+pub mod GameText
 pub mod GameFileLaws
+pub mod GameTextLaws
+pub mod Changes
+pub mod FaultLaws

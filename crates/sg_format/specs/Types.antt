@@ -4,8 +4,6 @@ use Rattle.toml.specs.Data.{Data}
 use Rattle.sg_model.specs.declared.fault.Place.{Place}
 use Rattle.sg_model.specs.declared.fault.Place.TheVariants as place_of
 use Rattle.sg_model.specs.declared.fault.GameFault.{GameFault}
-use Rattle.sg_model.specs.declared.kind.Kind.{Kind}
-use Rattle.sg_model.specs.declared.kind.Kind.TheVariants.{Security, Matrix}
 use Rattle.sg_model.specs.Games.{Payoff, Attacker}
 use Rattle.sg_format.specs.Steps.{◌>>=◌, passed, unknown_key, out_of_range}
 use Rattle.sg_format.specs.Documents.{has_only, needed_at, items_at, table_at, number_at}

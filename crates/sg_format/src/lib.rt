@@ -6,4 +6,8 @@
 
 mod laws;
 
-pub use laws::accepted_is_game;
+pub use laws::{
+    accepted_is_game, empty_list_is_refused, faulty_list_is_refused, long_list_is_refused,
+    missing_key_is_refused, not_toml_is_refused, other_form_is_refused, other_kind_is_refused,
+    other_version_is_refused, unknown_key_is_refused, worked_texts,
+};
