@@ -1,1 +1,5 @@
 pub mod Firsts
+pub mod Duality
+pub mod Cover
+pub mod Caps
+pub mod Trees
