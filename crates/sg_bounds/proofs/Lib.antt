@@ -3,3 +3,4 @@ pub mod Duality
 pub mod Cover
 pub mod Caps
 pub mod Trees
+pub mod Reports

@@ -13,4 +13,4 @@ mod report_laws;
 
 pub use check_laws::first_is_one;
 pub use fact_laws::{cap_bounds, cover_is_plays, empty_region, fact_bounds};
-pub use report_laws::tree_bounds;
+pub use report_laws::{accepted_means, tree_bounds};
