@@ -13,3 +13,5 @@ pub mod Nodes
 pub mod Told
 pub mod Listed
 pub mod Deciding
+pub mod Answering
+pub mod Worked

@@ -1,5 +1,5 @@
 -- What holds of the tests of a report.
-use Rattle.std.specs.Prelude.{◌≡◌, ◌↔◌, ℕ, List}
+use Rattle.std.specs.Prelude.{◌≡◌, ◌↔◌, ◌⊎◌, ℕ, List}
 use Rattle.sg_model.specs.Games.{Game}
 use Rattle.sg_tree.specs.declared.report.Report.{Report}
 use Rattle.sg_bounds.specs.Accepted.{IsAccepted}
@@ -19,3 +19,7 @@ abbrev pub RefusalIsOne : Type 0
 RefusalIsOne = (g : Game) (r : Report)
     → (IsAccepted g r → (line reason : ℕ) → IsRefused g r line reason → ⊥)
     × ((line reason other why : ℕ) → IsRefused g r line reason → IsRefused g r other why → (line ≡ other) × (reason ≡ why))
+
+-- a report is accepted, or refused with a reason at a line
+abbrev pub EachIsAnswered : Type 0
+EachIsAnswered = (g : Game) (r : Report) → IsFormed r → IsAccepted g r ⊎ ((line : ℕ) × (reason : ℕ) × IsRefused g r line reason)

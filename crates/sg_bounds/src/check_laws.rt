@@ -1,6 +1,6 @@
 //! Laws about the tests of a report, each as the contract of a function that does nothing.
 
-ghost use Rattle.sg_bounds.specs.CheckLaws.{FirstIsOne, PassingIsAcceptance, RefusalIsOne};
+ghost use Rattle.sg_bounds.specs.CheckLaws.{EachIsAnswered, FirstIsOne, PassingIsAcceptance, RefusalIsOne};
 
 /// Where a test fails first, not all pass, and no other test fails first.
 pub fn first_is_one()
@@ -15,4 +15,9 @@ pub fn passing_is_acceptance()
 /// An accepted report is refused nowhere, and a report is refused with one reason at one line at most.
 pub fn refusal_is_one()
     ensures { RefusalIsOne }
+{}
+
+/// A report is accepted, or refused with a reason at a line.
+pub fn each_is_answered()
+    ensures { EachIsAnswered }
 {}
