@@ -1,5 +1,5 @@
 -- All tests of an accepted report pass.
-use Rattle.std.proofs.Common.{◌≡◌, ℕ, ◌+◌, ◌-◌, ◌≤◌, Bool, true, false, cond, List, [], ◌∷◌, ◌++◌, length, ℤ, subst, refl, arith, Option, Some, None, slice_index_or, sym}
+use Rattle.std.proofs.Common.{◌≡◌, ℕ, ◌+◌, ◌-◌, ◌≤◌, Bool, true, false, cond, List, [], ◌∷◌, ◌++◌, length, ℤ, subst, refl, arith, Option, Some, None}
 use Rattle.std.specs.List.{All}
 use Rattle.std.specs.Prelude.{MatchBool}
 use Rattle.std.proofs.lemmas.List.Elements.{All-head, All-tail, All-nil, All-cons}
@@ -14,11 +14,11 @@ use Rattle.sg_tree.specs.declared.report.Cap.{Cap}
 use Rattle.sg_tree.specs.declared.report.Report.{Report}
 use Rattle.sg_bounds.specs.Regions.{alone, prefix}
 use Rattle.sg_bounds.specs.Facts.{HoldsFor, no_fact}
-use Rattle.sg_bounds.specs.Caps.{IsAllowedBy, IsWithin, cap_of, no_cap}
+use Rattle.sg_bounds.specs.Caps.{IsAllowedBy, IsWithin, no_cap}
 use Rattle.sg_bounds.specs.Trees.{Node, unproved, closed, split, Parts, end, part, node_of, IsBase, IsRoot, IsTreeOf, ArePartsOf}
 use Rattle.sg_bounds.specs.Sizes.{bound_sums, size_sums, value_sums, weight_sums}
-use Rattle.sg_bounds.specs.Accepted.{Fits, IsAccepted, IsSplitTree, IsWaterTree, base_sums, cap_sums, fact_sums, part_sums, proof_sums, stated_sums, tree_sums}
-use Rattle.sg_bounds.specs.Checking.{AllPass, IsCapShape, IsWaterRoot, Passes, Stop, base_lines, base_stops, bound_stops, cap_stops, cap_within, capped, caps_end, caps_stops, end_stops, fact_lines, fact_stops, leveled, part_stops, proof_lines, proof_stops, root_line, root_stops, stops_of, ticket_stops, tree_lines, tree_stops, value_line, value_stops}
+use Rattle.sg_bounds.specs.Accepted.{Fits, IsAccepted, IsSplitTree, IsWaterTree, base_sums, cap_sums, fact_sums, part_sums, proof_sums, tree_sums}
+use Rattle.sg_bounds.specs.Checking.{AllPass, IsCapShape, IsWaterRoot, Stop, base_lines, base_stops, bound_stops, cap_stops, cap_within, caps_end, caps_stops, end_stops, fact_lines, fact_stops, leveled, part_stops, proof_lines, proof_stops, root_line, root_stops, stops_of, ticket_stops, tree_lines, tree_stops, value_line, value_stops}
 use Rattle.sg_bounds.proofs.Places.{All-left, All-right, nth-next}
 
 module _ (g : Game) (r : Report) where

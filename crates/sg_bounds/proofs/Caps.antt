@@ -1,19 +1,17 @@
 -- The defender's payoffs between their least and greatest, facts of both kinds, and caps.
-use Rattle.std.proofs.Common.{◌≡◌, ◌≢◌, ℕ, zero, suc, ◌+◌, ◌-◌, ◌<◌, ◌≤◌, Bool, true, false, cond, List, [], ◌∷◌, map, length, ℤ, pos, ◌+ℤ◌, ◌*ℤ◌, ◌≤ℤ◌, sym, ◌∙◌, ap, subst, refl, arith, inl, inr, slice_index_or}
-use Rattle.std.specs.List.{All, Contains, flat_map, fold, zip}
-use Rattle.std.specs.Int.{int_min}
+use Rattle.std.proofs.Common.{◌≡◌, ◌≢◌, ℕ, suc, ◌+◌, ◌-◌, ◌<◌, ◌≤◌, true, List, [], ◌∷◌, length, ℤ, pos, ◌+ℤ◌, ◌*ℤ◌, ◌≤ℤ◌, sym, ◌∙◌, ap, subst, refl, arith, inl, inr, slice_index_or}
+use Rattle.std.specs.List.{All, zip}
 use Rattle.std.specs.Prelude.{slice_index, int_le}
-use Rattle.std.proofs.lemmas.Int.{ints, fold-int_min_bounds}
+use Rattle.std.proofs.lemmas.Int.{ints}
 use Rattle.std.proofs.lemmas.Bool.{cases_eq}
-use Rattle.std.proofs.lemmas.Bool.Decides.{when_true}
-use Rattle.std.proofs.lemmas.List.Elements.{All-nil, All-cons, All-head, All-tail, All-contains, Contains-append_left, Contains-append_right}
+use Rattle.std.proofs.lemmas.List.Elements.{All-nil, All-cons, All-head, All-tail}
 use Rattle.std.proofs.lemmas.List.Sums.{list_all-from_AllPass}
-use Rattle.sg_model.specs.Sums.{total, least, numbers, numbers_from, nth}
-use Rattle.sg_model.specs.Games.{Game, attacker, action_count, payoff}
-use Rattle.sg_model.specs.Plays.{pay_d, covers, IsLegal, IsLegalJoint, IsRow}
+use Rattle.sg_model.specs.Sums.{total, numbers, numbers_from, nth}
+use Rattle.sg_model.specs.Games.{Game, attacker, action_count}
+use Rattle.sg_model.specs.Plays.{pay_d}
 use Rattle.sg_model.specs.declared.ticket.Ticket.{Ticket}
 use Rattle.sg_model.specs.Commitments.{IsCommitment, weight_total, sum_a, sum_d, is_best}
-use Rattle.sg_model.specs.Payoffs.{IsPeopled, payoffs_at, payoffs_of, greatest_of, shift_of}
+use Rattle.sg_model.specs.Payoffs.{IsPeopled, greatest_of, shift_of}
 use Rattle.sg_tree.specs.declared.fix.Fix.{Fix}
 use Rattle.sg_bounds.specs.Regions.{IsInRegion}
 use Rattle.sg_tree.specs.declared.fact.Fact.{Fact}
@@ -24,8 +22,7 @@ use Rattle.sg_bounds.specs.FactLaws.{FactBounds, CapBounds, EmptyRegion, shifted
 use Rattle.sg_model.proofs.Ints.{v, n, plus, times, same_by, le_by, le_from, mul-le, cancel-le}
 use Rattle.sg_model.proofs.Sums.{total-le, total-scaled, total-add}
 use Rattle.sg_model.proofs.Numbers.{All-numbers}
-use Rattle.sg_model.proofs.Greatest.{Contains-head, Contains-tail}
-use Rattle.sg_model.proofs.Best.{Takes, take_of-reached, greatest-bounds}
+use Rattle.sg_model.proofs.Best.{Takes, take_of-reached}
 use Rattle.sg_model.proofs.Covers.{weight_total-positive}
 use Rattle.sg_model.proofs.Payoffs.{bounded}
 use Rattle.sg_bounds.proofs.Cover.{cover_is_plays}
@@ -96,11 +93,11 @@ region_from g k r [] f l low high = absurd (omega arith)
 region_from g k r (c ∷ cs) f l low high =
     elim (cases_eq r l) [
       | inl e ↦ (
-        let zero_off : l - r ≡ 0 = omega arith in
-        rw zero_off (subst (λ (x : ℕ). is_best g k x c ≡ true) e (takes_best g k r c f.0)))
+          let zero_off : l - r ≡ 0 = omega arith in
+          rw zero_off (subst (λ (x : ℕ). is_best g k x c ≡ true) e (takes_best g k r c f.0)))
       | inr other ↦ (
-        let off : l - r ≡ suc (l - (r + 1)) = omega arith in
-        rw off (region_from g k (r + 1) cs f.1 l (omega arith) (omega arith)))
+          let off : l - r ≡ suc (l - (r + 1)) = omega arith in
+          rw off (region_from g k (r + 1) cs f.1 l (omega arith) (omega arith)))
     ]
 
 pub in_region : (g : Game) (k : List Ticket) (r : ℕ) (acts : List ℕ) → Follows g k r acts → IsInRegion g (record { first = r; acts = acts }) k
@@ -156,12 +153,12 @@ cap_bounds g peopled l from_one in_range w (f0 ∷ fs) allowed k is_k =
     let same : rho_of f *ℤ (x +ℤ pos 0) ≡ rho_of f *ℤ x = same_by (times (v (rho_of f)) (plus (v x) (n 0))) (times (v (rho_of f)) (v x)) (omega arith) in
     let q : s ≤ℤ (w *ℤ d) = elim h.1 [
       | inl zero_mu ↦ (
-        let none : mu_of f *ℤ d ≡ pos 0 = ap (λ (z : ℤ). z *ℤ d) zero_mu ∙ same_by (times (n 0) (v d)) (n 0) (omega arith) in
-        let some = one_le_product (rho_of f) x rho_positive (one_le_product p (s +ℤ (sh *ℤ d)) p_positive low) in
-        absurd (omega (arith, ints, bound, same, none, some)))
+          let none : mu_of f *ℤ d ≡ pos 0 = ap (λ (z : ℤ). z *ℤ d) zero_mu ∙ same_by (times (n 0) (v d)) (n 0) (omega arith) in
+          let some = one_le_product (rho_of f) x rho_positive (one_le_product p (s +ℤ (sh *ℤ d)) p_positive low) in
+          absurd (omega (arith, ints, bound, same, none, some)))
       | inr within ↦ (
-        let m = mul-le (mu_of f) (rho_of f *ℤ (p *ℤ (w +ℤ sh))) d within (omega (arith, ints, weight_total-positive k is_k.some is_k.positive)) in
-        uncap s sh d w (rho_of f) p rho_positive p_positive (omega (arith, ints, bound, same, m)))
+          let m = mul-le (mu_of f) (rho_of f *ℤ (p *ℤ (w +ℤ sh))) d within (omega (arith, ints, weight_total-positive k is_k.some is_k.positive)) in
+          uncap s sh d w (rho_of f) p rho_positive p_positive (omega (arith, ints, bound, same, m)))
     ] in
     omega (arith, ints, q, t1.gives)
 

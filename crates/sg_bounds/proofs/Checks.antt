@@ -1,12 +1,12 @@
 -- A report whose tests all pass is accepted.
-use Rattle.std.proofs.Common.{◌≡◌, ℕ, zero, suc, ◌+◌, ◌-◌, ◌<◌, ◌≤◌, Bool, true, false, cond, sym, List, [], ◌∷◌, ◌++◌, length, ℤ, ◌∙◌, subst, refl, arith, inl, inr, Option, Some, None}
+use Rattle.std.proofs.Common.{◌≡◌, ℕ, ◌+◌, ◌-◌, ◌<◌, ◌≤◌, Bool, true, false, cond, sym, List, [], ◌∷◌, ◌++◌, length, ℤ, ◌∙◌, subst, refl, arith, inl, inr, Option, Some, None}
 use Rattle.std.specs.List.{All}
 use Rattle.std.specs.Prelude.{MatchBool}
 use Rattle.std.proofs.lemmas.Bool.{cases_eq}
 use Rattle.std.proofs.lemmas.List.Elements.{All-nil, All-cons, All-append}
 use Rattle.sg_model.specs.declared.ticket.Ticket.{Ticket}
 use Rattle.sg_model.specs.Sums.{nth}
-use Rattle.sg_model.specs.Games.{Game, action_count}
+use Rattle.sg_model.specs.Games.{Game}
 use Rattle.sg_model.specs.Plays.{IsLegal}
 use Rattle.sg_model.specs.Limits.{is_scaled}
 use Rattle.sg_model.proofs.Promises.{nth-all}
@@ -16,11 +16,11 @@ use Rattle.sg_tree.specs.declared.report.Cap.{Cap}
 use Rattle.sg_tree.specs.declared.report.Report.{Report}
 use Rattle.sg_bounds.specs.Regions.{alone, prefix}
 use Rattle.sg_bounds.specs.Facts.{HoldsFor, no_fact}
-use Rattle.sg_bounds.specs.Caps.{IsAllowedBy, IsWithin, cap_of, no_cap}
+use Rattle.sg_bounds.specs.Caps.{IsAllowedBy, IsWithin, no_cap}
 use Rattle.sg_bounds.specs.Trees.{Node, unproved, closed, split, Parts, end, part, node_of, IsBase, IsRoot, IsTreeOf, ArePartsOf}
 use Rattle.sg_bounds.specs.Sizes.{value_sums, weight_sums}
-use Rattle.sg_bounds.specs.Accepted.{Fits, IsAccepted, IsSplitTree, IsWaterTree, base_sums, cap_sums, fact_sums, part_sums, proof_sums, stated_sums, tree_sums}
-use Rattle.sg_bounds.specs.Checking.{AllPass, IsCapShape, IsFormed, IsWaterRoot, Stop, base_lines, base_stops, bound_stops, cap_stops, cap_within, caps_end, caps_stops, end_stops, fact_lines, fact_stops, leveled, part_stops, proof_lines, proof_stops, root_line, root_stops, rooted, stops_of, ticket_stops, tree_lines, tree_stops, value_line, value_stops}
+use Rattle.sg_bounds.specs.Accepted.{Fits, IsAccepted, IsSplitTree, IsWaterTree, base_sums, cap_sums, fact_sums, part_sums, proof_sums, tree_sums}
+use Rattle.sg_bounds.specs.Checking.{AllPass, IsCapShape, IsFormed, IsWaterRoot, Stop, base_lines, base_stops, bound_stops, cap_stops, cap_within, caps_end, caps_stops, end_stops, fact_lines, fact_stops, leveled, part_stops, proof_lines, proof_stops, root_line, root_stops, stops_of, ticket_stops, tree_lines, tree_stops, value_line, value_stops}
 use Rattle.sg_bounds.proofs.Claims.{claim_commits}
 use Rattle.sg_bounds.proofs.Places.{nth-first, nth-next}
 
@@ -45,11 +45,11 @@ module _ (g : Game) (r : Report) where
   proof-at l n line (f ∷ fs) h m low high i e =
       elim (cases_eq n m) [
         | inl same ↦ (
-          let at : nth (f ∷ fs) i no_fact ≡ f = nth-first f fs i no_fact (omega (arith, e)) in
-          rw at (subst (λ (x : ℕ). HoldsFor g (alone l x) f) same h.1.0))
+            let at : nth (f ∷ fs) i no_fact ≡ f = nth-first f fs i no_fact (omega (arith, e)) in
+            rw at (subst (λ (x : ℕ). HoldsFor g (alone l x) f) same h.1.0))
         | inr other ↦ (
-          let at : nth (f ∷ fs) i no_fact ≡ nth fs (m - (n + 1) + 1) no_fact = nth-next f fs i (m - (n + 1) + 1) no_fact (omega (arith, e)) (omega arith) in
-          rw at (proof-at l (n + 1) (line + fact_lines f) fs h.1.1 m (omega arith) (omega arith) (m - (n + 1) + 1) refl))
+            let at : nth (f ∷ fs) i no_fact ≡ nth fs (m - (n + 1) + 1) no_fact = nth-next f fs i (m - (n + 1) + 1) no_fact (omega (arith, e)) (omega arith) in
+            rw at (proof-at l (n + 1) (line + fact_lines f) fs h.1.1 m (omega arith) (omega arith) (m - (n + 1) + 1) refl))
       ]
 
   allowed-by : (l line : ℕ) (w : ℤ) (proof : List Fact) → IsCapShape g l w proof → AllPass g r (proof_stops l 1 (line + 1) proof) → All (IsWithin g l w) proof → IsAllowedBy g l w proof
@@ -68,11 +68,11 @@ module _ (g : Game) (r : Report) where
       let p = pass-left here rest h in
       elim (cases_eq n l) [
         | inl same ↦ (
-          let at : nth (c ∷ cs) i no_cap ≡ c = nth-first c cs i no_cap (omega (arith, e)) in
-          rw at (p.0.1 ∙ same, subst (λ (x : ℕ). IsAllowedBy g x c.v c.proof) same (allowed-by n line c.v c.proof p.0.2 (pass-left facts last p.1) (pass-right facts last p.1).0)))
+            let at : nth (c ∷ cs) i no_cap ≡ c = nth-first c cs i no_cap (omega (arith, e)) in
+            rw at (p.0.1 ∙ same, subst (λ (x : ℕ). IsAllowedBy g x c.v c.proof) same (allowed-by n line c.v c.proof p.0.2 (pass-left facts last p.1) (pass-right facts last p.1).0)))
         | inr other ↦ (
-          let at : nth (c ∷ cs) i no_cap ≡ nth cs (l - (n + 1) + 1) no_cap = nth-next c cs i (l - (n + 1) + 1) no_cap (omega (arith, e)) (omega arith) in
-          rw at (caps-at (n + 1) (line + 1 + proof_lines c.proof) cs (pass-right here rest h) l (omega arith) (omega arith) (l - (n + 1) + 1) refl))
+            let at : nth (c ∷ cs) i no_cap ≡ nth cs (l - (n + 1) + 1) no_cap = nth-next c cs i (l - (n + 1) + 1) no_cap (omega (arith, e)) (omega arith) in
+            rw at (caps-at (n + 1) (line + 1 + proof_lines c.proof) cs (pass-right here rest h) l (omega arith) (omega arith) (l - (n + 1) + 1) refl))
       ]
 
   proof-fits : (l n line : ℕ) (fs : List Fact) → AllPass g r (proof_stops l n line fs) → All Fits (proof_sums g l n fs)

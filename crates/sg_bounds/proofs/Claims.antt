@@ -1,5 +1,5 @@
 -- The tickets of a claim: at least one, of positive weights, with different plays.
-use Rattle.std.proofs.Common.{◌≡◌, ◌≢◌, ℕ, Bool, true, false, true≢false, not, ◌&&◌, ◌==◌, List, [], ◌∷◌, length, ℤ, pos, ◌≤ℤ◌, sym, ◌∙◌, ap, subst, refl, arith, int_le}
+use Rattle.std.proofs.Common.{◌≡◌, ◌≢◌, ℕ, Bool, true, false, true≢false, not, ◌&&◌, ◌==◌, List, [], ◌∷◌, length, pos, ◌≤ℤ◌, sym, ap, subst, refl, arith, int_le}
 use Rattle.std.specs.List.{All, AllPairs}
 use Rattle.std.specs.Cmp.Lexicographic.{slice_cmp, nat_list_cmp_total}
 use Rattle.std.specs.declared.cmp.Ordering.{Ordering}

@@ -49,15 +49,15 @@ picked p z s a (suc m) low high =
     let tail : List ℕ = filter p (numbers_from (a + 1) m) in
     elim (cases_eq s a) [
       | inl same ↦ (
-        let e : eqb s a ≡ true = grind (arith, nat_tests) in
-        let rest : total f tail ≡ pos 0 = none_left p z s (a + 1) m (omega arith) in
-        let here : (b : Bool) → total f (cond b (a ∷ tail) tail) ≡ cond b z (pos 0) =
-        λ b. elim b as (λ b. total f (cond b (a ∷ tail) tail) ≡ cond b z (pos 0)) [ true ↦ rw e (omega (arith, ints, rest)) | false ↦ rest ] in
-        here (p a) ∙ ap (λ (t : ℕ). cond (p t) z (pos 0)) (sym same))
+          let e : eqb s a ≡ true = grind (arith, nat_tests) in
+          let rest : total f tail ≡ pos 0 = none_left p z s (a + 1) m (omega arith) in
+          let here : (b : Bool) → total f (cond b (a ∷ tail) tail) ≡ cond b z (pos 0) =
+          λ b. elim b as (λ b. total f (cond b (a ∷ tail) tail) ≡ cond b z (pos 0)) [ true ↦ rw e (omega (arith, ints, rest)) | false ↦ rest ] in
+          here (p a) ∙ ap (λ (t : ℕ). cond (p t) z (pos 0)) (sym same))
       | inr other ↦ (
-        let e : eqb s a ≡ false = grind (arith, nat_tests) in
-        let rest : total f tail ≡ cond (p s) z (pos 0) = picked p z s (a + 1) m (omega arith) (omega arith) in
-        elim (p a) as (λ b. total f (cond b (a ∷ tail) tail) ≡ cond (p s) z (pos 0)) [ true ↦ rw e (omega (arith, ints, rest)) | false ↦ rest ])
+          let e : eqb s a ≡ false = grind (arith, nat_tests) in
+          let rest : total f tail ≡ cond (p s) z (pos 0) = picked p z s (a + 1) m (omega arith) (omega arith) in
+          elim (p a) as (λ b. total f (cond b (a ∷ tail) tail) ≡ cond (p s) z (pos 0)) [ true ↦ rw e (omega (arith, ints, rest)) | false ↦ rest ])
     ]
 
 -- the columns of a play's choices

@@ -1,8 +1,8 @@
 -- A test for each thing that is asked of a report, which decides it.
-use Rattle.std.proofs.Common.{◌≡◌, ◌≢◌, ℕ, zero, suc, ◌+◌, ◌-◌, ◌<◌, ◌≤◌, ◌%◌, Bool, true, false, true≢false, cond, not, ◌&&◌, ◌||◌, List, [], ◌∷◌, ◌++◌, length, ℤ, pos, ◌+ℤ◌, ◌-ℤ◌, ◌*ℤ◌, ◌≤ℤ◌, sym, ◌∙◌, ap, subst, refl, arith, nat_le, eqb, int_le, MatchBool, slice_index, slice_index_or, unsigned_abs, inl, inr, ◌⊎◌, Option, Some, None}
+use Rattle.std.proofs.Common.{◌≡◌, ◌≢◌, ℕ, zero, suc, ◌+◌, ◌-◌, ◌<◌, ◌≤◌, ◌%◌, Bool, true, false, true≢false, cond, not, ◌&&◌, ◌||◌, List, [], ◌∷◌, length, ℤ, pos, ◌+ℤ◌, ◌-ℤ◌, ◌*ℤ◌, ◌≤ℤ◌, sym, ap, subst, refl, arith, nat_le, eqb, int_le, slice_index, unsigned_abs, inl, inr, ◌⊎◌, Some, None}
 use Rattle.std.specs.Bool.{Decides}
 use Rattle.std.specs.Int.{◌∣◌}
-use Rattle.std.specs.List.{All, Contains, list_all, list_any}
+use Rattle.std.specs.List.{All, list_all, list_any}
 use Rattle.std.specs.Ordering.{int_eq}
 use Rattle.std.proofs.lemmas.Bool.Decides.{Decides-and, Decides-eqb, Decides-int_eq, Decides-like, Decides-not, Decides-or}
 use Rattle.std.proofs.lemmas.List.Elements.{All-nil, All-cons, All-head, All-tail}
@@ -14,7 +14,7 @@ use Rattle.sg_model.specs.declared.kind.Kind.TheVariants.{Security, Matrix}
 use Rattle.sg_model.specs.declared.level.Level.{Level}
 use Rattle.sg_model.specs.declared.level.Level.TheVariants.{Resources, Target}
 use Rattle.sg_model.specs.declared.ticket.Ticket.{Ticket}
-use Rattle.sg_model.specs.Sums.{numbers, nth, total}
+use Rattle.sg_model.specs.Sums.{numbers, total}
 use Rattle.sg_model.specs.Games.{Game, action_count, attacker, is_kind_matrix, is_matrix, payoff, prior_total, resource_count, resource_schedules}
 use Rattle.sg_model.specs.Plays.{IsLegal, IsLegalJoint, IsRow}
 use Rattle.sg_model.specs.Payoffs.{greatest_of, shift_of}
@@ -307,37 +307,54 @@ cases_le a b = by (nat_le a b) (Decides-le a b)
     by true d = inl (d.0 refl)
     by false d = inr (let h : (a ≤ b) → ⊥ = λ le. true≢false (sym (d.1 le)) in omega (arith, h))
 
+-- the lesser of two numbers that aren't 0
+abbrev lesser : ℕ → ℕ → ℕ
+lesser zero b = b
+lesser (suc a) zero = suc a
+lesser (suc a) (suc b) = cond (nat_le a b) (suc a) (suc b)
+
+-- the least weight that isn't 0, or 0
 abbrev size : List Ticket → ℕ
 size [] = 0
-size (x ∷ xs) = unsigned_abs x.weight + size xs
+size (x ∷ xs) = lesser (unsigned_abs x.weight) (size xs)
 
 abbrev AllDivided : ℕ → List Ticket → Type 0
 AllDivided d k = All (λ (x : Ticket). d ∣ unsigned_abs x.weight) k
 
-zero-divides : (n : ℕ) → 0 ∣ n → n ≡ 0
-zero-divides n h = dvd_antisymm (dvd-zero n) h
+divides-either : (d x y : ℕ) (b : Bool) → d ∣ x → d ∣ y → d ∣ cond b x y
+divides-either d x y true h k = h
+divides-either d x y false h k = k
 
-past-none : (d n : ℕ) → d ∣ n → n < d → n ≡ 0
-past-none d zero h lt = refl
-past-none d (suc n) h lt = let le : d ≤ suc n = le_of_dvd (omega arith) h in absurd (omega (arith, le, lt))
+divides-lesser : (d a b : ℕ) → d ∣ a → d ∣ b → d ∣ lesser a b
+divides-lesser d zero b h k = k
+divides-lesser d (suc a) zero h k = h
+divides-lesser d (suc a) (suc b) h k = divides-either d (suc a) (suc b) (nat_le a b) h k
 
--- 0, and a number past the sum, divide weights of 0 alone
-none-left : (d : ℕ) (xs : List Ticket) → AllDivided d xs → (d ≡ 0) ⊎ (size xs < d) → size xs ≡ 0
-none-left d [] all h = refl
-none-left d (x ∷ xs) all h =
+divides-size : (d : ℕ) (xs : List Ticket) → AllDivided d xs → d ∣ size xs
+divides-size d [] all = dvd-zero d
+divides-size d (x ∷ xs) all =
     let P : Ticket → Type 0 = λ x. d ∣ unsigned_abs x.weight in
-    let here = All-head P x xs all in
-    let rest = All-tail P x xs all in
-    elim h [
-      | inl e ↦ (let a = zero-divides (unsigned_abs x.weight) (subst (λ (m : ℕ). m ∣ unsigned_abs x.weight) e here) in omega (arith, a, none-left d xs rest (inl e)))
-      | inr lt ↦ (let a = past-none d (unsigned_abs x.weight) here (omega (arith, lt)) in omega (arith, a, none-left d xs rest (inr (omega (arith, lt)))))
-    ]
+    divides-lesser d (unsigned_abs x.weight) (size xs) (All-head P x xs all) (divides-size d xs (All-tail P x xs all))
+
+either-none : (b : Bool) (x y : ℕ) → cond b (suc x) (suc y) ≡ 0 → ⊥
+either-none true x y e = omega (arith, e)
+either-none false x y e = omega (arith, e)
+
+lesser-none : (a b : ℕ) → lesser a b ≡ 0 → (a ≡ 0) × (b ≡ 0)
+lesser-none zero b e = (refl, e)
+lesser-none (suc a) zero e = absurd (omega (arith, e))
+lesser-none (suc a) (suc b) e = absurd (either-none (nat_le a b) a b e)
 
 two-divides : (xs : List Ticket) → size xs ≡ 0 → AllDivided 2 xs
 two-divides [] e = All-nil (λ (x : Ticket). 2 ∣ unsigned_abs x.weight)
 two-divides (x ∷ xs) e =
-    let a : unsigned_abs x.weight ≡ 0 = omega (arith, e) in
-    All-cons (λ (x : Ticket). 2 ∣ unsigned_abs x.weight) x xs (subst (λ (m : ℕ). 2 ∣ m) (sym a) (dvd-zero 2)) (two-divides xs (omega (arith, e)))
+    let n = lesser-none (unsigned_abs x.weight) (size xs) e in
+    All-cons (λ (x : Ticket). 2 ∣ unsigned_abs x.weight) x xs (subst (λ (m : ℕ). 2 ∣ m) (sym n.0) (dvd-zero 2)) (two-divides xs n.1)
+
+-- no number past a number that isn't 0 divides it
+past-none : (d n : ℕ) → 1 ≤ n → d ∣ n → (1 ≤ d) × (d ≤ n)
+past-none zero n some h = let e : n ≡ 0 = dvd_antisymm (dvd-zero n) h in absurd (omega (arith, e, some))
+past-none (suc d) n some h = let le : suc d ≤ n = le_of_dvd some h in (omega arith, le)
 
 abbrev alone_test : List Ticket → ℕ → Bool
 alone_test k d = not (list_all (divides d) k) || eqb d 1
@@ -358,18 +375,16 @@ Decides-lowest k =
     (Decides-and (nat_le 1 (size k)) (list_all (alone_test k) (numbers (size k))) (Decides-le 1 (size k)) (Decides-numbers (alone_test k) (λ d. AllDivided d k → d ≡ 1) (Decides-alone k) (size k)))
   where
     there : (1 ≤ size k) × ((d : ℕ) → 1 ≤ d → d ≤ size k → AllDivided d k → d ≡ 1) → AreLowest k
-    there h zero all = let none = none-left 0 k all (inl refl) in let some = h.0 in absurd (omega (arith, none, some))
-    there h (suc d) all =
-        elim (cases_le (suc d) (size k)) [
-          | inl le ↦ h.1 (suc d) (omega arith) le all
-          | inr lt ↦ (let none = none-left (suc d) k all (inr lt) in let some = h.0 in absurd (omega (arith, none, some)))
-        ]
+    there h d all = let r = past-none d (size k) h.0 (divides-size d k all) in h.1 d r.0 r.1 all
+
     back : AreLowest k → (1 ≤ size k) × ((d : ℕ) → 1 ≤ d → d ≤ size k → AllDivided d k → d ≡ 1)
-    back h =
-        (elim (cases_le 1 (size k)) [
-          | inl le ↦ le
-          | inr lt ↦ (let e : 2 ≡ 1 = h 2 (two-divides k (omega (arith, lt))) in absurd (omega (arith, e)))
-        ], λ d low high. h d)
+    back h = (
+      elim (cases_le 1 (size k)) [
+        | inl le ↦ le
+        | inr lt ↦ (let e : 2 ≡ 1 = h 2 (two-divides k (omega (arith, lt))) in absurd (omega (arith, e)))
+      ],
+      λ d low high. h d,
+    )
 
 -- ---- the tests of a report
 

@@ -1,5 +1,5 @@
 -- All legal plays of a game, and all columns of its coverage table, as lists.
-use Rattle.std.proofs.Common.{◌≡◌, ℕ, zero, suc, ◌+◌, ◌-◌, ◌<◌, ◌≤◌, Bool, true, false, cond, List, [], ◌∷◌, ◌++◌, map, length, ap, sym, ◌∙◌, subst, refl, arith, MatchBool, slice_index, slice_index_or, flat_map}
+use Rattle.std.proofs.Common.{◌≡◌, ℕ, zero, suc, ◌+◌, ◌<◌, ◌≤◌, Bool, true, false, cond, List, [], ◌∷◌, ◌++◌, map, length, subst, refl, arith, MatchBool, slice_index, slice_index_or, flat_map}
 use Rattle.std.specs.List.{All, Contains}
 use Rattle.std.proofs.lemmas.List.Elements.{All-nil, All-cons, All-append, All-map, Contains-append_left, Contains-append_right}
 use Rattle.sg_model.specs.Sums.{numbers, numbers_from}
@@ -100,8 +100,10 @@ columns-inside g c is = at c is
   where
     choices : List Column
     choices = flat_map (choice_columns g) (numbers (resource_count g))
+
     targets : List Column
     targets = map covering (numbers (length g.goals))
+
     at : (c : Column) → IsColumn g c → Contains (columns_of_game g) c
     at always is = Contains-head always (choices ++ targets)
     at (chooses r j) is =

@@ -1,5 +1,5 @@
 -- An accepted report's upper bound holds, and where its bounds meet its tickets are optimal.
-use Rattle.std.proofs.Common.{◌≡◌, ℕ, Bool, true, false, List, [], ℤ, pos, ◌*ℤ◌, ◌≤ℤ◌, sym, ◌∙◌, ap, refl, arith, Option, Some, None, subst}
+use Rattle.std.proofs.Common.{◌≡◌, ℕ, Bool, true, false, List, [], ℤ, pos, ◌*ℤ◌, ◌≤ℤ◌, sym, ◌∙◌, ap, refl, arith, Some, subst}
 use Rattle.std.specs.List.{All}
 use Rattle.std.proofs.lemmas.Int.{ints, by_lt_z}
 use Rattle.std.proofs.lemmas.Bool.Decides.{when_false, when_true}
@@ -7,7 +7,7 @@ use Rattle.std.proofs.lemmas.List.Elements.{All-head, All-tail}
 use Rattle.sg_frac.specs.Fractions.{Fraction}
 use Rattle.sg_model.specs.Games.{Game, prior_total, resource_count}
 use Rattle.sg_model.specs.Limits.{IsGame, is_scaled}
-use Rattle.sg_model.specs.Commitments.{IsCommitment, weight_total, worth}
+use Rattle.sg_model.specs.Commitments.{weight_total, worth}
 use Rattle.sg_model.specs.Optimality.{IsUpperBound}
 use Rattle.sg_model.specs.Payoffs.{IsPeopled}
 use Rattle.sg_model.specs.Origami.{IsOrigami, IsWater, water_bound}
@@ -19,9 +19,7 @@ use Rattle.sg_model.proofs.Optimal.{optimal_at_bound}
 use Rattle.sg_model.proofs.Promises.{peopled, origami}
 use Rattle.sg_tree.specs.declared.fact.Fact.TheVariants.{Plays, Cover, Water}
 use Rattle.sg_tree.specs.declared.report.Cap.{Cap}
-use Rattle.sg_tree.specs.declared.report.Ending.{Ending}
 use Rattle.sg_tree.specs.declared.report.Report.{Report}
-use Rattle.sg_bounds.specs.Caps.{AreCaps}
 use Rattle.sg_bounds.specs.Trees.{Node, unproved, closed, split, node_of}
 use Rattle.sg_bounds.specs.Leaves.{tree_bounds_of}
 use Rattle.sg_bounds.specs.Accepted.{IsAccepted, IsBelow, IsSame, IsSplitTree, IsWaterTree, is_optimal}
@@ -65,10 +63,13 @@ upper_bound g is_game r a = by_form (is_scaled g) refl
   where
     tree : Node
     tree = node_of r.tree
+
     positive : pos 1 ≤ℤ r.upper.den
     positive = let q = a.upper_reduced in q.positive
+
     all : All (λ (x : Fraction). IsBelow x r.upper) (tree_bounds_of g r.caps (node_of r.tree))
     all = let q = a.upper in All-tail (λ (x : Fraction). IsBelow x r.upper) r.value (tree_bounds_of g r.caps (node_of r.tree)) q.bounds
+
     by_form : (b : Bool) → is_scaled g ≡ b → IsUpperBound g r.upper.num r.upper.den
     by_form true e = let o = origami g is_game e in water_upper g (peopled g is_game) o.0 o.1 r.caps (node_of r.tree) r.upper positive (when_true (IsWaterTree g (node_of r.tree)) (IsSplitTree g (node_of r.tree)) e a.tree) all
     by_form false e = tree_bounds g (peopled g is_game) r.caps a.caps (node_of r.tree) (when_false (IsWaterTree g (node_of r.tree)) (IsSplitTree g (node_of r.tree)) e a.tree) r.upper positive all

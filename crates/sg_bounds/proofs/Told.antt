@@ -1,16 +1,14 @@
 -- Tests that decide: of numbers, lists, plays and columns.
-use Rattle.std.proofs.Common.{◌≡◌, ◌≢◌, ℕ, zero, suc, ◌+◌, ◌-◌, ◌<◌, ◌≤◌, Bool, true, false, true≢false, cond, not, ◌&&◌, ◌||◌, List, [], ◌∷◌, ◌++◌, map, length, ℤ, pos, ◌≤ℤ◌, sym, ◌∙◌, ap, subst, refl, arith, nat_le, eqb, int_le, MatchBool, slice_index, slice_index_or, flat_map, inl, inr, ◌⊎◌}
+use Rattle.std.proofs.Common.{◌≡◌, ℕ, zero, suc, ◌+◌, ◌<◌, ◌≤◌, Bool, true, false, true≢false, cond, not, ◌||◌, List, [], ◌∷◌, map, ℤ, ◌≤ℤ◌, sym, ◌∙◌, ap, subst, refl, arith, nat_le, int_le, MatchBool, slice_index_or, flat_map, inl, inr, ◌⊎◌}
 use Rattle.std.specs.Bool.{Decides}
 use Rattle.std.specs.List.{All, Contains, list_all, list_any}
-use Rattle.std.specs.Ordering.{int_eq}
 use Rattle.std.proofs.lemmas.Int.{ints}
 use Rattle.std.proofs.lemmas.Bool.{cases_eq}
-use Rattle.std.proofs.lemmas.Bool.Decides.{nat_tests, Decides-and, Decides-by_and, Decides-eqb, Decides-int_eq, Decides-like, Decides-or}
-use Rattle.std.proofs.lemmas.List.Elements.{All-nil, All-cons, All-append, All-contains, All-map, Contains-append_left, Contains-append_right}
+use Rattle.std.proofs.lemmas.Bool.Decides.{nat_tests, Decides-by_and, Decides-like, Decides-or}
+use Rattle.std.proofs.lemmas.List.Elements.{All-contains, Contains-append_left, Contains-append_right}
 use Rattle.sg_model.specs.Sums.{numbers, numbers_from}
 use Rattle.sg_model.proofs.Greatest.{Contains-head, Contains-tail}
-use Rattle.sg_model.proofs.Numbers.{All-numbers, All-numbers-at, All-numbers_from}
-use Rattle.sg_bounds.proofs.Cover.{All-flat_map}
+use Rattle.sg_model.proofs.Numbers.{All-numbers, All-numbers-at}
 
 pub Decides-le : (a b : ℕ) → Decides (nat_le a b) (a ≤ b)
 Decides-le a b = (λ e. grind (arith, nat_tests, e), λ h. grind (arith, nat_tests, h))
@@ -41,6 +39,7 @@ Decides-any p P each (x ∷ xs) = Decides-like (p x || list_any p xs) there back
     there : P x ⊎ ((y : _) × Contains xs y × P y) → (y : _) × Contains (x ∷ xs) y × P y
     there (inl h) = (x, Contains-head x xs, h)
     there (inr h) = (h.0, Contains-tail x xs h.0 h.1, h.2)
+
     back : (y : _) × Contains (x ∷ xs) y × P y → P x ⊎ ((y : _) × Contains xs y × P y)
     back (y, (zero, lt, e), h) = inl (subst P (sym e) h)
     back (y, (suc i, lt, e), h) = inr (y, (i, omega arith, e), h)

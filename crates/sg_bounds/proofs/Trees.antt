@@ -6,14 +6,14 @@ use Rattle.std.proofs.lemmas.Int.{ints}
 use Rattle.std.proofs.lemmas.Bool.{cases_eq}
 use Rattle.std.proofs.lemmas.List.Elements.{All-contains, Contains-append_left, Contains-append_right}
 use Rattle.sg_model.specs.Sums.{total, numbers, numbers_from, nth}
-use Rattle.sg_model.specs.Games.{Game, Attacker, nobody, attacker, action_count, prior_total}
+use Rattle.sg_model.specs.Games.{Game, attacker, action_count, prior_total}
 use Rattle.sg_model.specs.declared.ticket.Ticket.{Ticket}
 use Rattle.sg_model.specs.Commitments.{IsCommitment, weight_total, sum_d, take_of, worth}
 use Rattle.sg_model.specs.Payoffs.{greatest_of, shift_of, IsPeopled}
 use Rattle.sg_tree.specs.declared.fact.Fact.{Fact}
 use Rattle.sg_bounds.specs.Facts.{rho_of, mu_of, HoldsFor}
 use Rattle.sg_tree.specs.declared.report.Cap.{Cap}
-use Rattle.sg_bounds.specs.Caps.{no_cap, AreCaps, cap_of}
+use Rattle.sg_bounds.specs.Caps.{no_cap, AreCaps}
 use Rattle.sg_bounds.specs.Trees.{Node, unproved, closed, split, Parts, end, part, part_count, IsBase, IsTreeOf, ArePartsOf, IsRoot}
 use Rattle.sg_bounds.specs.Regions.{prefix}
 use Rattle.sg_frac.specs.Fractions.{Fraction}
@@ -21,12 +21,11 @@ use Rattle.sg_bounds.specs.Accepted.{IsBelow, IsSplitTree}
 use Rattle.sg_bounds.specs.ReportLaws.{TreeBounds}
 use Rattle.sg_bounds.specs.Leaves.{rest_of, fact_bound, base_bound, listed, leaf_bounds, part_bounds, root_bound, tree_bounds_of}
 use Rattle.sg_model.proofs.Ints.{v, n, plus, less, times, same_by, le_by, le_from, mul-le, cancel-le}
-use Rattle.sg_model.proofs.Sums.{total-append, total-nonneg}
-use Rattle.sg_model.proofs.Numbers.{All-numbers, All-numbers_from}
+use Rattle.sg_model.proofs.Sums.{total-append}
 use Rattle.sg_model.proofs.Greatest.{Contains-head}
 use Rattle.sg_model.proofs.Best.{Takes, take_of-reached}
 use Rattle.sg_model.proofs.Covers.{weight_total-positive}
-use Rattle.sg_bounds.proofs.Caps.{Follows, each_fact_bounds, holds-rho, holds-mu, in_region, is_fix, cap_bounds, sum_d-low, one_le_product, empty_region}
+use Rattle.sg_bounds.proofs.Caps.{Follows, each_fact_bounds, holds-rho, holds-mu, in_region, is_fix, cap_bounds, one_le_product, empty_region}
 use Rattle.sg_model.proofs.Values.{prior_total-positive}
 
 numbers_from-split : (a m k : ℕ) → numbers_from a (m + k) ≡ numbers_from a m ++ numbers_from (a + m) k
@@ -194,16 +193,16 @@ module _ (g : Game) (peopled : IsPeopled g) (caps : List Cap) (are_caps : AreCap
     part-met (part tree rest) a0 a acts above room f_acts t low high meets are_parts =
         elim (cases_eq a0 a) [
           | inl e ↦ (
-            let more : List ℕ = acts ++ (a0 ∷ []) in
-            let longer : length more ≡ length acts + 1 = length-append acts (a0 ∷ []) in
-            let c : length acts + 1 ≡ 1 + length acts = omega arith in
-            let t0 : Takes g k (1 + length acts) a0 = subst (λ (l : ℕ). Takes g k l a0) c (subst (λ (x : ℕ). Takes g k (length acts + 1) x) (sym e) t) in
-            let r = leaf-met tree more above (omega (arith, longer)) (omega (arith, longer)) (follows-more g k 1 acts a0 f_acts t0) meets are_parts.0 in
-            let inside : Contains (leaf_bounds g caps (length acts + 1) above tree) r.0 = subst (λ (n : ℕ). Contains (leaf_bounds g caps n above tree) r.0) longer r.1 in
-            (r.0, Contains-append_left (leaf_bounds g caps (length acts + 1) above tree) (part_bounds g caps (length acts + 1) above rest) r.0 inside, r.2))
+              let more : List ℕ = acts ++ (a0 ∷ []) in
+              let longer : length more ≡ length acts + 1 = length-append acts (a0 ∷ []) in
+              let c : length acts + 1 ≡ 1 + length acts = omega arith in
+              let t0 : Takes g k (1 + length acts) a0 = subst (λ (l : ℕ). Takes g k l a0) c (subst (λ (x : ℕ). Takes g k (length acts + 1) x) (sym e) t) in
+              let r = leaf-met tree more above (omega (arith, longer)) (omega (arith, longer)) (follows-more g k 1 acts a0 f_acts t0) meets are_parts.0 in
+              let inside : Contains (leaf_bounds g caps (length acts + 1) above tree) r.0 = subst (λ (n : ℕ). Contains (leaf_bounds g caps n above tree) r.0) longer r.1 in
+              (r.0, Contains-append_left (leaf_bounds g caps (length acts + 1) above tree) (part_bounds g caps (length acts + 1) above rest) r.0 inside, r.2))
           | inr other ↦ (
-            let r = part-met rest (a0 + 1) a acts above room f_acts t (omega arith) (omega arith) meets are_parts.1 in
-            (r.0, Contains-append_right (leaf_bounds g caps (length acts + 1) above tree) (part_bounds g caps (length acts + 1) above rest) r.0 r.1, r.2))
+              let r = part-met rest (a0 + 1) a acts above room f_acts t (omega arith) (omega arith) meets are_parts.1 in
+              (r.0, Contains-append_right (leaf_bounds g caps (length acts + 1) above tree) (part_bounds g caps (length acts + 1) above rest) r.0 r.1, r.2))
         ]
 
   root-met : (tree : Node) → IsRoot tree → IsTreeOf g (HoldsFor g) [] tree → (b : Fraction) × Contains (tree_bounds_of g caps tree) b × Meets g k b

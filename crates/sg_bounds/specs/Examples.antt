@@ -1,5 +1,5 @@
 -- Small reports whose tests can be worked out by hand.
-use Rattle.std.specs.Prelude.{ℕ, ◌+◌, ◌-◌, ◌^◌, List, [], ◌∷◌, ℤ, pos, Option, Some, None}
+use Rattle.std.specs.Prelude.{ℕ, ◌+◌, ◌-◌, ◌^◌, List, [], ◌∷◌, pos, Some, None}
 use Rattle.sg_frac.specs.Fractions.{Fraction}
 use Rattle.sg_model.specs.declared.level.Level.TheVariants.{Resources, Target}
 use Rattle.sg_model.specs.declared.ticket.Ticket.{Ticket}
@@ -74,6 +74,10 @@ low_water = reported two_to_one 3 (over 2 3) [] (level_tree 1 1) (over 2 3) Opti
 -- a target that isn't there
 abbrev pub no_target : Report
 no_target = reported two_to_one 3 (over 2 3) [] (Closed (Water (over 4 3) (Target 3))) (over 2 3) Optimal
+
+-- a split, where a level is asked
+abbrev pub split_for_scaled : Report
+split_for_scaled = reported two_to_one 3 (over 2 3) [] (Split 1 None (Closed (over_plays 1 2 []) ∷ Unproved ∷ [])) (over 2 3) Optimal
 
 -- ---- two types
 
@@ -161,7 +165,7 @@ pub record WorkedReports : Type 0 where
   pub water : IsAccepted two_targets water_report
   pub low : IsRefused two_targets low_water 6 6
   pub past_the_targets : IsRefused two_targets no_target 6 6
-  pub split_of_scaled : IsRefused two_targets one_type_report 6 5
+  pub split_of_scaled : IsRefused two_targets split_for_scaled 6 5
   pub nested : IsAccepted two_players nested_report
   pub small : IsRefused two_players small_mark 18 6
   pub other_game : IsRefused one_player nested_report 6 4
@@ -171,7 +175,7 @@ pub record WorkedReports : Type 0 where
   pub other_type : IsRefused two_players (with_caps (plain_cap 1 4)) 5 4
   pub false_fact : IsRefused two_players (with_caps (proved_cap 1 (over_plays 3 5 (mark 2 2 1 ∷ [])) (over_plays 1 3 []))) 8 6
   pub above_cap : IsRefused two_players (with_caps (proved_cap 1 (over_plays 3 5 (mark 2 2 1 ∷ [])) (over_plays 1 4 []))) 5 4
-  pub high_cap : IsRefused two_players (with_caps (proved_cap 5 (over_plays 3 5 (mark 2 2 1 ∷ [])) (over_plays 1 4 []))) 13 7
+  pub high_cap : IsAccepted two_players (with_caps (proved_cap 5 (over_plays 3 5 (mark 2 2 1 ∷ [])) (over_plays 1 4 [])))
   pub bound_wide : IsRefused two_players wide_bound 8 9
   pub one_type : IsAccepted one_player one_type_report
   pub two_for_one : IsRefused one_player (with_tree (one_type_tree first_fact (over_plays 3 11 (mark 1 1 2 ∷ [])))) 9 6

@@ -1,10 +1,8 @@
 -- What trees prove of all commitments, and what acceptance of a report means.
-use Rattle.std.specs.Prelude.{◌≡◌, ℕ, true, false, List, ℤ, pos, ◌*ℤ◌, ◌≤ℤ◌, ◌<ℤ◌, All}
+use Rattle.std.specs.Prelude.{◌≡◌, true, false, List, pos, ◌*ℤ◌, ◌≤ℤ◌, ◌<ℤ◌, All}
 use Rattle.sg_frac.specs.Fractions.{Fraction, IsReduced}
-use Rattle.sg_model.specs.declared.level.Level.{Level}
-use Rattle.sg_model.specs.declared.ticket.Ticket.{Ticket}
 use Rattle.sg_model.specs.Games.{Game}
-use Rattle.sg_model.specs.Limits.{IsGame, is_scaled}
+use Rattle.sg_model.specs.Limits.{IsGame}
 use Rattle.sg_model.specs.Payoffs.{IsPeopled}
 use Rattle.sg_model.specs.Commitments.{IsCommitment, IsValue}
 use Rattle.sg_model.specs.Optimality.{IsOptimal, IsUpperBound}
