@@ -15,3 +15,5 @@ pub mod Listed
 pub mod Deciding
 pub mod Answering
 pub mod Worked
+pub mod Waters
+pub mod Small

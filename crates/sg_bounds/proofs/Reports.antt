@@ -44,7 +44,7 @@ raised g is_peopled a b bound positive below =
     }
 
 -- the patrols are the resources
-patrols-count : (g : Game) (patrols : ℕ) → g.patrols ≡ Some patrols → resource_count g ≡ patrols
+pub patrols-count : (g : Game) (patrols : ℕ) → g.patrols ≡ Some patrols → resource_count g ≡ patrols
 patrols-count g patrols e = rw e refl
 
 water_upper : (g : Game) → IsPeopled g → (patrols : ℕ) → IsOrigami g patrols → (caps : List Cap) (t : Node) (upper : Fraction) → pos 1 ≤ℤ upper.den
