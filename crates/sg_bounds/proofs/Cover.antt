@@ -230,7 +230,7 @@ rows_are g security fix is_fix =
     (All-append P (map held targets) (map within targets ++ moves) (All-map P held targets range)
     (All-append P (map within targets) moves (All-map P within targets range) (All-flat_map P (λ (p : ℕ × ℕ). map (gains p.0) (others g p.1)) (fixed fix) each)))
 
-at_row : (g : Game) → is_matrix g ≡ false → (fix : Fix) → IsFix g fix → (line : Line) → IsLineOf g fix line → IsRowOf g fix (row_of g fix line)
+pub at_row : (g : Game) → is_matrix g ≡ false → (fix : Fix) → IsFix g fix → (line : Line) → IsLineOf g fix line → IsRowOf g fix (row_of g fix line)
 at_row g security fix is_fix line is_line = at line.row is_line.from_one is_line.in_range
   where
     at : (k : ℕ) → 1 ≤ k → k ≤ length (rows g fix) → IsRowOf g fix (nth (rows g fix) k whole)

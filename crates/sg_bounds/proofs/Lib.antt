@@ -17,3 +17,5 @@ pub mod Answering
 pub mod Worked
 pub mod Waters
 pub mod Small
+pub mod Spans
+pub mod SizeBounds

@@ -18,12 +18,9 @@ use Rattle.sg_model.proofs.Values.{prior_total-positive}
 use Rattle.sg_bounds.specs.Sizes.{pay_sums, running, take_sums, value_sums, weight_sums, worth_sums}
 use Rattle.sg_bounds.specs.Accepted.{Fits}
 use Rattle.sg_bounds.specs.ReportLaws.{SmallTotalsFit}
+use Rattle.sg_bounds.specs.SizeLaws.{IsAtMost}
 use Rattle.sg_bounds.proofs.Cover.{All-flat_map}
 use Rattle.sg_bounds.proofs.Places.{nth-next}
-
--- from -b to b
-abbrev pub IsAtMost : ℤ → ℤ → Type 0
-IsAtMost b z = ((pos 0 -ℤ b) ≤ℤ z) × (z ≤ℤ b)
 
 at_most-fits : (b z : ℤ) → b <ℤ pos (2 ^ 127) → IsAtMost b z → Fits z
 at_most-fits b (pos m) lt h = let a = h.1 in let k : m < 2 ^ 127 = omega (arith, ints, lt, a) in grind (arith, nat_tests, k)
@@ -55,7 +52,7 @@ weight_total-nonneg (x ∷ xs) h = omega (arith, ints, All-head (λ (x : Ticket)
 -- ---- products within bounds
 
 -- w times a number from -m to m is from -(w * m) to w * m
-scaled-small : (w m p : ℤ) → pos 0 ≤ℤ w → IsAtMost m p → IsAtMost (w *ℤ m) (w *ℤ p)
+pub scaled-small : (w m p : ℤ) → pos 0 ≤ℤ w → IsAtMost m p → IsAtMost (w *ℤ m) (w *ℤ p)
 scaled-small w m p low h =
     let a = mul-le (pos 0 -ℤ m) p w h.0 low in
     let b = mul-le p m w h.1 low in
@@ -70,7 +67,7 @@ at_most-more b c z le h = let p = h.0 in let q = h.1 in (omega (arith, ints, le,
 pub at_most-add : (b c y z : ℤ) → IsAtMost b y → IsAtMost c z → IsAtMost (b +ℤ c) (y +ℤ z)
 at_most-add b c y z h k = let p = h.0 in let q = h.1 in let r = k.0 in let s = k.1 in (omega (arith, ints, p, r), omega (arith, ints, q, s))
 
-add-times : (a b m : ℤ) → (a *ℤ m) +ℤ (b *ℤ m) ≡ (a +ℤ b) *ℤ m
+pub add-times : (a b m : ℤ) → (a *ℤ m) +ℤ (b *ℤ m) ≡ (a +ℤ b) *ℤ m
 add-times a b m = same_by (plus (times (v a) (v m)) (times (v b) (v m))) (times (plus (v a) (v b)) (v m)) (omega arith)
 
 -- ---- one sum over the tickets

@@ -8,6 +8,7 @@ pub mod Sizes
 pub mod Accepted
 pub mod Checking
 pub mod FactLaws
+pub mod SizeLaws
 pub mod ReportLaws
 pub mod CheckLaws
 pub mod Examples
