@@ -1,5 +1,5 @@
 -- The single sums of a fact are small.
-use Rattle.std.proofs.Common.{◌≡◌, ◌≢◌, ℕ, zero, suc, ◌+◌, ◌-◌, ◌<◌, ◌≤◌, Bool, true, false, cond, List, [], ◌∷◌, length, map, ℤ, pos, negsuc, ◌+ℤ◌, ◌-ℤ◌, ◌*ℤ◌, ◌≤ℤ◌, sym, ◌∙◌, ap, subst, refl, arith, slice_index, slice_index_or, eqb, inl, inr}
+use Rattle.std.proofs.Common.{◌≡◌, ◌≢◌, ℕ, suc, ◌+◌, ◌-◌, ◌<◌, ◌≤◌, true, false, cond, List, [], ◌∷◌, length, ℤ, pos, negsuc, ◌+ℤ◌, ◌-ℤ◌, ◌*ℤ◌, ◌≤ℤ◌, sym, ap, subst, refl, arith, slice_index, slice_index_or, eqb, inl, inr}
 use Rattle.std.specs.List.{All, zip}
 use Rattle.std.proofs.lemmas.Bool.{cases_eq}
 use Rattle.std.proofs.lemmas.Bool.Decides.{nat_tests}
@@ -7,17 +7,17 @@ use Rattle.std.proofs.lemmas.Int.{ints}
 use Rattle.std.proofs.lemmas.List.Elements.{All-head, All-tail}
 use Rattle.sg_model.specs.declared.kind.Kind.TheVariants.{Security}
 use Rattle.sg_model.specs.Sums.{numbers_from, total}
-use Rattle.sg_model.specs.Games.{Game, action_count, attacker, is_matrix, payoff}
+use Rattle.sg_model.specs.Games.{Game, action_count, attacker, payoff}
 use Rattle.sg_model.specs.Plays.{IsLegal, pay_a, pay_d}
 use Rattle.sg_model.specs.Payoffs.{IsPeopled, shift_of}
-use Rattle.sg_model.proofs.Ints.{v, n, plus, less, times, same_by, mul-le}
+use Rattle.sg_model.proofs.Ints.{v, n, times, same_by}
 use Rattle.sg_model.proofs.Forms.{no_matrix}
 use Rattle.sg_tree.specs.declared.fact.Fact.TheVariants.{Plays, Cover}
 use Rattle.sg_tree.specs.declared.fact.Mark.{Mark}
 use Rattle.sg_tree.specs.declared.fact.Line.{Line}
 use Rattle.sg_tree.specs.declared.fix.Fix.{Fix}
 use Rattle.sg_bounds.specs.Regions.{IsFix, act_of, fixed}
-use Rattle.sg_bounds.specs.Coverage.{Column, IsColumn, Row, always, choice_holds, chooses, column_cost, covering, entry, gains, held, row_of, rows, spends, where_same, whole, within}
+use Rattle.sg_bounds.specs.Coverage.{Column, IsColumn, Row, always, choice_holds, chooses, column_cost, covering, entry, gains, held, row_of, spends, where_same, whole, within}
 use Rattle.sg_bounds.specs.Facts.{IsLineOf, IsMarkOf, cost, regret}
 use Rattle.sg_bounds.specs.Sizes.{attacker_most, defender_most, fixed_priors, size_sum}
 use Rattle.sg_bounds.specs.SizeLaws.{AreSmall, ColumnSumsAreSmall, IsAtMost, PlaySumsAreSmall}
@@ -64,11 +64,11 @@ act-at g a (c ∷ cs) all l low high =
     let rest : List (ℕ × ℕ) = zip (numbers_from (a + 1) (length cs)) cs in
     elim (cases_eq a l) [
       | inl e ↦ (
-        let off : l - a ≡ 0 = omega arith in
-        rw off (subst (λ (m : ℕ). IsAct g (m, c)) e (All-head (IsAct g) (a, c) rest all)))
+          let off : l - a ≡ 0 = omega arith in
+          rw off (subst (λ (m : ℕ). IsAct g (m, c)) e (All-head (IsAct g) (a, c) rest all)))
       | inr other ↦ (
-        let off : l - a ≡ suc (l - (a + 1)) = omega arith in
-        rw off (act-at g (a + 1) cs (All-tail (IsAct g) (a, c) rest all) l (omega arith) (omega arith)))
+          let off : l - a ≡ suc (l - (a + 1)) = omega arith in
+          rw off (act-at g (a + 1) cs (All-tail (IsAct g) (a, c) rest all) l (omega arith) (omega arith)))
     ]
 
 module _ (g : Game) (is_peopled : IsPeopled g) (fix : Fix) (is_fix : IsFix g fix) where
@@ -168,15 +168,15 @@ module _ (g : Game) (is_peopled : IsPeopled g) (fix : Fix) (is_fix : IsFix g fix
     one-of-two b s t x y apart h k =
         elim (cases_eq b t) [
           | inl e ↦ (
-            let other : eqb s t ≡ false = grind (arith, nat_tests, apart, e) in
-            let right : where_same s t y ≡ pos 0 = rw other refl in
-            let here = same-small (attacker_most g) x b t (let o = one-at-most g in omega (arith, ints, o)) h in
-            let p = here.0 in let q = here.1 in (omega (arith, ints, right, p), omega (arith, ints, right, q)))
+              let other : eqb s t ≡ false = grind (arith, nat_tests, apart, e) in
+              let right : where_same s t y ≡ pos 0 = rw other refl in
+              let here = same-small (attacker_most g) x b t (let o = one-at-most g in omega (arith, ints, o)) h in
+              let p = here.0 in let q = here.1 in (omega (arith, ints, right, p), omega (arith, ints, right, q)))
           | inr ne ↦ (
-            let other : eqb b t ≡ false = grind (arith, nat_tests, ne) in
-            let left : where_same b t x ≡ pos 0 = rw other refl in
-            let here = same-small (attacker_most g) y s t (let o = one-at-most g in omega (arith, ints, o)) k in
-            let p = here.0 in let q = here.1 in (omega (arith, ints, left, p), omega (arith, ints, left, q)))
+              let other : eqb b t ≡ false = grind (arith, nat_tests, ne) in
+              let left : where_same b t x ≡ pos 0 = rw other refl in
+              let here = same-small (attacker_most g) y s t (let o = one-at-most g in omega (arith, ints, o)) k in
+              let p = here.0 in let q = here.1 in (omega (arith, ints, left, p), omega (arith, ints, left, q)))
         ]
 
     entry-small : (row : Row) → IsRowOf g fix row → (c : Column) → IsAtMost (attacker_most g) (entry g fix row c)

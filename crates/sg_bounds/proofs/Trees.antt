@@ -18,7 +18,7 @@ use Rattle.sg_bounds.specs.Trees.{Node, unproved, closed, split, Parts, end, par
 use Rattle.sg_bounds.specs.Regions.{prefix}
 use Rattle.sg_frac.specs.Fractions.{Fraction}
 use Rattle.sg_bounds.specs.Accepted.{IsBelow, IsSplitTree}
-use Rattle.sg_bounds.specs.ReportLaws.{TreeBounds}
+use Rattle.sg_bounds.specs.ReportLaws.{LeafIsMet, TreeBounds}
 use Rattle.sg_bounds.specs.Leaves.{rest_of, fact_bound, base_bound, listed, leaf_bounds, part_bounds, root_bound, tree_bounds_of}
 use Rattle.sg_model.proofs.Ints.{v, n, plus, less, times, same_by, le_by, le_from, mul-le, cancel-le}
 use Rattle.sg_model.proofs.Sums.{total-append}
@@ -236,3 +236,9 @@ module _ (g : Game) (peopled : IsPeopled g) (caps : List Cap) (are_caps : AreCap
 
 pub tree_bounds : TreeBounds
 tree_bounds g peopled caps are_caps t is_split b positive above = record { positive = positive; bounds = λ k is_k. tree-below g peopled caps are_caps k is_k t is_split b positive above }
+
+pub leaf_is_met : LeafIsMet
+leaf_is_met g peopled caps are_caps t is_split k is_k =
+    let r = root-met g peopled caps are_caps k is_k t is_split.root is_split.tree_of in
+    let meets = r.2 in
+    (r.0, r.1, meets.positive, meets.below)

@@ -173,13 +173,15 @@ abbrev pub root_stops : Game → ℕ → Node → List Stop
 root_stops g line t =
     record { line = line; reason = 5; test = rooted } ∷ (if is_scaled g then record { line = line; reason = 6; test = leveled } ∷ [] else tree_stops line [] t)
 
--- the line of the value, that after the caps, and that of the upper bound
+-- the line of the value, behind the head and the tickets
 abbrev pub value_line : Report → ℕ
 value_line r = 3 + length r.tickets.tickets
 
+-- the first line of the tree, behind the caps
 abbrev pub root_line : Report → ℕ
 root_line r = value_line r + 1 + cap_lines r.caps
 
+-- the line of the upper bound, behind the tree
 abbrev pub upper_line : Report → ℕ
 upper_line r = root_line r + tree_lines (node_of r.tree)
 

@@ -60,6 +60,7 @@ one_alone = ticket 1 (1 ∷ []) ∷ []
 
 -- ---- a water level
 
+-- a water level, for which the patrols are spent
 abbrev pub level_tree : ℕ → ℕ → Tree
 level_tree num den = Closed (Water (over num den) Resources)
 
@@ -90,6 +91,7 @@ abbrev pub two_types_tree : Fact → Tree
 two_types_tree last =
     Split 1 None (Closed (over_plays 1 2 []) ∷ Split 2 (Some (over_plays 3 11 (mark 1 1 1 ∷ []))) (Closed (over_plays 3 16 (mark 2 2 2 ∷ [])) ∷ Closed last ∷ []) ∷ [])
 
+-- the first choice on two tickets of three, worth 11 / 3
 abbrev pub two_types_report : List Cap → Tree → Report
 two_types_report caps tree = reported two_to_one 3 (over 11 3) caps tree (over 11 3) Optimal
 
@@ -101,17 +103,19 @@ nested_report = two_types_report two_caps (two_types_tree (over_plays 3 22 (mark
 abbrev pub small_mark : Report
 small_mark = two_types_report two_caps (two_types_tree (over_plays 3 22 (mark 1 1 1 ∷ [])))
 
--- the second type's plain cap, and a part without a fact
+-- the second part has no fact
 abbrev pub open_tree : Tree
 open_tree = Split 1 None (Closed (over_plays 1 2 []) ∷ Unproved ∷ [])
 
+-- a plain cap
 abbrev pub plain_cap : ℕ → ℕ → List Cap
 plain_cap l v = record { l = l; v = pos v; proof = [] } ∷ []
 
+-- one node was worked: the value is 3 and the upper bound 4
 abbrev pub open_report : Report
 open_report = reported one_alone 1 (over 3 1) (plain_cap 2 4) open_tree (over 4 1) (Gap (Nodes 1))
 
--- reports with other caps: none; one too low; one of another type; one of a type that isn't there; one fact too few
+-- the same with other caps
 abbrev pub with_caps : List Cap → Report
 with_caps caps = reported one_alone 1 (over 3 1) caps open_tree (over 4 1) (Gap (Nodes 1))
 
@@ -129,12 +133,15 @@ wide_bound = reported one_alone 1 (over 3 1) (plain_cap 2 4) (Split 1 None (Clos
 abbrev pub one_type_tree : Fact → Fact → Tree
 one_type_tree first second = Split 1 None (Closed first ∷ Closed second ∷ [])
 
+-- where the first action is taken, the defender gets at most 2
 abbrev pub first_fact : Fact
 first_fact = over_plays 1 2 []
 
+-- where the second is taken, at most 11 / 3
 abbrev pub second_fact : Fact
 second_fact = over_plays 3 11 (mark 1 1 1 ∷ [])
 
+-- the first choice on two tickets of three, worth 11 / 3
 abbrev pub one_type_report : Report
 one_type_report = reported two_to_one 3 (over 11 3) [] (one_type_tree first_fact second_fact) (over 11 3) Optimal
 

@@ -1,12 +1,12 @@
 -- What trees prove of all commitments, and what acceptance of a report means.
-use Rattle.std.specs.Prelude.{◌≡◌, ◌^◌, true, false, List, [], pos, ◌*ℤ◌, ◌≤ℤ◌, ◌<ℤ◌, All}
+use Rattle.std.specs.Prelude.{◌≡◌, ◌^◌, true, false, List, [], pos, ◌*ℤ◌, ◌≤ℤ◌, ◌<ℤ◌, All, Contains}
 use Rattle.sg_model.specs.declared.level.Level.{Level}
 use Rattle.sg_frac.specs.Fractions.{Fraction, IsReduced}
 use Rattle.sg_model.specs.Games.{Game, prior_total, resource_count}
 use Rattle.sg_model.specs.declared.ticket.Ticket.{Ticket}
 use Rattle.sg_model.specs.Limits.{IsGame, is_scaled}
 use Rattle.sg_model.specs.Payoffs.{IsPeopled}
-use Rattle.sg_model.specs.Commitments.{IsCommitment, IsValue, weight_total}
+use Rattle.sg_model.specs.Commitments.{IsCommitment, IsValue, weight_total, worth}
 use Rattle.sg_model.specs.Origami.{AreLevelTickets, IsWater}
 use Rattle.sg_model.specs.Optimality.{IsOptimal, IsUpperBound}
 use Rattle.sg_tree.specs.declared.report.Cap.{Cap}
@@ -20,7 +20,12 @@ use Rattle.sg_bounds.specs.Leaves.{tree_bounds_of}
 use Rattle.sg_bounds.specs.Sizes.{value_sums, weight_sums}
 use Rattle.sg_bounds.specs.Accepted.{AreLowest, Fits, IsAccepted, IsBelow, IsSplitTree, is_optimal}
 
--- where the caps are allowed and the facts of a split hold, what no leaf's bound is above is an upper bound
+-- where the caps are allowed and the facts of a split hold, each commitment has a leaf whose bound its value is at most
+abbrev pub LeafIsMet : Type 0
+LeafIsMet = (g : Game) → IsPeopled g → (caps : List Cap) → AreCaps g caps → (t : Node) → IsSplitTree g t → (k : List Ticket) → IsCommitment g k
+    → (leaf : Fraction) × Contains (tree_bounds_of g caps t) leaf × (pos 1 ≤ℤ leaf.den) × ((worth g k *ℤ leaf.den) ≤ℤ ((leaf.num *ℤ weight_total k) *ℤ prior_total g))
+
+-- so what no leaf's bound is above is an upper bound
 abbrev pub TreeBounds : Type 0
 TreeBounds = (g : Game) → IsPeopled g → (caps : List Cap) → AreCaps g caps → (t : Node) → IsSplitTree g t
     → (b : Fraction) → pos 1 ≤ℤ b.den → All (λ leaf. IsBelow leaf b) (tree_bounds_of g caps t) → IsUpperBound g b.num b.den

@@ -1,5 +1,5 @@
 -- The size sum of a fact bounds each single sum over a play or a column, and its two parts bound theirs.
-use Rattle.std.specs.Prelude.{◌≡◌, List, ℤ, pos, ◌+ℤ◌, ◌-ℤ◌, ◌*ℤ◌, ◌≤ℤ◌, ℕ, All}
+use Rattle.std.specs.Prelude.{◌≡◌, List, ℤ, pos, ◌-ℤ◌, ◌*ℤ◌, ◌≤ℤ◌, ℕ, All}
 use Rattle.sg_model.specs.declared.kind.Kind.TheVariants.{Security}
 use Rattle.sg_model.specs.Sums.{total}
 use Rattle.sg_model.specs.Games.{Game}
@@ -35,4 +35,4 @@ abbrev pub ColumnSumsAreSmall : Type 0
 ColumnSumsAreSmall = (g : Game) → IsPeopled g → g.kind ≡ Security → (fix : Fix) → IsFix g fix → (rho mu : ℤ) → pos 1 ≤ℤ rho → (lines : List Line) → All (IsLineOf g fix) lines
     → (c : Column) → IsColumn g c
     → AreSmall g fix rho (size_sum g fix (Cover rho mu lines)) (total (λ (line : Line). line.v) lines) (column_cost g (shift_of g) fix c)
-        (total (λ (line : Line). line.v *ℤ entry g fix (row_of g fix line) c) lines)
+    (total (λ (line : Line). line.v *ℤ entry g fix (row_of g fix line) c) lines)

@@ -2,10 +2,16 @@
 
 ghost use Rattle.sg_bounds.specs.ReportLaws.{
   AcceptedMeans,
+  LeafIsMet,
   LevelReportIsAccepted,
   SmallTotalsFit,
   TreeBounds,
 };
+
+/// Each commitment has a leaf of the tree whose bound its value is at most.
+pub fn leaf_is_met()
+    ensures { LeafIsMet }
+{}
 
 /// What no leaf's bound is above is an upper bound of the value of every commitment.
 pub fn tree_bounds()
