@@ -19,3 +19,4 @@ pub mod Waters
 pub mod Small
 pub mod Spans
 pub mod SizeBounds
+pub mod RowOrder

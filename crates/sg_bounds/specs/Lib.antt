@@ -12,3 +12,4 @@ pub mod SizeLaws
 pub mod ReportLaws
 pub mod CheckLaws
 pub mod Examples
+pub mod RowLaws
