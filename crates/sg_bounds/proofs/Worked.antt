@@ -6,7 +6,7 @@ use Rattle.std.proofs.lemmas.Bool.Decides.{Decides-eqb}
 use Rattle.std.proofs.lemmas.Nat.Gcd.{IsGcd-from_mod, IsGcd-from_zero}
 use Rattle.sg_frac.specs.Fractions.{Fraction, IsReduced}
 use Rattle.sg_model.specs.Games.{Game}
-use Rattle.sg_model.specs.Examples.{one_player, ticket, two_players, two_targets}
+use Rattle.sg_model.specs.Examples.{in_a_row, neighbours, one_player, ticket, two_players, two_targets}
 use Rattle.sg_tree.specs.Claims.{is_claim}
 use Rattle.sg_tree.specs.declared.fact.Fact.{Fact}
 use Rattle.sg_tree.specs.declared.fact.Fact.TheVariants.{Water}
@@ -20,7 +20,7 @@ use Rattle.sg_model.specs.declared.level.Level.TheVariants.{Resources, Target}
 use Rattle.sg_bounds.specs.Trees.{Node, unproved, closed, split, node_of, parts_of}
 use Rattle.sg_bounds.specs.Accepted.{IsAccepted}
 use Rattle.sg_bounds.specs.Checking.{IsRefused}
-use Rattle.sg_bounds.specs.Examples.{WorkedReports, cover_report, first_fact, level_tree, low_water, mark, nested_report, no_target, one_target, one_type_report, one_type_tree, open_report, open_tree, over, over_cover, over_plays, plain_cap, proved_cap, reported, row, second_fact, small_mark, spent_report, split_for_scaled, two_to_one, two_types_tree, water_report, wide_bound, with_caps, with_tickets, with_tree}
+use Rattle.sg_bounds.specs.Examples.{WorkedReports, late_fact, row_report, shared_fact, shared_report, short_fact, cover_report, first_fact, level_tree, low_water, mark, nested_report, no_target, one_target, one_type_report, one_type_tree, open_report, open_tree, over, over_cover, over_plays, plain_cap, proved_cap, reported, row, second_fact, small_mark, spent_report, split_for_scaled, two_to_one, two_types_tree, water_report, wide_bound, with_caps, with_tickets, with_tree}
 use Rattle.sg_bounds.proofs.Told.{Decides-le_z}
 use Rattle.sg_bounds.proofs.Nodes.{node_of-Closed, node_of-Split, node_of-Unproved}
 use Rattle.sg_bounds.proofs.Answering.{accepted_by, answer, refused_by, stops_at}
@@ -126,6 +126,21 @@ cover_node n v = split 1 None (parts_of (closed (over_cover 1 3 (row n v ∷ [])
 cover_is : (n v : ℕ) → node_of (cover_report n v).tree ≡ cover_node n v
 cover_is n v = one_part 1 None (over_cover 1 3 (row n v ∷ []))
 
+three_parts : (f h j : Fact) → node_of (Split 1 None (Closed f ∷ Closed h ∷ Closed j ∷ [])) ≡ split 1 None (parts_of (closed f ∷ closed h ∷ closed j ∷ []))
+three_parts f h j =
+    split-nodes 1 None (Closed f ∷ Closed h ∷ Closed j ∷ []) (closed f ∷ closed h ∷ closed j ∷ [])
+    (one_more (Closed f) (closed f) (Closed h ∷ Closed j ∷ []) (closed h ∷ closed j ∷ []) (node_of-Closed f)
+    (one_more (Closed h) (closed h) (Closed j ∷ []) (closed j ∷ []) (node_of-Closed h) (one_more (Closed j) (closed j) [] [] (node_of-Closed j) refl)))
+
+abbrev three_facts : Fact → Fact → Fact → Node
+three_facts f h j = split 1 None (parts_of (closed f ∷ closed h ∷ closed j ∷ []))
+
+abbrev row_node : Fact → Node
+row_node middle = three_facts (over_plays 2 3 (mark 1 3 1 ∷ [])) middle (over_plays 2 3 (mark 1 1 1 ∷ []))
+
+row_is : (middle : Fact) → node_of (row_report middle).tree ≡ row_node middle
+row_is middle = three_parts (over_plays 2 3 (mark 1 3 1 ∷ [])) middle (over_plays 2 3 (mark 1 1 1 ∷ []))
+
 pub worked_reports : WorkedReports
 worked_reports = record {
   water = right two_targets water_report (closed (Water (over 4 3) Resources)) (node_of-Closed (Water (over 4 3) Resources)) refl refl refl refl;
@@ -164,4 +179,9 @@ worked_reports = record {
   spent = right one_player spent_report open_node open_is refl refl refl refl;
   covered = right one_target (cover_report 3 2) (cover_node 3 2) (cover_is 3 2) refl refl refl refl;
   less_covered = wrong one_target (cover_report 3 1) (cover_node 3 1) (cover_is 3 1) 7 6 refl refl;
+  shared = right neighbours (shared_report shared_fact) (three_facts shared_fact shared_fact shared_fact) (three_parts shared_fact shared_fact shared_fact) refl refl refl refl;
+  short = wrong neighbours (shared_report short_fact) (three_facts short_fact short_fact short_fact) (three_parts short_fact short_fact short_fact) 9 6 refl refl;
+  late = wrong neighbours (shared_report late_fact) (three_facts late_fact late_fact late_fact) (three_parts late_fact late_fact late_fact) 9 6 refl refl;
+  in_row = right in_a_row (row_report (over_plays 2 3 (mark 1 1 1 ∷ mark 1 3 1 ∷ []))) (row_node (over_plays 2 3 (mark 1 1 1 ∷ mark 1 3 1 ∷ []))) (row_is (over_plays 2 3 (mark 1 1 1 ∷ mark 1 3 1 ∷ []))) refl refl refl refl;
+  one_mark = wrong in_a_row (row_report (over_plays 2 3 (mark 1 1 1 ∷ []))) (row_node (over_plays 2 3 (mark 1 1 1 ∷ []))) (row_is (over_plays 2 3 (mark 1 1 1 ∷ []))) 10 6 refl refl;
 }

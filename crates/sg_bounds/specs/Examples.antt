@@ -4,7 +4,7 @@ use Rattle.sg_frac.specs.Fractions.{Fraction}
 use Rattle.sg_model.specs.declared.level.Level.TheVariants.{Resources, Target}
 use Rattle.sg_model.specs.declared.ticket.Ticket.{Ticket}
 use Rattle.sg_model.specs.Games.{Game}
-use Rattle.sg_model.specs.Examples.{minus, one_player, patrolled, pays, ticket, two_players, two_targets}
+use Rattle.sg_model.specs.Examples.{in_a_row, minus, neighbour_tickets, neighbours, one_player, patrolled, pays, row_tickets, ticket, two_players, two_targets}
 use Rattle.sg_tree.specs.declared.fact.Mark.{Mark}
 use Rattle.sg_tree.specs.declared.fact.Line.{Line}
 use Rattle.sg_tree.specs.declared.fact.Fact.{Fact}
@@ -167,6 +167,32 @@ one_target = patrolled 1 (pos 0) (pays (pos 1) (minus 1) (pos 0) (pos 1) ∷ [])
 abbrev pub cover_report : ℕ → ℕ → Report
 cover_report n v = reported one_alone 1 (over 1 1) [] (Split 1 None (Closed (over_cover 1 3 (row n v ∷ [])) ∷ [])) (over 1 1) Optimal
 
+-- a fraction below 0
+abbrev pub under : ℕ → ℕ → Fraction
+under a b = record { num = minus a; den = pos b }
+
+-- three targets, of which both resources may take the second: for each target that is attacked, this fact
+abbrev pub shared_report : Fact → Report
+shared_report f = reported neighbour_tickets 3 (under 1 3) [] (Split 1 None (Closed f ∷ Closed f ∷ Closed f ∷ [])) (under 1 3) Optimal
+
+-- each resource once, each covered target once, and each other target once
+abbrev pub shared_fact : Fact
+shared_fact = over_cover 3 5 (row 1 1 ∷ row 2 1 ∷ row 3 1 ∷ row 4 1 ∷ row 5 1 ∷ row 9 1 ∷ row 10 1 ∷ [])
+
+-- the same without one of the other targets
+abbrev pub short_fact : Fact
+short_fact = over_cover 3 5 (row 1 1 ∷ row 2 1 ∷ row 3 1 ∷ row 4 1 ∷ row 5 1 ∷ row 10 1 ∷ [])
+
+-- a row past the last
+abbrev pub late_fact : Fact
+late_fact = over_cover 3 5 (row 1 1 ∷ row 2 1 ∷ row 3 1 ∷ row 4 1 ∷ row 5 1 ∷ row 9 1 ∷ row 10 1 ∷ row 11 1 ∷ [])
+
+-- ---- plays of a schedule of two targets
+
+-- three targets in a row: facts for the first, the second and the third
+abbrev pub row_report : Fact → Report
+row_report middle = reported row_tickets 2 (under 1 2) [] (Split 1 None (Closed (over_plays 2 3 (mark 1 3 1 ∷ [])) ∷ Closed middle ∷ Closed (over_plays 2 3 (mark 1 1 1 ∷ [])) ∷ [])) (under 1 2) Optimal
+
 -- the answers, as worked out by hand
 pub record WorkedReports : Type 0 where
   pub water : IsAccepted two_targets water_report
@@ -205,3 +231,8 @@ pub record WorkedReports : Type 0 where
   pub spent : IsAccepted one_player spent_report
   pub covered : IsAccepted one_target (cover_report 3 2)
   pub less_covered : IsRefused one_target (cover_report 3 1) 7 6
+  pub shared : IsAccepted neighbours (shared_report shared_fact)
+  pub short : IsRefused neighbours (shared_report short_fact) 9 6
+  pub late : IsRefused neighbours (shared_report late_fact) 9 6
+  pub in_row : IsAccepted in_a_row (row_report (over_plays 2 3 (mark 1 1 1 ∷ mark 1 3 1 ∷ [])))
+  pub one_mark : IsRefused in_a_row (row_report (over_plays 2 3 (mark 1 1 1 ∷ []))) 10 6
