@@ -9,8 +9,8 @@ ghost use Rattle.sg_cert.specs.Text.{spell, spaced, text_of, fraction_row, ticke
 ghost use Rattle.sg_cert.specs.Writing.{Writes};
 
 use crate::block::{Block, put_bytes, put_choices, put_part};
-use sg_model::{Level, Ticket};
 use sg_frac::Frac;
+use sg_model::{Level, Ticket};
 use sg_num::{Op, Wide};
 use sg_shelf::{Sink, SinkError};
 use sg_tree::{Cap, Cause, Ending, Fix, Line, Mark};

@@ -7,8 +7,8 @@ ghost use Rattle.sg_model.specs.Commitments.{weight_total};
 ghost use Rattle.sg_cli.specs.Reports.{water_report, head_text, bounds_text};
 
 use itoa::Buffer;
-use sg_model::{Level, Ticket};
 use sg_frac::Frac;
+use sg_model::{Level, Ticket};
 use std::alloc::{AllocError, Global};
 
 /// Adds a field of letters.

@@ -8,8 +8,8 @@ ghost use Rattle.sg_origami.specs.Fillings.{IsFilling};
 ghost use Rattle.sg_cli.specs.Solutions.{IsSolved};
 ghost use Rattle.sg_cli.specs.Gains.{gain, gain_at, is_of_level, IsTop, IsTopGain, IsValueOf};
 
-use sg_game::Game;
 use sg_frac::Frac;
+use sg_game::Game;
 use sg_origami::Filling;
 
 /// The product.

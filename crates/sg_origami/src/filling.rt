@@ -9,9 +9,9 @@ use crate::count::coverage_of;
 use crate::floor::level_of;
 use crate::level::Height;
 use crate::rate::rates_of;
+use sg_frac::Frac;
 use sg_game::Game;
 use sg_model::Level;
-use sg_frac::Frac;
 use sqlite_items::Items;
 use std::alloc::{AllocError, Global};
 

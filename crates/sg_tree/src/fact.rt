@@ -2,8 +2,8 @@
 
 ghost use Rattle.std.specs.Prelude.{◌≡◌, IfOk};
 
-use sg_model::Level;
 use sg_frac::Frac;
+use sg_model::Level;
 use sqlite_items::Items;
 use std::alloc::{AllocError, Global};
 

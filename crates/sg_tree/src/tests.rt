@@ -1,6 +1,6 @@
 use super::*;
-use sg_model::{Level, Play, Ticket};
 use sg_frac::Frac;
+use sg_model::{Level, Play, Ticket};
 use sqlite_items::Items;
 use std::alloc::Global;
 use std::process::Abort;

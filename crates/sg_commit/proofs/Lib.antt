@@ -1,0 +1,5 @@
+pub mod Orders
+pub mod Standing
+pub mod Joins
+pub mod Shares
+pub mod Faults

@@ -1,0 +1,50 @@
+-- Commitments as they are kept: tickets in rising order of their plays, with weights in lowest terms and their total.
+use Rattle.std.specs.Prelude.{◌≡◌, ◌≢◌, ℕ, Bool, true, ◌&&◌, List, [], ◌∷◌, ℤ, pos, ◌≤ℤ◌, All, unsigned_abs}
+use Rattle.std.specs.Int.{◌∣◌}
+use Rattle.std.specs.Ordering.{nat_cmp, is_lt}
+use Rattle.std.specs.Cmp.Lexicographic.{slice_cmp}
+use Rattle.sg_model.specs.declared.ticket.Ticket.{Ticket}
+use Rattle.sg_model.specs.Games.{Game}
+use Rattle.sg_model.specs.Plays.{IsLegal}
+use Rattle.sg_model.specs.Commitments.{IsCommitment, scaled, weight_total}
+use Rattle.sg_model.specs.OptimalityLaws.{AreOneMix}
+
+-- tickets, and the sum of their weights
+pub record Committed : Type 0 where
+  pub tickets : List Ticket
+  pub total : ℤ
+
+-- whether a list of choices comes before another in the order of lists
+abbrev pub is_before : List ℕ → List ℕ → Bool
+is_before before after = is_lt (slice_cmp nat_cmp before after)
+
+-- whether the play of each ticket comes before that of the next
+abbrev pub is_rising : List Ticket → Bool
+is_rising [] = true
+is_rising (x ∷ []) = true
+is_rising (x ∷ y ∷ ys) = is_before x.play.code y.play.code && is_rising (y ∷ ys)
+
+-- no number above 1 divides all weights
+abbrev pub AreLowest : List Ticket → Type 0
+AreLowest k = (d : ℕ) → All (λ (x : Ticket). d ∣ unsigned_abs x.weight) k → d ≡ 1
+
+-- at least one ticket, plays in strictly rising order, weights of at least 1 in lowest terms, and their sum
+pub record IsCommitted (c : Committed) : Type 0 where
+  pub some : c.tickets ≢ []
+  pub positive : All (λ (x : Ticket). pos 1 ≤ℤ x.weight) c.tickets
+  pub rising : is_rising c.tickets ≡ true
+  pub lowest : AreLowest c.tickets
+  pub sum : c.total ≡ weight_total c.tickets
+
+-- the plays of the tickets are legal
+abbrev pub AreLegal : Game → List Ticket → Type 0
+AreLegal g k = All (λ (x : Ticket). IsLegal g x.play.code) k
+
+-- tickets that are kept are distinct plays, so where they are legal they are a commitment
+abbrev pub CommittedIsCommitment : Type 0
+CommittedIsCommitment = (g : Game) (c : Committed) → IsCommitted c → AreLegal g c.tickets → IsCommitment g c.tickets
+
+-- what is kept is fixed by the shares of the plays: two that are one mix, each with its weights multiplied, are the same
+abbrev pub SharesFixCommitted : Type 0
+SharesFixCommitted = (c other : Committed) → IsCommitted c → IsCommitted other → (m n : ℤ) → pos 1 ≤ℤ m → pos 1 ≤ℤ n
+    → AreOneMix (scaled m c.tickets) (scaled n other.tickets) → c ≡ other
