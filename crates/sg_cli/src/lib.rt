@@ -5,8 +5,8 @@
 #![tactic(auto)]
 
 mod call;
-mod refusal;
 mod ranges;
+mod refusal;
 mod solving;
 
 pub use call::run;

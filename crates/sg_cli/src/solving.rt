@@ -7,8 +7,8 @@ ghost use Rattle.sg_words.specs.Commands as commands;
 ghost use Rattle.sg_cli.specs.Solutions.{IsSolved, IsAnswer};
 ghost use Rattle.sg_cli.specs.Runs.{scene, texts, ComesOf, Solves, FileFails, GameFails, FileRefused, ReadsSolved};
 
-use crate::refusal::Refusal;
 use crate::ranges::lies_in_ranges;
+use crate::refusal::Refusal;
 use sg_cert::write_report;
 use sg_file::{GameError, read_game};
 use sg_game::{Game, is_origami};

@@ -18,7 +18,7 @@ returns c =
     let g = c.args.game.now in
     let f = c.in_ok-filling.filling in
     let h = right_report g c.promises.ensures c.requires f c.in_ok-filling.ensures c.in_ok-commitment.commitment c.in_ok-commitment.ensures.rules c.in_ok-commitment.ensures.wrap
-        c.value_of-value.result c.value_of-value.ensures.value c.value_of-value.ensures.reduced in
+    c.value_of-value.result c.value_of-value.ensures.value c.value_of-value.ensures.reduced in
     rw c.of.ensures (rw c.new.ensures h)
 
 pub value_of-value-requires-clause-legal : goal.value_of-value-requires-clause-legal

@@ -13,7 +13,7 @@ invariant_of-result c =
     let fits : FitsSigned w128 c.args.total = c.ranges.total in
     let s = simp to_z-of_z at c.is_sum.ensures in
     let h = shares_from c.args.tickets c.as_slice.result.now c.as_slice-then-is_sum.result.now c.args.total c.is_sum.result c.is_lowest.result
-        c.as_slice.ensures c.as_slice-then-is_sum.ensures s c.if-is_sum.true c.is_lowest.ensures c.if-is_lowest.true in
+    c.as_slice.ensures c.as_slice-then-is_sum.ensures s c.if-is_sum.true c.is_lowest.ensures c.if-is_lowest.true in
     let k : IsCommitted (record { tickets = c.args.tickets; total = c.args.total }) =
     record { some = c.requires.some; positive = c.requires.positive; rising = c.requires.rising; lowest = h.lowest; sum = h.sum } in
     simp to_z-of_z k
@@ -23,7 +23,7 @@ returns-then-is_lowest-clause-none c =
     let fits : FitsSigned w128 c.args.total = c.ranges.total in
     let s = simp to_z-of_z at c.is_sum.ensures in
     let h = shares_from c.args.tickets c.as_slice.result.now c.as_slice-then-is_sum.result.now c.args.total c.is_sum.result c.is_lowest.result
-        c.as_slice.ensures c.as_slice-then-is_sum.ensures s c.if-is_sum.true c.is_lowest.ensures c.if-is_lowest.true in
+    c.as_slice.ensures c.as_slice-then-is_sum.ensures s c.if-is_sum.true c.is_lowest.ensures c.if-is_lowest.true in
     (λ e. cc, λ none. absurd (none h))
 
 pub returns-else-is_sum-clause-none : goal.returns-else-is_sum-clause-none
