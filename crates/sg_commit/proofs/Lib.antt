@@ -11,3 +11,4 @@ pub mod Small
 pub mod Kept
 pub mod Tallied
 pub mod Mixed
+pub mod Fixed
