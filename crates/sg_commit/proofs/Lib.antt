@@ -12,3 +12,4 @@ pub mod Small
 pub mod Kept
 pub mod Tallied
 pub mod Mixed
+pub mod Fixed

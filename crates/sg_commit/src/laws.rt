@@ -1,10 +1,15 @@
 //! Laws about commitments, each as the contract of a function that does nothing.
 
-ghost use Rattle.sg_commit.specs.CommitmentLaws.{KeptIsCommitment, LegalPartsStayLegal, ScaledIsSmall, SmallIsFormed};
+ghost use Rattle.sg_commit.specs.CommitmentLaws.{KeptIsCommitment, LegalPartsStayLegal, ScaledIsSmall, SharesFixKept, SmallIsFormed};
 
 /// The tickets of a commitment are distinct plays: where they are legal, they are a commitment of the game.
 pub fn kept_is_commitment()
     ensures { KeptIsCommitment }
+{}
+
+/// A commitment is fixed by the shares of the plays.
+pub fn shares_fix_kept()
+    ensures { SharesFixKept }
 {}
 
 /// The tickets of a commitment are legal where it was made of legal parts.

@@ -15,7 +15,9 @@ mod values;
 
 pub use commitment::Commitment;
 pub use coverage::cover_count;
-pub use laws::{kept_is_commitment, legal_parts_stay_legal, scaled_is_small, small_is_formed};
+pub use laws::{
+    kept_is_commitment, legal_parts_stay_legal, scaled_is_small, shares_fix_kept, small_is_formed,
+};
 pub use legality::are_legal;
 pub use parts::PartFault;
 pub use response::{is_best, take};
