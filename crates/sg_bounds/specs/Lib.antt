@@ -1,0 +1,10 @@
+pub mod Regions
+pub mod Coverage
+pub mod Facts
+pub mod Caps
+pub mod Trees
+pub mod Leaves
+pub mod Sizes
+pub mod Accepted
+pub mod Checking
+pub mod CheckLaws

@@ -1,0 +1,12 @@
+//! What a report's certificate says and proves: facts about regions of commitments, caps, trees of bounds, accepted
+//! reports, and the tests of a report in order.
+//!
+//! The definitions stand in `specs/`, one module a subject: `Regions`, `Coverage`, `Facts`, `Caps`, `Trees`, `Leaves`,
+//! `Sizes` (the sums that a report states), `Accepted` (when a report is accepted) and `Checking` (its tests in order,
+//! with line and reason). The functions below carry laws about them: each has an empty body, and its contract is a
+//! statement of a module of `specs/`.
+#![tactic(auto)]
+
+mod check_laws;
+
+pub use check_laws::first_is_one;
