@@ -1,5 +1,5 @@
 -- When a report is accepted for a game: whatever order it is tested in.
-use Rattle.std.specs.Prelude.{◌≡◌, ◌↔◌, ℕ, ◌+◌, Bool, true, false, List, [], ◌∷◌, ◌++◌, length, ℤ, ◌*ℤ◌, ◌≤ℤ◌, All, Contains, MatchBool, IsTrue, Option, Some, None, unsigned_abs}
+use Rattle.std.specs.Prelude.{◌≡◌, ◌↔◌, ℕ, ◌+◌, Bool, true, false, List, [], ◌∷◌, ◌++◌, length, ℤ, ◌*ℤ◌, ◌≤ℤ◌, All, Contains, MatchBool, Option, Some, None, unsigned_abs}
 use Rattle.std.specs.Int.{◌∣◌}
 use Rattle.sg_num.specs.Exact.{fits}
 use Rattle.sg_frac.specs.Fractions.{Fraction, IsReduced}
@@ -110,6 +110,6 @@ pub record IsAccepted (g : Game) (r : Report) : Type 0 where
   pub upper : IsGreatest r.upper (r.value ∷ tree_bounds_of g r.caps (node_of r.tree))
   pub upper_reduced : IsReduced r.upper
   -- the report says that its bounds meet just where they do
-  pub ending : IsTrue (is_optimal r.ending) ↔ IsSame r.value r.upper
+  pub ending : (is_optimal r.ending ≡ true) ↔ IsSame r.value r.upper
   -- every stated sum fits
   pub sums : All Fits (stated_sums g r)

@@ -1,5 +1,5 @@
 -- The tests of a report in order, each with the line that it names and its reason, and the first that fails.
-use Rattle.std.specs.Prelude.{◌≡◌, ◌↔◌, ℕ, ◌+◌, ◌-◌, ◌^◌, ◌≤◌, ◌⊎◌, if◌then◌else◌, List, [], ◌∷◌, ◌++◌, length, ℤ, All, MatchBool, IsTrue, true, Option, Some, None, min}
+use Rattle.std.specs.Prelude.{◌≡◌, ◌↔◌, ℕ, ◌+◌, ◌-◌, ◌^◌, ◌≤◌, ◌⊎◌, if◌then◌else◌, List, [], ◌∷◌, ◌++◌, length, ℤ, All, MatchBool, true, Option, Some, None, min}
 use Rattle.sg_frac.specs.Fractions.{IsReduced}
 use Rattle.sg_model.specs.declared.ticket.Ticket.{Ticket}
 use Rattle.sg_model.specs.Games.{Game, action_count}
@@ -84,7 +84,7 @@ Passes g r (sized fix f) = All Fits (size_sums g fix f)
 Passes g r (holds fix f) = HoldsFor g fix f
 Passes g r (bounded n f) = All Fits (bound_sums g r.caps n f)
 Passes g r topped = IsGreatest r.upper (r.value ∷ tree_bounds_of g r.caps (node_of r.tree))
-Passes g r judged = IsTrue (is_optimal r.ending) ↔ IsSame r.value r.upper
+Passes g r judged = (is_optimal r.ending ≡ true) ↔ IsSame r.value r.upper
 
 -- ---- lines
 

@@ -7,4 +7,6 @@ pub mod Leaves
 pub mod Sizes
 pub mod Accepted
 pub mod Checking
+pub mod FactLaws
+pub mod ReportLaws
 pub mod CheckLaws
