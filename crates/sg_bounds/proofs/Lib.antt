@@ -4,3 +4,14 @@ pub mod Cover
 pub mod Caps
 pub mod Trees
 pub mod Reports
+pub mod Claims
+pub mod Places
+pub mod Checks
+pub mod Accepts
+pub mod Verdicts
+pub mod Nodes
+pub mod Told
+pub mod Listed
+pub mod Deciding
+pub mod Answering
+pub mod Worked

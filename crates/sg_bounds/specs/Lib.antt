@@ -10,3 +10,4 @@ pub mod Checking
 pub mod FactLaws
 pub mod ReportLaws
 pub mod CheckLaws
+pub mod Examples

@@ -11,6 +11,6 @@ mod check_laws;
 mod fact_laws;
 mod report_laws;
 
-pub use check_laws::first_is_one;
+pub use check_laws::{each_is_answered, first_is_one, passing_is_acceptance, refusal_is_one};
 pub use fact_laws::{cap_bounds, cover_is_plays, empty_region, fact_bounds};
 pub use report_laws::{accepted_means, tree_bounds};

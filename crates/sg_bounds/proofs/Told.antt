@@ -1,0 +1,78 @@
+-- Tests that decide: of numbers, lists, plays and columns.
+use Rattle.std.proofs.Common.{◌≡◌, ◌≢◌, ℕ, zero, suc, ◌+◌, ◌-◌, ◌<◌, ◌≤◌, Bool, true, false, true≢false, cond, not, ◌&&◌, ◌||◌, List, [], ◌∷◌, ◌++◌, map, length, ℤ, pos, ◌≤ℤ◌, sym, ◌∙◌, ap, subst, refl, arith, nat_le, eqb, int_le, MatchBool, slice_index, slice_index_or, flat_map, inl, inr, ◌⊎◌}
+use Rattle.std.specs.Bool.{Decides}
+use Rattle.std.specs.List.{All, Contains, list_all, list_any}
+use Rattle.std.specs.Ordering.{int_eq}
+use Rattle.std.proofs.lemmas.Int.{ints}
+use Rattle.std.proofs.lemmas.Bool.{cases_eq}
+use Rattle.std.proofs.lemmas.Bool.Decides.{nat_tests, Decides-and, Decides-by_and, Decides-eqb, Decides-int_eq, Decides-like, Decides-or}
+use Rattle.std.proofs.lemmas.List.Elements.{All-nil, All-cons, All-append, All-contains, All-map, Contains-append_left, Contains-append_right}
+use Rattle.sg_model.specs.Sums.{numbers, numbers_from}
+use Rattle.sg_model.proofs.Greatest.{Contains-head, Contains-tail}
+use Rattle.sg_model.proofs.Numbers.{All-numbers, All-numbers-at, All-numbers_from}
+use Rattle.sg_bounds.proofs.Cover.{All-flat_map}
+
+pub Decides-le : (a b : ℕ) → Decides (nat_le a b) (a ≤ b)
+Decides-le a b = (λ e. grind (arith, nat_tests, e), λ h. grind (arith, nat_tests, h))
+
+pub Decides-le_z : (a b : ℤ) → Decides (int_le a b) (a ≤ℤ b)
+Decides-le_z a b = (λ e. omega (arith, ints, e), λ h. sym (omega (arith, ints, h)))
+
+pub Decides-all : {X : Type 0} (p : X → Bool) (P : X → Type 0) → ((x : X) → Decides (p x) (P x)) → (xs : List X) → Decides (list_all p xs) (All P xs)
+Decides-all p P each xs = Decides-by_and p P (list_all p) each refl (λ x xs. refl) xs
+
+pub Decides-if : {P Q : Type 0} (b x y : Bool) → Decides x P → Decides y Q → Decides (cond b x y) (MatchBool b P Q)
+Decides-if true x y d k = d
+Decides-if false x y d k = k
+
+pub Decides-iff : {Q : Type 0} (x y : Bool) → Decides y Q → Decides (cond x y (not y)) (((x ≡ true) → Q) × (Q → x ≡ true))
+Decides-iff {Q} true y d = (λ e. (λ _. d.0 e, λ _. refl), λ h. d.1 (h.0 refl))
+Decides-iff {Q} false true d = (λ e. absurd (true≢false (sym e)), λ h. absurd (true≢false (sym (h.1 (d.0 refl)))))
+Decides-iff {Q} false false d = (λ e. (λ f. absurd (true≢false (sym f)), λ q. absurd (true≢false (sym (d.1 q)))), λ h. refl)
+
+pub Decides-none : (b : Bool) → b ≡ false → Decides b ⊥
+Decides-none b none = (λ e. true≢false (sym e ∙ none), λ h. absurd h)
+
+-- an item of the list passes
+pub Decides-any : {X : Type 0} (p : X → Bool) (P : X → Type 0) → ((x : X) → Decides (p x) (P x)) → (xs : List X) → Decides (list_any p xs) ((x : X) × Contains xs x × P x)
+Decides-any p P each [] = (λ e. absurd (true≢false (sym e)), λ h. let c = h.1 in absurd (omega (arith, c.1)))
+Decides-any p P each (x ∷ xs) = Decides-like (p x || list_any p xs) there back (Decides-or (p x) (list_any p xs) (each x) (Decides-any p P each xs))
+  where
+    there : P x ⊎ ((y : _) × Contains xs y × P y) → (y : _) × Contains (x ∷ xs) y × P y
+    there (inl h) = (x, Contains-head x xs, h)
+    there (inr h) = (h.0, Contains-tail x xs h.0 h.1, h.2)
+    back : (y : _) × Contains (x ∷ xs) y × P y → P x ⊎ ((y : _) × Contains xs y × P y)
+    back (y, (zero, lt, e), h) = inl (subst P (sym e) h)
+    back (y, (suc i, lt, e), h) = inr (y, (i, omega arith, e), h)
+
+-- each number from 1 to n
+pub Decides-numbers : (p : ℕ → Bool) (P : ℕ → Type 0) → ((a : ℕ) → Decides (p a) (P a)) → (n : ℕ) → Decides (list_all p (numbers n)) ((a : ℕ) → 1 ≤ a → a ≤ n → P a)
+Decides-numbers p P each n = Decides-like (list_all p (numbers n)) (λ all a low high. All-numbers-at P n all a low high) (λ h. All-numbers P n h) (Decides-all p P each (numbers n))
+
+-- whatever has a property, where a list holds just what has it
+pub Decides-listed : {X : Type 0} (Is : X → Type 0) (xs : List X) → All Is xs → ((x : X) → Is x → Contains xs x)
+    → (p : X → Bool) (P : X → Type 0) → ((x : X) → Decides (p x) (P x)) → Decides (list_all p xs) ((x : X) → Is x → P x)
+Decides-listed Is xs are inside p P each = Decides-like (list_all p xs) (λ all x is. All-contains P xs x all (inside x is)) (λ h i d lt. h (slice_index_or xs i d) (are i d lt)) (Decides-all p P each xs)
+
+-- ---- items of lists
+
+pub Contains-map : {X Y : Type 0} (f : X → Y) (xs : List X) (x : X) → Contains xs x → Contains (map f xs) (f x)
+Contains-map f [] x h = absurd (omega (arith, h.1))
+Contains-map f (y ∷ xs) x (zero, lt, e) = subst (Contains (f y ∷ map f xs)) (ap f e) (Contains-head (f y) (map f xs))
+Contains-map f (y ∷ xs) x (suc i, lt, e) = Contains-tail (f y) (map f xs) (f x) (Contains-map f xs x (i, omega arith, e))
+
+pub Contains-flat_map : {X Y : Type 0} (f : X → List Y) (xs : List X) (x : X) (y : Y) → Contains xs x → Contains (f x) y → Contains (flat_map f xs) y
+Contains-flat_map f [] x y h k = absurd (omega (arith, h.1))
+Contains-flat_map f (z ∷ xs) x y (zero, lt, e) k = Contains-append_left (f z) (flat_map f xs) y (subst (λ ys. Contains ys y) (ap f (sym e)) k)
+Contains-flat_map f (z ∷ xs) x y (suc i, lt, e) k = Contains-append_right (f z) (flat_map f xs) y (Contains-flat_map f xs x y (i, omega arith, e) k)
+
+pub Contains-numbers_from : (a m t : ℕ) → a ≤ t → t < a + m → Contains (numbers_from a m) t
+Contains-numbers_from a zero t low high = absurd (omega arith)
+Contains-numbers_from a (suc m) t low high =
+    elim (cases_eq a t) [
+      | inl e ↦ subst (Contains (numbers_from a (suc m))) e (Contains-head a (numbers_from (a + 1) m))
+      | inr ne ↦ Contains-tail a (numbers_from (a + 1) m) t (Contains-numbers_from (a + 1) m t (omega arith) (omega arith))
+    ]
+
+pub Contains-numbers : (m t : ℕ) → 1 ≤ t → t ≤ m → Contains (numbers m) t
+Contains-numbers m t low high = Contains-numbers_from 1 m t low (omega arith)
