@@ -8,7 +8,9 @@
 //! The meaning of each call stands in `specs/`: `Fractions` says what the reduced form of a fraction is.
 #![tactic(auto)]
 
+mod arithmetic;
 mod frac;
+mod order;
 
 pub use frac::{Frac, reduced_form_is_unique};
 
