@@ -1,0 +1,6 @@
+pub mod Answering
+pub mod Covered
+pub mod Parts
+pub mod Sized
+pub mod Spreads
+pub mod Verdicts

@@ -1,0 +1,14 @@
+//! The checker of reports on games of one type of attacker.
+#![tactic(auto)]
+
+mod cover;
+mod measures;
+mod refusal;
+mod size;
+mod spread;
+mod step;
+mod tickets;
+mod verdict;
+
+pub use cover::has_cover;
+pub use verdict::Verdict;
