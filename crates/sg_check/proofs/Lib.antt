@@ -1,6 +1,11 @@
+pub mod Extended
+pub mod Few
 pub mod Firsts
+pub mod Gaps
 pub mod OneType
+pub mod Regrets
 pub mod Running
 pub mod Spreads
 pub mod Totals
 pub mod Trees
+pub mod Within

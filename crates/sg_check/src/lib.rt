@@ -3,12 +3,14 @@
 
 mod cover;
 mod measures;
+mod plays;
 mod refusal;
 mod size;
 mod spread;
 mod step;
 mod tickets;
 mod verdict;
+mod worth;
 
 pub use cover::has_cover;
 pub use verdict::Verdict;

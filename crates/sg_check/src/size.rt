@@ -10,18 +10,22 @@ use crate::measures::Measures;
 use crate::step::{added, multiplied};
 use sg_tree::Mark;
 
-/// The multipliers of a fact: of what the defender gets, and of the whole.
+/// What a fact over plays states besides its marks.
 #[derive(Clone, Copy)]
-pub(crate) struct Rates {
+pub(crate) struct Stated {
+    /// The action that its node fixes the type to.
+    pub(crate) act: u16,
+    /// The multiplier of what the defender gets.
     pub(crate) rho: i128,
+    /// The multiplier of the whole.
     pub(crate) mu: i128,
 }
 
 /// The most that the defender's part of a fact may be, and none where a number under it doesn't fit.
-fn most_gain(measures: &Measures, rates: &Rates) -> Option<i128>
-    ensures { MatchOption result (GainFits rates.now.rho measures.now.prior measures.now.defender_most → ⊥) (λ most. GainFits rates.now.rho measures.now.prior measures.now.defender_most × (most ≡ (rates.now.rho *ℤ measures.now.prior) *ℤ measures.now.defender_most)) }
+fn most_gain(measures: &Measures, stated: &Stated) -> Option<i128>
+    ensures { MatchOption result (GainFits stated.now.rho measures.now.prior measures.now.defender_most → ⊥) (λ most. GainFits stated.now.rho measures.now.prior measures.now.defender_most × (most ≡ (stated.now.rho *ℤ measures.now.prior) *ℤ measures.now.defender_most)) }
 {
-    match multiplied(rates.rho, measures.prior) {
+    match multiplied(stated.rho, measures.prior) {
         Some(share) => multiplied(share, measures.defender_most),
         None => None,
     }
@@ -52,10 +56,10 @@ fn most_regret(measures: &Measures, marks: &[Mark]) -> Option<i128>
 }
 
 /// Whether the size sum of a fact and the numbers under it fit.
-pub(crate) fn has_size(measures: &Measures, rates: &Rates, marks: &[Mark]) -> bool
-    ensures { IsTrue result ↔ SizeFits rates.now.rho measures.now.prior measures.now.defender_most (multipliers marks.now) measures.now.attacker_most }
+pub(crate) fn has_size(measures: &Measures, stated: &Stated, marks: &[Mark]) -> bool
+    ensures { IsTrue result ↔ SizeFits stated.now.rho measures.now.prior measures.now.defender_most (multipliers marks.now) measures.now.attacker_most }
 {
-    match (most_gain(measures, rates), most_regret(measures, marks)) {
+    match (most_gain(measures, stated), most_regret(measures, marks)) {
         (Some(gain), Some(regret)) => match added(gain, regret) {
             Some(_) => true,
             None => false,
