@@ -2,10 +2,14 @@ pub mod Extended
 pub mod Few
 pub mod Firsts
 pub mod Gaps
+pub mod Leaved
 pub mod OneType
 pub mod Regrets
 pub mod Running
+pub mod Sizing
 pub mod Spreads
+pub mod Tested
+pub mod Tops
 pub mod Totals
 pub mod Trees
 pub mod Within

@@ -1,14 +1,17 @@
 -- What testing a fact over plays asks of each play, for a game of one type.
-use Rattle.std.specs.Prelude.{◌≡◌, ℕ, ◌<◌, ◌≤◌, ◌+◌, List, [], ◌∷◌, length, ℤ, pos, ◌-ℤ◌, ◌*ℤ◌, ◌≤ℤ◌, All, slice_index, take}
+use Rattle.std.specs.Prelude.{◌≡◌, ℕ, ◌<◌, ◌≤◌, ◌+◌, List, [], ◌∷◌, length, ℤ, pos, ◌-ℤ◌, ◌*ℤ◌, ◌≤ℤ◌, false, All, slice_index, take}
 use Rattle.sg_model.specs.Games.{Game, resource_count, resource_schedules}
 use Rattle.sg_model.specs.Plays.{IsLegal, IsLegalJoint}
+use Rattle.sg_model.specs.Limits.{is_scaled}
 use Rattle.sg_model.specs.Payoffs.{shift_of}
+use Rattle.sg_tree.specs.declared.fact.Fact.{Fact}
 use Rattle.sg_tree.specs.declared.fact.Mark.{Mark}
 use Rattle.sg_bounds.specs.Regions.{prefix}
 use Rattle.sg_bounds.specs.Facts.{IsMarkOf, cost, regret}
 use Rattle.sg_game.specs.Counts.{IsActionOf}
 use Rattle.sg_check.specs.declared.measures.Measures.{Measures}
 use Rattle.sg_check.specs.declared.size.Stated.{Stated}
+use Rattle.sg_check.specs.Covered.{is_cover}
 use Rattle.sg_check.specs.Spreads.{AreMeasures}
 use Rattle.sg_check.specs.Sized.{SizeFits, multipliers}
 
@@ -45,3 +48,17 @@ NextHolds g s marks k code c = (play : List ℕ) → IsLegalJoint g play → tak
 -- the fact holds for each legal play
 abbrev pub EachHolds : Game → Stated → List Mark → Type 0
 EachHolds g s marks = (play : List ℕ) → IsLegal g play → PlayHolds g s marks play
+
+-- a fact, none of the coverage table, at a node of a game of one type without a scale, where the type takes this action
+pub record IsTestedAt (g : Game) (m : Measures) (act : ℕ) (f : Fact) : Type 0 where
+  pub one_type : length g.types ≡ 1
+  pub measures : AreMeasures g m
+  pub unscaled : is_scaled g ≡ false
+  pub action : IsActionOf g 1 act
+  pub no_cover : is_cover f ≡ false
+
+-- a game of one type without a scale, with its numbers
+pub record IsSetting (g : Game) (m : Measures) : Type 0 where
+  pub one_type : length g.types ≡ 1
+  pub measures : AreMeasures g m
+  pub unscaled : is_scaled g ≡ false

@@ -1,6 +1,8 @@
 //! The numbers of a game that its facts are measured by.
 
-ghost use Rattle.std.specs.Prelude.{◌≡◌, ◌≤ℤ◌, ◌^◌, length, pos};
+ghost use Rattle.std.specs.Prelude.{◌≡◌, ◌≤ℤ◌, ◌^◌, List, length, pos};
+ghost use Rattle.sg_tree.specs.declared.report.Cap.{Cap};
+ghost use Rattle.sg_bounds.specs.Leaves.{rest_of};
 ghost use Rattle.sg_bounds.specs.Sizes.{attacker_most};
 ghost use Rattle.sg_check.specs.Spreads.{AreMeasures};
 
@@ -18,6 +20,8 @@ pub(crate) struct Measures {
     pub(crate) priors: i128,
     /// The defender's greatest payoff.
     pub(crate) greatest: i128,
+    /// What the bound of a fact adds to mu, for each rho: less the shift of the prior.
+    pub(crate) rest: i128,
     /// The defender's greatest payoff, with the shift.
     pub(crate) defender_most: i128,
     /// The greatest difference between two payoffs of the type, and at least 1.
@@ -36,6 +40,15 @@ fn attacker_most(game: &Game) -> i64
     if difference < 1 { 1 } else { difference }
 }
 
+/// Less the prior, times the shift.
+fn rest(game: &Game) -> i128
+    requires { length game.now.types ≡ 1 }
+    ensures { (caps : List Cap) → result ≡ rest_of game.now caps 1 }
+{
+    let prior = i128::from(game.prior(1));
+    0 - prior * i128::from(shift(game))
+}
+
 /// The numbers of a game.
 pub(crate) fn measures_of(game: &Game) -> Measures
     requires { length game.now.types ≡ 1 }
@@ -48,6 +61,7 @@ pub(crate) fn measures_of(game: &Game) -> Measures
         prior: i128::from(game.prior(1)),
         priors: i128::from(prior_total(game)),
         greatest: i128::from(greatest),
+        rest: rest(game),
         defender_most: i128::from(greatest + shift),
         attacker_most: i128::from(attacker_most(game)),
     }

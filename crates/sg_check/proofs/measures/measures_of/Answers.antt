@@ -11,6 +11,7 @@ returns c =
       prior = omega (arith, ints, c.from-2.ensures, c.prior.ensures.prior);
       priors = omega (arith, ints, c.from-3.ensures, c.prior_total.ensures.total);
       greatest = omega (arith, ints, c.from-4.ensures, c.greatest-greatest.ensures.greatest);
+      rest = λ caps. omega (arith, ints, c.rest.ensures caps);
       defender_most = omega (arith, ints, one, c.from-5.ensures, c.shift-shift.ensures.shift, c.greatest-greatest.ensures.greatest);
       attacker_most = omega (arith, ints, c.from-6.ensures, c.attacker_most.ensures.most);
       shift_range = record { at_least = omega (arith, ints, c.from.ensures); at_most = omega (arith, ints, c.from.ensures) };
