@@ -2,6 +2,7 @@ pub mod Extended
 pub mod Few
 pub mod Firsts
 pub mod Gaps
+pub mod Joined
 pub mod Leaved
 pub mod OneType
 pub mod Regrets
@@ -12,4 +13,5 @@ pub mod Tested
 pub mod Tops
 pub mod Totals
 pub mod Trees
+pub mod Wetted
 pub mod Within

@@ -34,6 +34,11 @@ abbrev pub BoundAnswers : Game → Report → List Stop → List Fraction → Re
 BoundAnswers g r stops bounds (Ok b) = AllPass g r stops × Shows bounds b
 BoundAnswers g r stops bounds (Err f) = Refuses g r stops f
 
+-- all of these tests pass, and the one bound is told, or the first that fails
+abbrev pub WaterAnswers : Game → Report → List Stop → List Fraction → Result Fraction Refusal → Type 0
+WaterAnswers g r stops bounds (Ok b) = AllPass g r stops × Shows bounds (Some b)
+WaterAnswers g r stops bounds (Err f) = Refuses g r stops f
+
 -- the greatest of some bounds, whose denominators are at least 1, in lowest terms
 pub record IsTop (b : Fraction) (bounds : List Fraction) : Type 0 where
   pub reduced : IsReduced b

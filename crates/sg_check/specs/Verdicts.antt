@@ -22,3 +22,9 @@ abbrev pub Judges : Game → Report → Verdict → Type 0
 Judges g r (YesOptimal value) = IsAcceptedOptimal g r × (value ≡ r.value)
 Judges g r (YesGap value upper) = IsAcceptedGap g r × (value ≡ r.value) × (upper ≡ r.upper)
 Judges g r (No line reason) = IsRefused g r line reason
+
+-- a yes with the report's own numbers: with its upper bound where it says that its bounds don't meet
+abbrev pub IsYes : Report → Verdict → Type 0
+IsYes r (YesOptimal value) = (is_optimal r.ending ≡ true) × (value ≡ r.value)
+IsYes r (YesGap value upper) = (is_optimal r.ending ≡ false) × (value ≡ r.value) × (upper ≡ r.upper)
+IsYes r (No line reason) = ⊥

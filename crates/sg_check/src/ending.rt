@@ -15,7 +15,7 @@ use sg_tree::{Ending, Report};
 use std::cmp::Ordering;
 
 /// Whether a report says that its bounds meet.
-fn is_optimal(report: &Report) -> bool
+pub(crate) fn is_optimal(report: &Report) -> bool
     ensures { result ≡ is_optimal report.now.ending }
 {
     match &report.ending {

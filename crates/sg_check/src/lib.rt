@@ -3,6 +3,7 @@
 
 mod bound;
 mod caps;
+mod checking;
 mod cover;
 mod ending;
 mod fact;
@@ -10,13 +11,17 @@ mod marks;
 mod measures;
 mod plays;
 mod refusal;
+mod root;
 mod size;
 mod spread;
 mod step;
 mod tickets;
 mod tree;
+mod value;
 mod verdict;
+mod water;
 mod worth;
 
+pub use checking::check;
 pub use cover::has_cover;
 pub use verdict::Verdict;

@@ -64,7 +64,7 @@ fn test_leaf(
 }
 
 /// The greater of a bound and of one more, where there is one.
-fn raised(best: Frac, bound: Option<Frac>) -> Frac
+pub(crate) fn raised(best: Frac, bound: Option<Frac>) -> Frac
     ensures { (bounds more : List Fraction) → IsTop best bounds → Shows more bound → IsTop result (bounds ++ more) }
 {
     match bound {
@@ -78,7 +78,7 @@ fn raised(best: Frac, bound: Option<Frac>) -> Frac
 }
 
 /// The value that a report states. The contract says too that it is in lowest terms.
-fn stated_value(report: &Report) -> Frac
+pub(crate) fn stated_value(report: &Report) -> Frac
     ensures value { result ≡ report.now.value }
     ensures reduced { IsReduced result }
 {
