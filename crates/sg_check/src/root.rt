@@ -1,7 +1,8 @@
 //! The tests of the root: a water level where the game declares a scale, else the tree.
 
-ghost use Rattle.std.specs.Prelude.{◌≡◌, ◌↔◌, ℕ, IsTrue, false, true, length};
+ghost use Rattle.std.specs.Prelude.{◌≡◌, false, true, length};
 ghost use Rattle.sg_model.specs.Limits.{is_scaled};
+ghost use Rattle.sg_bounds.specs.Checking.{root_line};
 ghost use Rattle.sg_bounds.specs.Trees.{node_of};
 ghost use Rattle.sg_check.specs.Answering.{RootAnswers, held};
 ghost use Rattle.sg_check.specs.Covered.{node_has_cover};
@@ -10,7 +11,7 @@ ghost use Rattle.sg_check.specs.Spreads.{AreMeasures};
 use crate::measures::Measures;
 use crate::refusal::Refusal;
 use crate::tree::{Top, raised, stated_value, test_split};
-use crate::water::test_level;
+use crate::water::test_water;
 use sg_game::Game;
 use sg_tree::Report;
 
@@ -22,11 +23,12 @@ fn is_scaled(game: &Game) -> bool
 }
 
 /// Tests the water level, which takes one line.
-fn test_water(game: &Game, report: &Report, line: u64) -> Result<Top, Refusal>
-    requires { is_scaled game.now ≡ true }
-    ensures { (n : ℕ) → line ≡ held n → RootAnswers game.now report.now n (node_of report.now.tree) result }
+fn test_level(game: &Game, report: &Report, line: u64) -> Result<Top, Refusal>
+    requires scaled { is_scaled game.now ≡ true }
+    requires line { line ≡ held (root_line report.now) }
+    ensures { RootAnswers game.now report.now (root_line report.now) (node_of report.now.tree) result }
 {
-    match test_level(game, report, line) {
+    match test_water(game, report, line) {
         Ok(bound) => Ok(Top {
             next: line.saturating_add(1),
             best: raised(stated_value(report), Some(bound)),
@@ -40,10 +42,11 @@ pub(crate) fn test_root(game: &Game, report: &Report, measures: &Measures, line:
     requires one_type { length game.now.types ≡ 1 }
     requires measures { AreMeasures game.now measures.now }
     requires no_cover { node_has_cover (node_of report.now.tree) ≡ false }
-    ensures { (n : ℕ) → line ≡ held n → RootAnswers game.now report.now n (node_of report.now.tree) result }
+    requires line { line ≡ held (root_line report.now) }
+    ensures { RootAnswers game.now report.now (root_line report.now) (node_of report.now.tree) result }
 {
     if is_scaled(game) {
-        test_water(game, report, line)
+        test_level(game, report, line)
     } else {
         test_split(game, report, measures, line)
     }

@@ -5,28 +5,22 @@ use Rattle.sg_check.specs.Answering.{held}
 use Rattle.sg_check.proofs.Joined.{answers-then, refuses-behind, refuses-then, root-behind_value}
 use Rattle.sg_check.proofs.checking.test_closing.Goals as goal
 
-pub test_ending-requires-clause-line : goal.test_ending-requires-clause-line
-test_ending-requires-clause-line c =
-    let g = c.args.game.now in
-    let r = c.args.report.now in
-    let e : c.caps_line-line.result ≡ held (root_line r) = c.caps_line-line.ensures ∙ ap held (sym (root-behind_value g r c.requires.one_type c.in-Ok.ensures)) in
-    (c.in-Ok-test_root.ensures (root_line r) e).2
+pub test_root-requires-clause-line : goal.test_root-requires-clause-line
+test_root-requires-clause-line c = c.caps_line-line.ensures ∙ ap held (sym (root-behind_value c.args.game.now c.args.report.now c.requires.one_type c.in-Ok.ensures))
 
 pub returns-in-Ok-test_root : goal.returns-in-Ok-test_root
 returns-in-Ok-test_root c =
     let g = c.args.game.now in
     let r = c.args.report.now in
-    let e : c.caps_line-line.result ≡ held (root_line r) = c.caps_line-line.ensures ∙ ap held (sym (root-behind_value g r c.requires.one_type c.in-Ok.ensures)) in
     let root = root_stops g (root_line r) (node_of r.tree) in
-    answers-then g r (bound_stops r) (root ++ end_stops r) c.test_ending.result c.in-Ok.ensures (answers-then g r root (end_stops r) c.test_ending.result (c.in-Ok-test_root.ensures (root_line r) e).0 c.test_ending.ensures)
+    answers-then g r (bound_stops r) (root ++ end_stops r) c.test_ending.result c.in-Ok.ensures (answers-then g r root (end_stops r) c.test_ending.result c.in-Ok-test_root.ensures.0 c.test_ending.ensures)
 
 pub returns-in-Err-test_root : goal.returns-in-Err-test_root
 returns-in-Err-test_root c =
     let g = c.args.game.now in
     let r = c.args.report.now in
-    let e : c.caps_line-line.result ≡ held (root_line r) = c.caps_line-line.ensures ∙ ap held (sym (root-behind_value g r c.requires.one_type c.in-Ok.ensures)) in
     let root = root_stops g (root_line r) (node_of r.tree) in
-    refuses-behind g r (bound_stops r) (root ++ end_stops r) c.in-Err-test_root.refusal c.in-Ok.ensures (refuses-then g r root (end_stops r) c.in-Err-test_root.refusal (c.in-Err-test_root.ensures (root_line r) e))
+    refuses-behind g r (bound_stops r) (root ++ end_stops r) c.in-Err-test_root.refusal c.in-Ok.ensures (refuses-then g r root (end_stops r) c.in-Err-test_root.refusal c.in-Err-test_root.ensures)
 
 pub returns-in-Err : goal.returns-in-Err
 returns-in-Err c =
