@@ -25,3 +25,6 @@ mod worth;
 pub use checking::check;
 pub use cover::has_cover;
 pub use verdict::Verdict;
+
+#[cfg(test)]
+mod tests;
