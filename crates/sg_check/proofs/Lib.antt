@@ -8,4 +8,5 @@ pub mod Running
 pub mod Spreads
 pub mod Totals
 pub mod Trees
+pub mod Valued
 pub mod Within

@@ -9,6 +9,7 @@ mod size;
 mod spread;
 mod step;
 mod tickets;
+mod value;
 mod verdict;
 mod worth;
 
