@@ -13,5 +13,6 @@ pub mod Tested
 pub mod Tops
 pub mod Totals
 pub mod Trees
+pub mod Valued
 pub mod Wetted
 pub mod Within

@@ -4,4 +4,5 @@ pub mod Parts
 pub mod PlayTests
 pub mod Sized
 pub mod Spreads
+pub mod Valuing
 pub mod Verdicts
