@@ -95,7 +95,7 @@ walk-more g r n next after best raised i x parts leaf lt is h answers e rises =
     let bounds : List Fraction = part_bounds g r.caps 1 (Some (root_bound g)) (nodes (take i parts)) in
     let more : List Fraction = leaf_bounds g r.caps 1 (Some (root_bound g)) (node_of x) in
     let taken : part_bounds g r.caps 1 (Some (root_bound g)) (nodes (take (i + 1) parts)) ≡ bounds ++ more =
-      ap (λ (ts : List Tree). part_bounds g r.caps 1 (Some (root_bound g)) (nodes ts)) (part_taken parts i x lt is) ∙ bounds-push g r.caps 1 (Some (root_bound g)) (take i parts) x in
+    ap (λ (ts : List Tree). part_bounds g r.caps 1 (Some (root_bound g)) (nodes ts)) (part_taken parts i x lt is) ∙ bounds-push g r.caps 1 (Some (root_bound g)) (take i parts) x in
     record {
       at = h.at + tree_lines (node_of x);
       line = omega (arith, e, h.line, a.1);

@@ -22,7 +22,7 @@ below-trans a b c pa pb pc h k =
     let p = mul-le (a.num *ℤ b.den) (b.num *ℤ a.den) c.den h (omega (arith, ints, pc)) in
     let q = mul-le (b.num *ℤ c.den) (c.num *ℤ b.den) a.den k (omega (arith, ints, pa)) in
     let x : ((a.num *ℤ c.den) *ℤ b.den) ≤ℤ ((c.num *ℤ a.den) *ℤ b.den) =
-      le_by (times (times an cd) bd) (times (times cn ad) bd) (omega (arith, le_from (times (times an bd) cd) (times (times bn ad) cd) p, le_from (times (times bn cd) ad) (times (times cn bd) ad) q)) in
+    le_by (times (times an cd) bd) (times (times cn ad) bd) (omega (arith, le_from (times (times an bd) cd) (times (times bn ad) cd) p, le_from (times (times bn cd) ad) (times (times cn bd) ad) q)) in
     cancel-le (a.num *ℤ c.den) (c.num *ℤ a.den) b.den x pb
 
 below-same : (a b : Fraction) → IsSame a b → IsBelow a b

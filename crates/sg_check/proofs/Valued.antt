@@ -359,7 +359,6 @@ module _ (g : Game) (k : List Ticket) where
       some_same : (x y : ℤ) → Some x ≡ Some y → x ≡ y
       some_same x y e = cc
 
-
   pub taken-start : (best : Best) (z : ℤ) → IsBestOf g k (action_count g 1) best → z ≡ sum_d g k 1 best.action → IsTakenSoFar g k 0 best.sum z
   taken-start best z b e = record { formed = λ a low high same. absurd (omega (arith, low, high)); is = taken-first g k (action_count g 1) best z refl b e }
 

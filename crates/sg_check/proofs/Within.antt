@@ -22,8 +22,7 @@ pub scaled_within : (w d m : ℤ) → pos 0 ≤ℤ w → (pos 0 -ℤ m) ≤ℤ d
 scaled_within w d m h low high =
     let x = v w in let y = v d in let z = v m in
     let p = product_nonneg w (m -ℤ d) h (omega (arith, ints, high)) in
-    let q = product_nonneg w (d -ℤ (pos 0 -ℤ m)) h (omega (arith, ints, low)) in
-    (
+    let q = product_nonneg w (d -ℤ (pos 0 -ℤ m)) h (omega (arith, ints, low)) in (
       le_by (less (n 0) (times x z)) (times x y) (omega (arith, le_from (n 0) (times x (less y (less (n 0) z))) q)),
       le_by (times x y) (times x z) (omega (arith, le_from (n 0) (times x (less z y)) p)),
     )

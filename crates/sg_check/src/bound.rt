@@ -27,7 +27,10 @@ pub(crate) fn bound_of(measures: &Measures, stated: &Stated) -> Option<Bound>
         Some(share) => share,
         None => return None,
     };
-    match (added(stated.mu, share), multiplied(stated.rho, measures.priors)) {
+    match (
+        added(stated.mu, share),
+        multiplied(stated.rho, measures.priors),
+    ) {
         (Some(num), Some(den)) => Some(Bound { num, den }),
         _ => None,
     }

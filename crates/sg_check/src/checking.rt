@@ -2,7 +2,6 @@
 
 ghost use Rattle.std.specs.Prelude.{◌≡◌, ◌+◌, IfOk, IsOk, Ok, false, length, ℕ};
 ghost use Rattle.sg_bounds.specs.Checking.{IsFormed, IsRefused, stops_of, value_line};
-
 ghost use Rattle.sg_check.specs.Answering.{Answers, held};
 ghost use Rattle.sg_check.specs.Covered.{has_cover};
 ghost use Rattle.sg_check.specs.Parts.{closing_stops, opening_stops};

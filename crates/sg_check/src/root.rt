@@ -38,7 +38,12 @@ fn test_level(game: &Game, report: &Report, line: u64) -> Result<Top, Refusal>
 }
 
 /// Tests the root at its line.
-pub(crate) fn test_root(game: &Game, report: &Report, measures: &Measures, line: u64) -> Result<Top, Refusal>
+pub(crate) fn test_root(
+    game: &Game,
+    report: &Report,
+    measures: &Measures,
+    line: u64,
+) -> Result<Top, Refusal>
     requires one_type { length game.now.types ≡ 1 }
     requires measures { AreMeasures game.now measures.now }
     requires no_cover { node_has_cover (node_of report.now.tree) ≡ false }

@@ -74,7 +74,12 @@ fn crossed(alloc: Global) -> Result<Game, Fail> {
     let goals = strings(alloc, &["a", "b", "c", "d"])?;
     let schedules = lists(
         alloc,
-        &[("ab", &[1, 2]), ("cd", &[3, 4]), ("ac", &[1, 3]), ("bd", &[2, 4])],
+        &[
+            ("ab", &[1, 2]),
+            ("cd", &[3, 4]),
+            ("ac", &[1, 3]),
+            ("bd", &[2, 4]),
+        ],
     )?;
     let resources = lists(alloc, &[("r1", &[1, 2]), ("r2", &[3, 4])])?;
     let pay: &[i64] = &[0, -1, 0, 1];

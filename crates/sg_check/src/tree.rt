@@ -137,7 +137,12 @@ fn test_fork(
 }
 
 /// Tests the tree: its root, and then its parts.
-pub(crate) fn test_split(game: &Game, report: &Report, measures: &Measures, line: u64) -> Result<Top, Refusal>
+pub(crate) fn test_split(
+    game: &Game,
+    report: &Report,
+    measures: &Measures,
+    line: u64,
+) -> Result<Top, Refusal>
     requires setting { IsSetting game.now measures.now }
     requires no_cover { node_has_cover (node_of report.now.tree) ≡ false }
     ensures { (n : ℕ) → line ≡ held n → RootAnswers game.now report.now n (node_of report.now.tree) result }

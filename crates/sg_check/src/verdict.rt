@@ -10,8 +10,5 @@ pub enum Verdict {
     /// The report is accepted: the value of its tickets, and the bound on all commitments, which is above it.
     YesGap(Frac, Frac),
     /// The report is refused: the line of the first test that fails, at most 2^64 - 1, and its reason.
-    No {
-        line: u64,
-        reason: u8,
-    },
+    No { line: u64, reason: u8 },
 }

@@ -76,7 +76,13 @@ fn part(game: &Game, measures: &Measures, stated: &Stated, mark: &Mark, code: &[
 }
 
 /// What the marked actions pay above the fixed one where the play is made, times their multipliers.
-fn regret_of(game: &Game, measures: &Measures, stated: &Stated, marks: &[Mark], code: &[u16]) -> i128
+fn regret_of(
+    game: &Game,
+    measures: &Measures,
+    stated: &Stated,
+    marks: &[Mark],
+    code: &[u16],
+) -> i128
     requires legal { IsLegal game.now code.now }
     requires summable { IsSummable game.now measures.now stated.now marks.now }
     ensures value { result ≡ regret game.now (prefix (stated.now.act ∷ [])) marks.now code.now }
@@ -91,7 +97,13 @@ fn regret_of(game: &Game, measures: &Measures, stated: &Stated, marks: &[Mark], 
 }
 
 /// Whether the fact holds for the play.
-pub(crate) fn play_holds(game: &Game, measures: &Measures, stated: &Stated, marks: &[Mark], code: &[u16]) -> bool
+pub(crate) fn play_holds(
+    game: &Game,
+    measures: &Measures,
+    stated: &Stated,
+    marks: &[Mark],
+    code: &[u16],
+) -> bool
     requires legal { IsLegal game.now code.now }
     requires summable { IsSummable game.now measures.now stated.now marks.now }
     ensures { IsTrue result ↔ PlayHolds game.now stated.now marks.now code.now }

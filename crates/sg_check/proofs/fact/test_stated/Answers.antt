@@ -20,7 +20,7 @@ returns-in-Some c =
     let some : int_lt (pos 0) s.mu ≡ true = sym (omega (arith, ints, h, c.if-stated-lt1.false)) in
     let b = c.in-Some.ensures in
     λ n e. stated-bounds c.args.game.now c.args.report.now c.args.measures.now s c.args.marks.now n c.in-Some.bound c.reduced.result c.requires.placed.measures
-        (c.if-not-has_size.ensures.0 refl) (c.if-not-holds.ensures.0 refl) some b.0 b.1 c.reduced.ensures
+    (c.if-not-has_size.ensures.0 refl) (c.if-not-holds.ensures.0 refl) some b.0 b.1 c.reduced.ensures
 
 pub returns-in-None : goal.returns-in-None
 returns-in-None c =
@@ -28,7 +28,7 @@ returns-in-None c =
     let h : to_z w128 (of_z w128 s.mu) ≡ s.mu = search (rules, to_z-of_z) in
     let some : int_lt (pos 0) s.mu ≡ true = sym (omega (arith, ints, h, c.if-stated-lt1.false)) in
     λ n e. stated-unbounded c.args.game.now c.args.report.now c.args.measures.now s c.args.marks.now n c.args.line c.requires.placed.measures e
-        (c.if-not-has_size.ensures.0 refl) (c.if-not-holds.ensures.0 refl) some c.in-None.ensures
+    (c.if-not-has_size.ensures.0 refl) (c.if-not-holds.ensures.0 refl) some c.in-None.ensures
 
 pub returns-then-stated-lt1 : goal.returns-then-stated-lt1
 returns-then-stated-lt1 c =
@@ -36,7 +36,7 @@ returns-then-stated-lt1 c =
     let h : to_z w128 (of_z w128 s.mu) ≡ s.mu = search (rules, to_z-of_z) in
     let none : int_lt (pos 0) s.mu ≡ false = sym (omega (arith, ints, h, c.if-stated-lt1.true)) in
     λ n e. stated-empty c.args.game.now c.args.report.now c.args.measures.now s c.args.marks.now n c.requires.placed.measures
-        (c.if-not-has_size.ensures.0 refl) (c.if-not-holds.ensures.0 refl) none
+    (c.if-not-has_size.ensures.0 refl) (c.if-not-holds.ensures.0 refl) none
 
 pub reduced-requires : goal.reduced-requires
 reduced-requires c =

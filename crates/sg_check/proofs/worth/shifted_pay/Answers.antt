@@ -4,7 +4,7 @@ use Rattle.sg_check.proofs.Gaps.{shifted_within}
 use Rattle.sg_check.proofs.worth.shifted_pay.Goals as goal
 
 pub returns-clause-value : goal.returns-clause-value
-returns-clause-value c = 
+returns-clause-value c =
     let m = c.requires.placed.measures in
     omega (arith, ints, c.from.ensures, c.pay_d.ensures.pay, m.shift)
 
