@@ -5,8 +5,10 @@ pub mod Gaps
 pub mod OneType
 pub mod Regrets
 pub mod Running
+pub mod Spans
 pub mod Spreads
 pub mod Totals
 pub mod Trees
 pub mod Valued
+pub mod Watered
 pub mod Within

@@ -10,6 +10,7 @@ mod spread;
 mod step;
 mod tickets;
 mod value;
+mod water;
 mod verdict;
 mod worth;
 
