@@ -1,13 +1,14 @@
 -- How few resources and choices a game has.
-use Rattle.std.proofs.Common.{◌≡◌, ◌∙◌, ℕ, ◌+◌, ◌-◌, ◌<◌, ◌≤◌, Bool, true, false, cond, List, [], ◌∷◌, length, Option, Some, None, slice_index, ap, subst, sym, refl, arith, inl, inr}
+use Rattle.std.proofs.Common.{◌≡◌, ◌∙◌, ℕ, zero, suc, ◌+◌, ◌-◌, ◌<◌, ◌≤◌, Bool, true, false, cond, List, [], ◌∷◌, length, Option, Some, None, slice_index, get_or, ap, subst, sym, refl, arith, inl, inr}
 use Rattle.std.specs.List.{All}
 use Rattle.std.proofs.lemmas.List.Elements.{All-nil, All-weaker}
+use Rattle.sg_model.specs.declared.kind.Kind.TheVariants.{Security, Matrix}
 use Rattle.sg_model.specs.Sums.{nth, numbers}
-use Rattle.sg_model.specs.Games.{Game, Named, resource_count, resource_schedules, unnamed}
+use Rattle.sg_model.specs.Games.{Game, Named, is_matrix, resource_count, resource_schedules, unnamed}
 use Rattle.sg_model.specs.Limits.{AreListed, AreMembers, ArePatrols, IsDefended, IsGame, is_scaled}
 use Rattle.sg_model.specs.Plays.{IsRow}
 use Rattle.sg_model.proofs.Numbers.{length-numbers_from}
-use Rattle.sg_model.proofs.Promises.{game_cases, nth-or}
+use Rattle.sg_model.proofs.Promises.{IsSecure, IsTabled, game_cases, nth-or, yes_matrix}
 
 schedules-patrols : (g : Game) (n r : ℕ) → g.patrols ≡ Some n → resource_schedules g r ≡ numbers (length g.goals)
 schedules-patrols g n r e = rw e refl

@@ -1,9 +1,10 @@
 -- What a game of one type makes of the definitions.
-use Rattle.std.proofs.Common.{◌≡◌, ℕ, List, length, ℤ, ◌+ℤ◌, ap}
+use Rattle.std.proofs.Common.{◌≡◌, ◌∙◌, ℕ, List, [], ◌∷◌, ◌++◌, length, ℤ, pos, ◌+ℤ◌, ◌-ℤ◌, ◌*ℤ◌, ap, sym, subst, refl, arith}
 use Rattle.std.specs.List.{flat_map}
+use Rattle.std.proofs.lemmas.Int.{ints}
 use Rattle.std.proofs.lemmas.List.{append-nil}
-use Rattle.sg_model.specs.Sums.{greatest, numbers}
-use Rattle.sg_model.specs.Games.{Game}
+use Rattle.sg_model.specs.Sums.{total, greatest, numbers}
+use Rattle.sg_model.specs.Games.{Game, attacker}
 use Rattle.sg_model.specs.Payoffs.{greatest_of, payoffs_of, shift_of}
 use Rattle.sg_bounds.specs.Sizes.{defender_most}
 
