@@ -8,6 +8,7 @@ pub mod OneType
 pub mod Regrets
 pub mod Running
 pub mod Sizing
+pub mod Spans
 pub mod Spreads
 pub mod Tested
 pub mod Tops
@@ -15,4 +16,5 @@ pub mod Totals
 pub mod Trees
 pub mod Valued
 pub mod Wetted
+pub mod Watered
 pub mod Within

@@ -1,13 +1,13 @@
 -- How the value of tickets is formed: sums over the tickets one after another, and what is taken of the best actions.
-use Rattle.std.proofs.Common.{◌≡◌, ◌≢◌, ◌∙◌, ℕ, zero, suc, ◌+◌, ◌<◌, ◌≤◌, Bool, true, false, cond, List, [], ◌∷◌, ◌++◌, length, map, drop, get_or, ℤ, pos, ◌+ℤ◌, ◌-ℤ◌, ◌*ℤ◌, ◌≤ℤ◌, ◌<ℤ◌, ap, sym, subst, refl, arith, ◌⊎◌, inl, inr}
+use Rattle.std.proofs.Common.{◌≡◌, ◌∙◌, ℕ, ◌+◌, ◌<◌, ◌≤◌, Bool, true, false, cond, List, [], ◌∷◌, ◌++◌, length, drop, get_or, ℤ, pos, ◌+ℤ◌, ◌*ℤ◌, ◌≤ℤ◌, ◌<ℤ◌, ap, sym, subst, refl, arith, ◌⊎◌, inl, inr}
 use Rattle.std.specs.List.{All, Contains, filter, flat_map}
 use Rattle.std.proofs.lemmas.Int.{ints, by_lt_z, int_max_is}
 use Rattle.std.specs.Int.{int_max}
 use Rattle.std.proofs.lemmas.Bool.{cases_eq}
 use Rattle.std.proofs.lemmas.List.{drop_all, drop_more}
-use Rattle.std.proofs.lemmas.List.Elements.{All-nil, All-cons, All-head, All-tail, All-append, All-contains, All-filter}
+use Rattle.std.proofs.lemmas.List.Elements.{All-nil, All-cons, All-head, All-tail, All-append, All-contains}
 use Rattle.sg_model.specs.declared.ticket.Ticket.{Ticket}
-use Rattle.sg_model.specs.Sums.{greatest, numbers, total}
+use Rattle.sg_model.specs.Sums.{numbers, total}
 use Rattle.sg_model.specs.Games.{Game, action_count, attacker, prior_total}
 use Rattle.sg_model.specs.Commitments.{is_best, sum_a, sum_d, take_of, weight_total, worth}
 use Rattle.sg_model.proofs.Numbers.{All-numbers, All-numbers-at}
@@ -32,7 +32,7 @@ use Rattle.sg_check.specs.declared.value.Best.{Best}
 use Rattle.std.specs.Prelude.{Option, Some, None, MatchOption}
 use Rattle.sg_check.specs.declared.value.Quotient.{Quotient}
 use Rattle.sg_check.specs.Valuing.{AreFormed, AreLegal, BestAreFormed, Forms, IsBestOf, IsTaken, IsWorthOf, paired, under_a, under_d}
-use Rattle.sg_frac.specs.Fractions.{Fraction, IsReduced, IsReducedForm, IsReducedFormWide}
+use Rattle.sg_frac.specs.Fractions.{Fraction, IsReduced, IsReducedForm}
 use Rattle.sg_frac.proofs.Reduced.{reduced_form-unique}
 
 -- ---- sums over the tickets

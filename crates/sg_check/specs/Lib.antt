@@ -6,3 +6,4 @@ pub mod Sized
 pub mod Spreads
 pub mod Valuing
 pub mod Verdicts
+pub mod Watering

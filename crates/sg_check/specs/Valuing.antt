@@ -1,11 +1,11 @@
 -- How the value of tickets is formed, for a game of one type: sums over the tickets, the best actions, and what is taken of them.
-use Rattle.std.specs.Prelude.{◌≡◌, ℕ, ◌≤◌, ◌+◌, List, ℤ, pos, ◌*ℤ◌, ◌≤ℤ◌, All, MatchOption, Option, Some, None, length}
+use Rattle.std.specs.Prelude.{◌≡◌, ℕ, ◌≤◌, List, ℤ, pos, ◌*ℤ◌, ◌≤ℤ◌, All, MatchOption, Option, Some, None}
 use Rattle.sg_model.specs.declared.ticket.Ticket.{Ticket}
 use Rattle.sg_model.specs.Games.{Game, action_count, prior_total}
 use Rattle.sg_model.specs.Plays.{IsLegal, pay_a, pay_d}
 use Rattle.sg_model.specs.Commitments.{sum_a, sum_d, weight_total, worth}
 use Rattle.sg_bounds.specs.Accepted.{Fits}
-use Rattle.sg_bounds.specs.Sizes.{pay_sums, value_sums}
+use Rattle.sg_bounds.specs.Sizes.{pay_sums}
 use Rattle.sg_check.specs.declared.value.Best.{Best}
 use Rattle.sg_check.specs.declared.value.Quotient.{Quotient}
 

@@ -1,10 +1,7 @@
-use Rattle.std.proofs.Common.{◌≡◌, ◌+ℤ◌, ◌*ℤ◌, ℕ, List, arith, rules, to_z, of_z, ℤ, subst}
-use Rattle.std.specs.List.{All}
-use Rattle.std.specs.Int.{w128}
-use Rattle.std.proofs.lemmas.Int.{ints, to_z-of_z}
+use Rattle.std.proofs.Common.{ℕ, List, arith}
+use Rattle.std.proofs.lemmas.Int.{ints}
 use Rattle.sg_model.specs.Plays.{pay_a}
-use Rattle.sg_bounds.specs.Accepted.{Fits}
-use Rattle.sg_check.proofs.Valued.{both, summed-end, summed-more, summed-wide}
+use Rattle.sg_check.proofs.Valued.{summed-end, summed-more, summed-wide}
 use Rattle.sg_check.proofs.value.total_a.Goals as goal
 
 pub loop-ticket-preserved : goal.loop-ticket-preserved
