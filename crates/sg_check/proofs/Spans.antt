@@ -1,0 +1,138 @@
+-- Numbers from -m to m, and products and sums of them.
+use Rattle.std.proofs.Common.{◌≡◌, ℕ, ◌*◌, ◌<◌, ◌≤◌, ◌^◌, List, [], ◌∷◌, length, ℤ, pos, ◌+ℤ◌, ◌-ℤ◌, ◌*ℤ◌, ◌≤ℤ◌, ap, sym, subst, ◌∙◌, to_z, of_z, arith}
+use Rattle.std.specs.Prelude.{FitsSigned}
+use Rattle.std.specs.List.{All}
+use Rattle.std.specs.Int.{w128}
+use Rattle.std.proofs.lemmas.Int.{ints, to_z-of_z}
+use Rattle.std.proofs.lemmas.List.Elements.{All-head, All-tail}
+use Rattle.sg_model.specs.Limits.{IsPay, IsWithin}
+use Rattle.sg_model.specs.Sums.{total}
+use Rattle.sg_num.proofs.Signs.{mul-pos}
+use Rattle.sg_model.proofs.Ints.{v, n, plus, less, times, le_by, le_from, product_nonneg, factor_positive}
+
+-- z lies from -m to m
+pub record Spans (m : ℕ) (z : ℤ) : Type 0 where
+  pub low : (pos 0 -ℤ pos m) ≤ℤ z
+  pub high : z ≤ℤ pos m
+
+pub spans_product : (m k : ℕ) (a b : ℤ) → Spans m a → Spans k b → Spans (m * k) (a *ℤ b)
+spans_product m k a b p q =
+    let x = v a in let y = v b in
+    let f = product_nonneg (pos m -ℤ a) (pos k -ℤ b) (omega (arith, ints, p.high)) (omega (arith, ints, q.high)) in
+    let g = product_nonneg (pos m +ℤ a) (pos k +ℤ b) (omega (arith, ints, p.low)) (omega (arith, ints, q.low)) in
+    let h = product_nonneg (pos m -ℤ a) (pos k +ℤ b) (omega (arith, ints, p.high)) (omega (arith, ints, q.low)) in
+    let i = product_nonneg (pos m +ℤ a) (pos k -ℤ b) (omega (arith, ints, p.low)) (omega (arith, ints, q.high)) in
+    record {
+      low = le_by (less (n 0) (n (m * k))) (times x y) (omega (arith, le_from (n 0) (times (less (n m) x) (less (n k) y)) f, le_from (n 0) (times (plus (n m) x) (plus (n k) y)) g));
+      high = le_by (times x y) (n (m * k)) (omega (arith, le_from (n 0) (times (less (n m) x) (plus (n k) y)) h, le_from (n 0) (times (plus (n m) x) (less (n k) y)) i));
+    }
+
+pub spans_wider : (m k : ℕ) (z : ℤ) → m ≤ k → Spans m z → Spans k z
+spans_wider m k z le s = record { low = omega (arith, ints, le, s.low); high = omega (arith, ints, le, s.high) }
+
+pub fits_span : (m : ℕ) (z : ℤ) → m < 2 ^ 127 → Spans m z → FitsSigned w128 z
+fits_span m z h s = omega (arith, ints, s.low, s.high)
+
+pub spans_total : {X : Type 0} (f : X → ℤ) (m : ℕ) (xs : List X) → All (λ x. Spans m (f x)) xs → Spans (length xs * m) (total f xs)
+spans_total f m [] h = record { low = omega (arith, ints); high = omega (arith, ints) }
+spans_total f m (x ∷ xs) h =
+    let first = All-head (λ x. Spans m (f x)) x xs h in
+    let rest = spans_total f m xs (All-tail (λ x. Spans m (f x)) x xs h) in
+    record { low = omega (arith, ints, first.low, rest.low); high = omega (arith, ints, first.high, rest.high) }
+
+-- the quotient of a scale by a gap that divides it
+pub multiple_bounds : (m gap scale : ℤ) (most : ℕ) → m *ℤ gap ≡ scale → pos 1 ≤ℤ gap → pos 1 ≤ℤ scale → scale ≤ℤ pos most → (pos 1 ≤ℤ m) × (m ≤ℤ pos most)
+multiple_bounds m gap scale most e g s h =
+    let low = factor_positive m gap scale e s (omega (arith, ints)) in
+    let p = product_nonneg m (gap -ℤ pos 1) (omega (arith, ints)) (omega (arith, ints)) in
+    let q : m ≤ℤ (m *ℤ gap) = le_by (v m) (times (v m) (v gap)) (omega (arith, le_from (n 0) (times (v m) (less (v gap) (n 1))) p)) in
+    (low, omega (arith, ints, q, e))
+
+-- a product in the code, of numbers read as they are
+pub record IsMade (m k : ℕ) (a b a' b' : ℤ) : Type 0 where
+  pub fits : FitsSigned w128 (a' *ℤ b')
+  pub value : to_z w128 (of_z w128 (a' *ℤ b')) ≡ a *ℤ b
+  pub spans : Spans (m * k) (a *ℤ b)
+
+pub made : (m k : ℕ) (a b a' b' : ℤ) → a' ≡ a → b' ≡ b → Spans m a → Spans k b → m * k < 2 ^ 127 → IsMade m k a b a' b'
+made m k a b a' b' e f p q h =
+    let s = spans_product m k a b p q in
+    let fit = fits_span (m * k) (a *ℤ b) h s in
+    let same : a' *ℤ b' ≡ a *ℤ b = (λ i. e i *ℤ f i) in
+    record { fits = subst (FitsSigned w128) (sym same) fit; value = ap (λ (z : ℤ). to_z w128 (of_z w128 z)) same ∙ to_z-of_z w128 (a *ℤ b) fit; spans = s }
+
+-- a number in the code, read as it is
+pub read : (m : ℕ) (z : ℤ) → m < 2 ^ 127 → Spans m z → to_z w128 (of_z w128 z) ≡ z
+read m z h s = to_z-of_z w128 z (fits_span m z h s)
+
+-- a difference and a sum in the code
+pub made_less : (x y x' y' : ℤ) → x' ≡ x → y' ≡ y → FitsSigned w128 (x -ℤ y) → FitsSigned w128 (x' -ℤ y') × (to_z w128 (of_z w128 (x' -ℤ y')) ≡ x -ℤ y)
+made_less x y x' y' e f fit =
+    let same : x' -ℤ y' ≡ x -ℤ y = (λ i. e i -ℤ f i) in
+    (subst (FitsSigned w128) (sym same) fit, ap (λ (z : ℤ). to_z w128 (of_z w128 z)) same ∙ to_z-of_z w128 (x -ℤ y) fit)
+
+pub made_sum : (x y x' y' : ℤ) → x' ≡ x → y' ≡ y → FitsSigned w128 (x +ℤ y) → FitsSigned w128 (x' +ℤ y') × (to_z w128 (of_z w128 (x' +ℤ y')) ≡ x +ℤ y)
+made_sum x y x' y' e f fit =
+    let same : x' +ℤ y' ≡ x +ℤ y = (λ i. e i +ℤ f i) in
+    (subst (FitsSigned w128) (sym same) fit, ap (λ (z : ℤ). to_z w128 (of_z w128 z)) same ∙ to_z-of_z w128 (x +ℤ y) fit)
+
+-- how far a payoff is above a level, in the code
+pub record IsExcess (u d z : ℤ) : Type 0 where
+  pub fits : FitsSigned w128 (to_z w128 (of_z w128 (to_z w128 (of_z w128 u) *ℤ to_z w128 (of_z w128 d))) -ℤ to_z w128 (of_z w128 z))
+  pub value : to_z w128 (of_z w128 (to_z w128 (of_z w128 (to_z w128 (of_z w128 u) *ℤ to_z w128 (of_z w128 d))) -ℤ to_z w128 (of_z w128 z))) ≡ u *ℤ d -ℤ z
+  pub low : (pos 0 -ℤ pos (2 ^ 78)) ≤ℤ to_z w128 (of_z w128 (to_z w128 (of_z w128 (to_z w128 (of_z w128 u) *ℤ to_z w128 (of_z w128 d))) -ℤ to_z w128 (of_z w128 z)))
+  pub high : to_z w128 (of_z w128 (to_z w128 (of_z w128 (to_z w128 (of_z w128 u) *ℤ to_z w128 (of_z w128 d))) -ℤ to_z w128 (of_z w128 z))) ≤ℤ pos (2 ^ 78)
+
+pub excess_made : (u d z : ℤ) → IsPay u → IsWithin (pos 1) (pos (2 ^ 46)) d → IsWithin (pos 0 -ℤ pos (2 ^ 77)) (pos (2 ^ 77)) z → IsExcess u d z
+excess_made u d z pay den num =
+    let su : Spans (2 ^ 30) u = record { low = pay.at_least; high = pay.at_most } in
+    let sd : Spans (2 ^ 46) d = record { low = omega (arith, ints, den.at_least); high = den.at_most } in
+    let sz : Spans (2 ^ 77) z = record { low = num.at_least; high = num.at_most } in
+    let p = made (2 ^ 30) (2 ^ 46) u d _ _ (read (2 ^ 30) u (omega arith) su) (read (2 ^ 46) d (omega arith) sd) su sd (omega arith) in
+    let r = made_less (u *ℤ d) z _ _ p.value (read (2 ^ 77) z (omega arith) sz) (omega (arith, ints, p.spans.low, p.spans.high, sz.low, sz.high)) in
+    record {
+      fits = r.0;
+      value = r.1;
+      low = omega (arith, ints, r.1, p.spans.low, sz.high);
+      high = omega (arith, ints, r.1, p.spans.high, sz.low);
+    }
+
+-- both products of a part of the bound
+pub part_made : (a b : ℤ) → IsPay a → pos 1 ≤ℤ b → b ≤ℤ pos (2 ^ 78) → IsMade (2 ^ 30) (2 ^ 78) a b (to_z w128 (of_z w128 a)) (to_z w128 (of_z w128 b))
+part_made a b pay low high =
+    let sa : Spans (2 ^ 30) a = record { low = pay.at_least; high = pay.at_most } in
+    let sb : Spans (2 ^ 78) b = record { low = omega (arith, ints, low); high = high } in
+    made (2 ^ 30) (2 ^ 78) a b _ _ (read (2 ^ 30) a (omega arith) sa) (read (2 ^ 78) b (omega arith) sb) sa sb (omega arith)
+
+pub gain_made : (a b : ℤ) → IsWithin (pos 1) (pos (2 ^ 31)) a → pos 0 ≤ℤ b → b ≤ℤ pos (2 ^ 86) → IsMade (2 ^ 31) (2 ^ 86) a b (to_z w128 (of_z w128 a)) (to_z w128 (of_z w128 b))
+gain_made a b range low high =
+    let sa : Spans (2 ^ 31) a = record { low = omega (arith, ints, range.at_least); high = range.at_most } in
+    let sb : Spans (2 ^ 86) b = record { low = omega (arith, ints, low); high = high } in
+    made (2 ^ 31) (2 ^ 86) a b _ _ (read (2 ^ 31) a (omega arith) sa) (read (2 ^ 86) b (omega arith) sb) sa sb (omega arith)
+
+-- what the patrols have
+pub record IsHave (p d s : ℤ) : Type 0 where
+  pub fits : FitsSigned w128 (to_z w128 (of_z w128 (to_z w128 (of_z w128 p) *ℤ to_z w128 (of_z w128 d))) *ℤ to_z w128 (of_z w128 s))
+  pub value : to_z w128 (of_z w128 (to_z w128 (of_z w128 (to_z w128 (of_z w128 p) *ℤ to_z w128 (of_z w128 d))) *ℤ to_z w128 (of_z w128 s))) ≡ (p *ℤ d) *ℤ s
+
+pub have_made : (p d s : ℤ) (patrols : ℕ) (scale : ℤ) → p ≡ pos patrols → s ≡ scale → patrols ≤ 200 → IsWithin (pos 1) (pos (2 ^ 46)) d → IsWithin (pos 1) (pos (2 ^ 32)) scale → IsHave p d s
+have_made p d s patrols scale e f few den range =
+    let sp : Spans 200 p = record { low = omega (arith, ints, e); high = omega (arith, ints, e, few) } in
+    let sd : Spans (2 ^ 46) d = record { low = omega (arith, ints, den.at_least); high = den.at_most } in
+    let ss : Spans (2 ^ 32) s = record { low = omega (arith, ints, f, range.at_least); high = omega (arith, ints, f, range.at_most) } in
+    let a = made 200 (2 ^ 46) p d _ _ (read 200 p (omega arith) sp) (read (2 ^ 46) d (omega arith) sd) sp sd (omega arith) in
+    let b = made (200 * 2 ^ 46) (2 ^ 32) (p *ℤ d) s _ _ a.value (read (2 ^ 32) s (omega arith) ss) a.spans ss (omega arith) in
+    record { fits = b.fits; value = b.value }
+
+-- the denominator times the scale
+pub record IsWhole (d s : ℤ) : Type 0 where
+  pub low : pos 1 ≤ℤ to_z w128 (of_z w128 (to_z w128 (of_z w128 d) *ℤ to_z w128 (of_z w128 s)))
+  pub high : to_z w128 (of_z w128 (to_z w128 (of_z w128 d) *ℤ to_z w128 (of_z w128 s))) ≤ℤ pos (2 ^ 78)
+
+pub whole_made : (d s scale : ℤ) → s ≡ scale → IsWithin (pos 1) (pos (2 ^ 46)) d → IsWithin (pos 1) (pos (2 ^ 32)) scale → IsWhole d s
+whole_made d s scale f den range =
+    let sd : Spans (2 ^ 46) d = record { low = omega (arith, ints, den.at_least); high = den.at_most } in
+    let ss : Spans (2 ^ 32) s = record { low = omega (arith, ints, f, range.at_least); high = omega (arith, ints, f, range.at_most) } in
+    let a = made (2 ^ 46) (2 ^ 32) d s _ _ (read (2 ^ 46) d (omega arith) sd) (read (2 ^ 32) s (omega arith) ss) sd ss (omega arith) in
+    let m = mul-pos d s (omega (arith, ints, den.at_least)) (omega (arith, ints, f, range.at_least)) in
+    record { low = omega (arith, ints, a.value, m); high = omega (arith, ints, a.value, a.spans.high) }

@@ -1,0 +1,8 @@
+use Rattle.std.proofs.Common.{List, ℕ, drop}
+use Rattle.sg_model.specs.Plays.{pay_d}
+use Rattle.sg_check.proofs.Valued.{IsSummed}
+use Rattle.sg_check.proofs.value.total_d.Given as goal
+
+-- the sum so far, and the tickets that are left
+abbrev pub invariant-loop-ticket : goal.invariant-loop-ticket
+invariant-loop-ticket l = IsSummed (λ (play : List ℕ). pay_d l.game 1 play l.a) l.tickets l.sum (drop l.ticket-index l.tickets)

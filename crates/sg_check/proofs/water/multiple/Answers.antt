@@ -1,0 +1,23 @@
+use Rattle.std.proofs.Common.{arith, ◌∙◌, ap, ℤ, ◌-ℤ◌, ◌≡◌, to_z, of_z}
+use Rattle.std.specs.Int.{w128}
+use Rattle.std.specs.Prelude.{int_div, FitsSigned}
+use Rattle.std.proofs.lemmas.Int.{ints, to_z-of_z}
+use Rattle.sg_model.specs.Games.{payoff}
+use Rattle.sg_model.specs.Origami.{gap}
+use Rattle.sg_check.proofs.Watered.{multiple, multiple-range}
+use Rattle.sg_check.proofs.water.multiple.Goals as goal
+
+pub returns : goal.returns
+returns c =
+    let h = c.requires.fillable in
+    let g = c.args.game.now in
+    let known = c.requires.known in
+    let a : FitsSigned w128 c.uncovered.result = omega (arith, ints, c.uncovered.ensures.low, c.uncovered.ensures.high) in
+    let b : FitsSigned w128 c.covered.result = omega (arith, ints, c.covered.ensures.low, c.covered.ensures.high) in
+    let f : FitsSigned w128 (c.uncovered.result -ℤ c.covered.result) = omega (arith, ints, c.uncovered.ensures, c.covered.ensures) in
+    let e = simp to_z-of_z at c.quotient.ensures in
+    let q = multiple-range g h c.args.t known.0 known.1 in
+    let x : to_z w128 (of_z w128 c.from.result) ≡ g.scale = omega (arith, ints, c.from.ensures, c.scale.ensures) in
+    let y : (c.uncovered.result -ℤ c.covered.result) ≡ gap (payoff g 1 c.args.t) = omega (arith, ints, c.uncovered.ensures.value, c.covered.ensures.value) in
+    let k : c.quotient.result ≡ multiple g c.args.t = e ∙ (ap (λ (z : ℤ). int_div z (c.uncovered.result -ℤ c.covered.result)) x ∙ ap (λ (z : ℤ). int_div g.scale z) y) in
+    record { value = omega (arith, ints, k); low = omega (arith, ints, k, q.0); high = omega (arith, ints, k, q.1) }

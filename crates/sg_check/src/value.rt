@@ -1,0 +1,310 @@
+//! The test of the value: the sums under it fit, and it is that of the tickets.
+
+ghost use Rattle.std.specs.Prelude.{◌≡◌, ◌↔◌, ◌≤◌, ◌+ℤ◌, ◌*ℤ◌, ◌≤ℤ◌, [], ◌∷◌, All, IsTrue, MatchOption, Some, length, pos};
+ghost use Rattle.std.specs.Int.{int_max};
+ghost use Rattle.sg_frac.specs.Fractions.{IsReducedForm};
+ghost use Rattle.sg_model.specs.Games.{action_count};
+ghost use Rattle.sg_model.specs.Plays.{IsLegal, pay_a, pay_d};
+ghost use Rattle.sg_model.specs.Commitments.{sum_a, sum_d, take_of, weight_total};
+ghost use Rattle.sg_game.specs.Counts.{IsActionOf};
+ghost use Rattle.sg_bounds.specs.Accepted.{Fits};
+ghost use Rattle.sg_bounds.specs.Checking.{AllPass, ticket_stops, value_line};
+ghost use Rattle.sg_bounds.specs.Sizes.{take_sums, value_sums};
+ghost use Rattle.sg_check.specs.Answering.{Answers, held};
+ghost use Rattle.sg_check.specs.Parts.{total_stops, worth_stops};
+ghost use Rattle.sg_check.specs.Valuing.{AreFormed, AreLegal, BestAreFormed, Forms, IsBestOf, IsTaken, IsWorthOf, paired, under_a, under_d};
+
+use crate::refusal::Refusal;
+use crate::step::{added, multiplied};
+use sg_frac::Frac;
+use sg_game::{Game, pay_a, pay_d, prior_total};
+use sg_model::Ticket;
+use sg_tree::Report;
+
+/// The sum with a weight times a pay.
+fn step(sum: i128, weight: i128, pay: i128) -> Option<i128>
+    ensures { Forms result ((weight *ℤ pay) ∷ (sum +ℤ (weight *ℤ pay)) ∷ []) (sum +ℤ (weight *ℤ pay)) }
+{
+    match multiplied(weight, pay) {
+        Some(product) => added(sum, product),
+        None => None,
+    }
+}
+
+/// The sum with what the ticket gives the type, which takes action `a`.
+fn step_a(sum: i128, game: &Game, ticket: &Ticket, a: u16) -> Option<i128>
+    requires one_type { length game.now.types ≡ 1 }
+    requires legal { IsLegal game.now ticket.now.play.code }
+    requires known_action { IsActionOf game.now 1 a }
+    ensures { Forms result ((ticket.now.weight *ℤ pay_a game.now 1 ticket.now.play.code a) ∷ (sum +ℤ (ticket.now.weight *ℤ pay_a game.now 1 ticket.now.play.code a)) ∷ []) (sum +ℤ (ticket.now.weight *ℤ pay_a game.now 1 ticket.now.play.code a)) }
+{
+    let pay = i128::from(pay_a(game, 1, ticket.play.code.as_slice(), a));
+    step(sum, ticket.weight, pay)
+}
+
+/// The sum with what the ticket gives the defender, where the type takes action `a`.
+fn step_d(sum: i128, game: &Game, ticket: &Ticket, a: u16) -> Option<i128>
+    requires one_type { length game.now.types ≡ 1 }
+    requires legal { IsLegal game.now ticket.now.play.code }
+    requires known_action { IsActionOf game.now 1 a }
+    ensures { Forms result ((ticket.now.weight *ℤ pay_d game.now 1 ticket.now.play.code a) ∷ (sum +ℤ (ticket.now.weight *ℤ pay_d game.now 1 ticket.now.play.code a)) ∷ []) (sum +ℤ (ticket.now.weight *ℤ pay_d game.now 1 ticket.now.play.code a)) }
+{
+    let pay = i128::from(pay_d(game, 1, ticket.play.code.as_slice(), a));
+    step(sum, ticket.weight, pay)
+}
+
+/// What the type gets from action `a`, summed over the tickets.
+fn total_a(game: &Game, tickets: &[Ticket], a: u16) -> Option<i128>
+    requires one_type { length game.now.types ≡ 1 }
+    requires legal { AreLegal game.now tickets.now }
+    requires known_action { IsActionOf game.now 1 a }
+    ensures { Forms result (under_a game.now tickets.now a) (sum_a game.now tickets.now 1 a) }
+{
+    let mut sum: i128 = 0;
+    for ticket in tickets {
+        match step_a(sum, game, ticket, a) {
+            Some(more) => sum = more,
+            None => return None,
+        }
+    }
+    Some(sum)
+}
+
+/// What the defender gets where the type takes action `a`, summed over the tickets.
+fn total_d(game: &Game, tickets: &[Ticket], a: u16) -> Option<i128>
+    requires one_type { length game.now.types ≡ 1 }
+    requires legal { AreLegal game.now tickets.now }
+    requires known_action { IsActionOf game.now 1 a }
+    ensures { Forms result (under_d game.now tickets.now a) (sum_d game.now tickets.now 1 a) }
+{
+    let mut sum: i128 = 0;
+    for ticket in tickets {
+        match step_d(sum, game, ticket, a) {
+            Some(more) => sum = more,
+            None => return None,
+        }
+    }
+    Some(sum)
+}
+
+/// An action, and what the type gets from it, summed over the tickets.
+#[derive(Clone, Copy)]
+pub(crate) struct Best {
+    pub(crate) action: u16,
+    pub(crate) sum: i128,
+}
+
+/// The better of two actions.
+fn better(best: &Best, action: u16, sum: i128) -> Best
+    ensures kept { (sum ≤ℤ best.now.sum) → (result ≡ best.now) }
+    ensures new { ((sum ≤ℤ best.now.sum) → ⊥) → (result ≡ record { action = action; sum = sum }) }
+{
+    if best.sum < sum {
+        Best { action, sum }
+    } else {
+        *best
+    }
+}
+
+/// The first action, with its sum.
+fn first(game: &Game, tickets: &[Ticket]) -> Option<Best>
+    requires one_type { length game.now.types ≡ 1 }
+    requires legal { AreLegal game.now tickets.now }
+    ensures { MatchOption result (AreFormed game.now tickets.now (action_count game.now 1) → ⊥) (λ best. AreFormed game.now tickets.now 1 × IsBestOf game.now tickets.now 1 best) }
+{
+    let _actions = game.actions(1);
+    match total_a(game, tickets, 1) {
+        Some(sum) => Some(Best { action: 1, sum }),
+        None => None,
+    }
+}
+
+/// An action of which no other has a greater sum.
+fn best_of(game: &Game, tickets: &[Ticket]) -> Option<Best>
+    requires one_type { length game.now.types ≡ 1 }
+    requires legal { AreLegal game.now tickets.now }
+    ensures { MatchOption result (AreFormed game.now tickets.now (action_count game.now 1) → ⊥) (λ best. AreFormed game.now tickets.now (action_count game.now 1) × IsBestOf game.now tickets.now (action_count game.now 1) best) }
+{
+    let mut best = match first(game, tickets) {
+        Some(best) => best,
+        None => return None,
+    };
+    for i in 1..game.actions(1) {
+        match total_a(game, tickets, i + 1) {
+            Some(sum) => best = better(&best, i + 1, sum),
+            None => return None,
+        }
+    }
+    Some(best)
+}
+
+/// Whether action `a` is a best one.
+fn is_best(game: &Game, tickets: &[Ticket], a: u16, best: &Best) -> bool
+    requires one_type { length game.now.types ≡ 1 }
+    requires legal { AreLegal game.now tickets.now }
+    requires known_action { IsActionOf game.now 1 a }
+    requires formed { All Fits (under_a game.now tickets.now a) }
+    ensures { IsTrue result ↔ (sum_a game.now tickets.now 1 a ≡ best.now.sum) }
+{
+    match total_a(game, tickets, a) {
+        Some(sum) => sum == best.sum,
+        None => false,
+    }
+}
+
+/// The greater of two sums.
+fn greater(a: i128, b: i128) -> i128
+    ensures { result ≡ int_max a b }
+{
+    if a < b { b } else { a }
+}
+
+/// What is taken where the defender's sum of a best action is looked at too.
+fn taken_with(game: &Game, tickets: &[Ticket], a: u16, taken: i128) -> Option<i128>
+    requires one_type { length game.now.types ≡ 1 }
+    requires legal { AreLegal game.now tickets.now }
+    requires known_action { IsActionOf game.now 1 a }
+    ensures { Forms result (under_d game.now tickets.now a) (int_max taken (sum_d game.now tickets.now 1 a)) }
+{
+    match total_d(game, tickets, a) {
+        Some(sum) => Some(greater(taken, sum)),
+        None => None,
+    }
+}
+
+/// What is taken where action `a` is looked at too.
+fn look(game: &Game, tickets: &[Ticket], a: u16, best: &Best, taken: i128) -> Option<i128>
+    requires one_type { length game.now.types ≡ 1 }
+    requires legal { AreLegal game.now tickets.now }
+    requires known_action { IsActionOf game.now 1 a }
+    requires formed { All Fits (under_a game.now tickets.now a) }
+    ensures best { (sum_a game.now tickets.now 1 a ≡ best.now.sum) → Forms result (under_d game.now tickets.now a) (int_max taken (sum_d game.now tickets.now 1 a)) }
+    ensures other { ((sum_a game.now tickets.now 1 a ≡ best.now.sum) → ⊥) → (result ≡ Some taken) }
+{
+    if is_best(game, tickets, a, best) {
+        taken_with(game, tickets, a, taken)
+    } else {
+        Some(taken)
+    }
+}
+
+/// The defender's greatest sum over the best actions.
+fn taken_of(game: &Game, tickets: &[Ticket], best: &Best) -> Option<i128>
+    requires one_type { length game.now.types ≡ 1 }
+    requires legal { AreLegal game.now tickets.now }
+    requires formed { AreFormed game.now tickets.now (action_count game.now 1) }
+    requires best { IsBestOf game.now tickets.now (action_count game.now 1) best.now }
+    ensures { MatchOption result (BestAreFormed game.now tickets.now (action_count game.now 1) best.now.sum → ⊥) (λ taken. BestAreFormed game.now tickets.now (action_count game.now 1) best.now.sum × IsTaken game.now tickets.now (action_count game.now 1) best.now.sum taken) }
+{
+    let mut taken = match total_d(game, tickets, best.action) {
+        Some(sum) => sum,
+        None => return None,
+    };
+    for i in 0..game.actions(1) {
+        match look(game, tickets, i + 1, best, taken) {
+            Some(next) => taken = next,
+            None => return None,
+        }
+    }
+    Some(taken)
+}
+
+/// What the type leaves the defender: ties go to the defender.
+fn take(game: &Game, tickets: &[Ticket]) -> Option<i128>
+    requires one_type { length game.now.types ≡ 1 }
+    requires legal { AreLegal game.now tickets.now }
+    ensures { Forms result (take_sums game.now tickets.now 1) (take_of game.now tickets.now 1) }
+{
+    match best_of(game, tickets) {
+        Some(best) => taken_of(game, tickets, &best),
+        None => None,
+    }
+}
+
+/// A value, not reduced yet.
+#[derive(Clone, Copy)]
+pub(crate) struct Quotient {
+    pub(crate) num: i128,
+    pub(crate) den: i128,
+}
+
+/// Both parts, where they are there.
+fn pair(num: Option<i128>, den: Option<i128>) -> Option<Quotient>
+    ensures { result ≡ paired num den }
+{
+    match (num, den) {
+        (Some(num), Some(den)) => Some(Quotient { num, den }),
+        _ => None,
+    }
+}
+
+/// The value of the tickets, and none where a number under it doesn't fit.
+fn value_of(game: &Game, tickets: &[Ticket], total: i128) -> Option<Quotient>
+    requires one_type { length game.now.types ≡ 1 }
+    requires legal { AreLegal game.now tickets.now }
+    requires total { total ≡ weight_total tickets.now }
+    ensures { MatchOption result (All Fits (value_sums game.now tickets.now) → ⊥) (λ q. All Fits (value_sums game.now tickets.now) × IsWorthOf game.now tickets.now q) }
+{
+    let taken = match take(game, tickets) {
+        Some(taken) => taken,
+        None => return None,
+    };
+    let num = multiplied(i128::from(game.prior(1)), taken);
+    let den = multiplied(total, i128::from(prior_total(game)));
+    pair(num, den)
+}
+
+/// Whether both have the same parts.
+fn is_same(one: &Frac, two: &Frac) -> bool
+    ensures { IsTrue result ↔ (one.now ≡ two.now) }
+{
+    one == two
+}
+
+/// The same in lowest terms, which fit since both parts do.
+pub(crate) fn reduced(value: &Quotient) -> Frac
+    requires { pos 1 ≤ℤ value.now.den }
+    ensures { IsReducedForm value.now.num value.now.den result }
+{
+    match Frac::of(value.num, value.den) {
+        Some(fraction) => fraction,
+        None => unreachable!(),
+    }
+}
+
+/// Whether the fraction, which is in lowest terms, is the value.
+fn is_value(value: &Quotient, stated: &Frac) -> bool
+    requires { pos 1 ≤ℤ value.now.den }
+    ensures { IsTrue result ↔ (value.now.num *ℤ stated.now.den ≡ stated.now.num *ℤ value.now.den) }
+{
+    let _lowest = stated.den();
+    is_same(&reduced(value), stated)
+}
+
+/// The line of the value.
+fn value_line(report: &Report) -> u64
+    ensures { result ≡ held (value_line report.now) }
+{
+    3u64.saturating_add(report.tickets.tickets().len() as u64)
+}
+
+/// Tests that the sums under the value fit, and that the stated value is that of the tickets.
+pub(crate) fn test_value(game: &Game, report: &Report) -> Result<(), Refusal>
+    requires one_type { length game.now.types ≡ 1 }
+    requires plays { AllPass game.now report.now (ticket_stops 3 report.now.tickets.tickets) }
+    requires total { AllPass game.now report.now total_stops }
+    ensures { Answers game.now report.now (worth_stops report.now) result }
+{
+    game.promises();
+    let _lowest = report.value.den();
+    let tickets = report.tickets.tickets();
+    let line = value_line(report);
+    let value = match value_of(game, tickets, report.tickets.total()) {
+        Some(value) => value,
+        None => return Err(Refusal { line, reason: 9 }),
+    };
+    if !is_value(&value, &report.value) {
+        return Err(Refusal { line, reason: 3 });
+    }
+    Ok(())
+}
