@@ -5,8 +5,10 @@ pub mod Gaps
 pub mod OneType
 pub mod Regrets
 pub mod Running
+pub mod Small
 pub mod Spans
 pub mod Spreads
+pub mod Tallied
 pub mod Totals
 pub mod Trees
 pub mod Valued

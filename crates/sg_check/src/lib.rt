@@ -8,6 +8,8 @@ mod refusal;
 mod size;
 mod spread;
 mod step;
+mod sums;
+mod tally;
 mod tickets;
 mod value;
 mod water;
