@@ -18,3 +18,8 @@ mod worth;
 
 pub use cover::has_cover;
 pub use verdict::Verdict;
+
+#[cfg(test)]
+mod value_tests;
+#[cfg(test)]
+mod water_tests;
