@@ -31,6 +31,8 @@ mod root;
 mod size;
 mod spread;
 mod step;
+mod sums;
+mod tally;
 mod tickets;
 mod tree;
 mod value;
@@ -43,4 +45,10 @@ pub use cover::has_cover;
 pub use verdict::Verdict;
 
 #[cfg(test)]
+<<<<<<< HEAD
 mod tests;
+=======
+mod value_tests;
+#[cfg(test)]
+mod water_tests;
+>>>>>>> 45ad7942f0f9fca423fd1e001421e24ce29b64bd

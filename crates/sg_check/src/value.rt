@@ -1,10 +1,10 @@
 //! The test of the value: the sums under it fit, and it is that of the tickets.
 
-ghost use Rattle.std.specs.Prelude.{◌≡◌, ◌↔◌, ◌≤◌, ◌+ℤ◌, ◌*ℤ◌, ◌≤ℤ◌, [], ◌∷◌, All, IsTrue, MatchOption, Some, length, pos};
+ghost use Rattle.std.specs.Prelude.{◌≡◌, ◌↔◌, ◌≤◌, ◌+ℤ◌, ◌*ℤ◌, ◌≤ℤ◌, [], ◌∷◌, All, IsTrue, MatchOption, Some, length, pos, ◌^◌, false};
 ghost use Rattle.std.specs.Int.{int_max};
 ghost use Rattle.sg_frac.specs.Fractions.{IsReducedForm};
-ghost use Rattle.sg_model.specs.Games.{action_count};
-ghost use Rattle.sg_model.specs.Plays.{IsLegal, pay_a, pay_d};
+ghost use Rattle.sg_model.specs.declared.ticket.Ticket.{Ticket};
+ghost use Rattle.sg_model.specs.Games.{action_count, is_matrix};
 ghost use Rattle.sg_model.specs.Commitments.{sum_a, sum_d, take_of, weight_total};
 ghost use Rattle.sg_game.specs.Counts.{IsActionOf};
 ghost use Rattle.sg_bounds.specs.Accepted.{Fits};
@@ -12,80 +12,19 @@ ghost use Rattle.sg_bounds.specs.Checking.{AllPass, ticket_stops, value_line};
 ghost use Rattle.sg_bounds.specs.Sizes.{take_sums, value_sums};
 ghost use Rattle.sg_check.specs.Answering.{Answers, held};
 ghost use Rattle.sg_check.specs.Parts.{total_stops, worth_stops};
+ghost use Rattle.sg_check.specs.Tallies.{IsTable};
 ghost use Rattle.sg_check.specs.Valuing.{AreFormed, AreLegal, BestAreFormed, Forms, IsBestOf, IsTaken, IsWorthOf, paired, under_a, under_d};
 
 use crate::refusal::Refusal;
-use crate::step::{added, multiplied};
+use crate::step::multiplied;
+use crate::tally::{Cell, ROOM, count_all, table_a, table_d};
 use sg_frac::Frac;
-use sg_game::{Game, pay_a, pay_d, prior_total};
+use sg_game::{Game, Kind, prior_total};
 use sg_model::Ticket;
 use sg_tree::Report;
 
-/// The sum with a weight times a pay.
-fn step(sum: i128, weight: i128, pay: i128) -> Option<i128>
-    ensures { Forms result ((weight *ℤ pay) ∷ (sum +ℤ (weight *ℤ pay)) ∷ []) (sum +ℤ (weight *ℤ pay)) }
-{
-    match multiplied(weight, pay) {
-        Some(product) => added(sum, product),
-        None => None,
-    }
-}
-
-/// The sum with what the ticket gives the type, which takes action `a`.
-fn step_a(sum: i128, game: &Game, ticket: &Ticket, a: u16) -> Option<i128>
-    requires one_type { length game.now.types ≡ 1 }
-    requires legal { IsLegal game.now ticket.now.play.code }
-    requires known_action { IsActionOf game.now 1 a }
-    ensures { Forms result ((ticket.now.weight *ℤ pay_a game.now 1 ticket.now.play.code a) ∷ (sum +ℤ (ticket.now.weight *ℤ pay_a game.now 1 ticket.now.play.code a)) ∷ []) (sum +ℤ (ticket.now.weight *ℤ pay_a game.now 1 ticket.now.play.code a)) }
-{
-    let pay = i128::from(pay_a(game, 1, ticket.play.code.as_slice(), a));
-    step(sum, ticket.weight, pay)
-}
-
-/// The sum with what the ticket gives the defender, where the type takes action `a`.
-fn step_d(sum: i128, game: &Game, ticket: &Ticket, a: u16) -> Option<i128>
-    requires one_type { length game.now.types ≡ 1 }
-    requires legal { IsLegal game.now ticket.now.play.code }
-    requires known_action { IsActionOf game.now 1 a }
-    ensures { Forms result ((ticket.now.weight *ℤ pay_d game.now 1 ticket.now.play.code a) ∷ (sum +ℤ (ticket.now.weight *ℤ pay_d game.now 1 ticket.now.play.code a)) ∷ []) (sum +ℤ (ticket.now.weight *ℤ pay_d game.now 1 ticket.now.play.code a)) }
-{
-    let pay = i128::from(pay_d(game, 1, ticket.play.code.as_slice(), a));
-    step(sum, ticket.weight, pay)
-}
-
-/// What the type gets from action `a`, summed over the tickets.
-fn total_a(game: &Game, tickets: &[Ticket], a: u16) -> Option<i128>
-    requires one_type { length game.now.types ≡ 1 }
-    requires legal { AreLegal game.now tickets.now }
-    requires known_action { IsActionOf game.now 1 a }
-    ensures { Forms result (under_a game.now tickets.now a) (sum_a game.now tickets.now 1 a) }
-{
-    let mut sum: i128 = 0;
-    for ticket in tickets {
-        match step_a(sum, game, ticket, a) {
-            Some(more) => sum = more,
-            None => return None,
-        }
-    }
-    Some(sum)
-}
-
-/// What the defender gets where the type takes action `a`, summed over the tickets.
-fn total_d(game: &Game, tickets: &[Ticket], a: u16) -> Option<i128>
-    requires one_type { length game.now.types ≡ 1 }
-    requires legal { AreLegal game.now tickets.now }
-    requires known_action { IsActionOf game.now 1 a }
-    ensures { Forms result (under_d game.now tickets.now a) (sum_d game.now tickets.now 1 a) }
-{
-    let mut sum: i128 = 0;
-    for ticket in tickets {
-        match step_d(sum, game, ticket, a) {
-            Some(more) => sum = more,
-            None => return None,
-        }
-    }
-    Some(sum)
-}
+/// The greatest total for which the sums come from counts.
+const MOST: i128 = 39614081257132168796771975168; // 2^95
 
 /// An action, and what the type gets from it, summed over the tickets.
 #[derive(Clone, Copy)]
@@ -107,30 +46,34 @@ fn better(best: &Best, action: u16, sum: i128) -> Best
 }
 
 /// The first action, with its sum.
-fn first(game: &Game, tickets: &[Ticket]) -> Option<Best>
+fn first(game: &Game, tickets: &[Ticket], total: i128, table: &[Cell]) -> Option<Best>
     requires one_type { length game.now.types ≡ 1 }
     requires legal { AreLegal game.now tickets.now }
+    requires total { total ≡ weight_total tickets.now }
+    requires table { IsTable game.now tickets.now table.now }
     ensures { MatchOption result (AreFormed game.now tickets.now (action_count game.now 1) → ⊥) (λ best. AreFormed game.now tickets.now 1 × IsBestOf game.now tickets.now 1 best) }
 {
     let _actions = game.actions(1);
-    match total_a(game, tickets, 1) {
+    match table_a(game, tickets, total, table, 1) {
         Some(sum) => Some(Best { action: 1, sum }),
         None => None,
     }
 }
 
 /// An action of which no other has a greater sum.
-fn best_of(game: &Game, tickets: &[Ticket]) -> Option<Best>
+fn best_of(game: &Game, tickets: &[Ticket], total: i128, table: &[Cell]) -> Option<Best>
     requires one_type { length game.now.types ≡ 1 }
     requires legal { AreLegal game.now tickets.now }
+    requires total { total ≡ weight_total tickets.now }
+    requires table { IsTable game.now tickets.now table.now }
     ensures { MatchOption result (AreFormed game.now tickets.now (action_count game.now 1) → ⊥) (λ best. AreFormed game.now tickets.now (action_count game.now 1) × IsBestOf game.now tickets.now (action_count game.now 1) best) }
 {
-    let mut best = match first(game, tickets) {
+    let mut best = match first(game, tickets, total, table) {
         Some(best) => best,
         None => return None,
     };
     for i in 1..game.actions(1) {
-        match total_a(game, tickets, i + 1) {
+        match table_a(game, tickets, total, table, i + 1) {
             Some(sum) => best = better(&best, i + 1, sum),
             None => return None,
         }
@@ -139,14 +82,16 @@ fn best_of(game: &Game, tickets: &[Ticket]) -> Option<Best>
 }
 
 /// Whether action `a` is a best one.
-fn is_best(game: &Game, tickets: &[Ticket], a: u16, best: &Best) -> bool
+fn is_best(game: &Game, tickets: &[Ticket], total: i128, table: &[Cell], a: u16, best: &Best) -> bool
     requires one_type { length game.now.types ≡ 1 }
     requires legal { AreLegal game.now tickets.now }
+    requires total { total ≡ weight_total tickets.now }
+    requires table { IsTable game.now tickets.now table.now }
     requires known_action { IsActionOf game.now 1 a }
     requires formed { All Fits (under_a game.now tickets.now a) }
     ensures { IsTrue result ↔ (sum_a game.now tickets.now 1 a ≡ best.now.sum) }
 {
-    match total_a(game, tickets, a) {
+    match table_a(game, tickets, total, table, a) {
         Some(sum) => sum == best.sum,
         None => false,
     }
@@ -160,48 +105,54 @@ fn greater(a: i128, b: i128) -> i128
 }
 
 /// What is taken where the defender's sum of a best action is looked at too.
-fn taken_with(game: &Game, tickets: &[Ticket], a: u16, taken: i128) -> Option<i128>
+fn taken_with(game: &Game, tickets: &[Ticket], total: i128, table: &[Cell], a: u16, taken: i128) -> Option<i128>
     requires one_type { length game.now.types ≡ 1 }
     requires legal { AreLegal game.now tickets.now }
+    requires total { total ≡ weight_total tickets.now }
+    requires table { IsTable game.now tickets.now table.now }
     requires known_action { IsActionOf game.now 1 a }
     ensures { Forms result (under_d game.now tickets.now a) (int_max taken (sum_d game.now tickets.now 1 a)) }
 {
-    match total_d(game, tickets, a) {
+    match table_d(game, tickets, total, table, a) {
         Some(sum) => Some(greater(taken, sum)),
         None => None,
     }
 }
 
 /// What is taken where action `a` is looked at too.
-fn look(game: &Game, tickets: &[Ticket], a: u16, best: &Best, taken: i128) -> Option<i128>
+fn look(game: &Game, tickets: &[Ticket], total: i128, table: &[Cell], a: u16, best: &Best, taken: i128) -> Option<i128>
     requires one_type { length game.now.types ≡ 1 }
     requires legal { AreLegal game.now tickets.now }
+    requires total { total ≡ weight_total tickets.now }
+    requires table { IsTable game.now tickets.now table.now }
     requires known_action { IsActionOf game.now 1 a }
     requires formed { All Fits (under_a game.now tickets.now a) }
     ensures best { (sum_a game.now tickets.now 1 a ≡ best.now.sum) → Forms result (under_d game.now tickets.now a) (int_max taken (sum_d game.now tickets.now 1 a)) }
     ensures other { ((sum_a game.now tickets.now 1 a ≡ best.now.sum) → ⊥) → (result ≡ Some taken) }
 {
-    if is_best(game, tickets, a, best) {
-        taken_with(game, tickets, a, taken)
+    if is_best(game, tickets, total, table, a, best) {
+        taken_with(game, tickets, total, table, a, taken)
     } else {
         Some(taken)
     }
 }
 
 /// The defender's greatest sum over the best actions.
-fn taken_of(game: &Game, tickets: &[Ticket], best: &Best) -> Option<i128>
+fn taken_of(game: &Game, tickets: &[Ticket], total: i128, table: &[Cell], best: &Best) -> Option<i128>
     requires one_type { length game.now.types ≡ 1 }
     requires legal { AreLegal game.now tickets.now }
+    requires total { total ≡ weight_total tickets.now }
+    requires table { IsTable game.now tickets.now table.now }
     requires formed { AreFormed game.now tickets.now (action_count game.now 1) }
     requires best { IsBestOf game.now tickets.now (action_count game.now 1) best.now }
     ensures { MatchOption result (BestAreFormed game.now tickets.now (action_count game.now 1) best.now.sum → ⊥) (λ taken. BestAreFormed game.now tickets.now (action_count game.now 1) best.now.sum × IsTaken game.now tickets.now (action_count game.now 1) best.now.sum taken) }
 {
-    let mut taken = match total_d(game, tickets, best.action) {
+    let mut taken = match table_d(game, tickets, total, table, best.action) {
         Some(sum) => sum,
         None => return None,
     };
     for i in 0..game.actions(1) {
-        match look(game, tickets, i + 1, best, taken) {
+        match look(game, tickets, total, table, i + 1, best, taken) {
             Some(next) => taken = next,
             None => return None,
         }
@@ -210,14 +161,57 @@ fn taken_of(game: &Game, tickets: &[Ticket], best: &Best) -> Option<i128>
 }
 
 /// What the type leaves the defender: ties go to the defender.
-fn take(game: &Game, tickets: &[Ticket]) -> Option<i128>
+fn table_take(game: &Game, tickets: &[Ticket], total: i128, table: &[Cell]) -> Option<i128>
     requires one_type { length game.now.types ≡ 1 }
     requires legal { AreLegal game.now tickets.now }
+    requires total { total ≡ weight_total tickets.now }
+    requires table { IsTable game.now tickets.now table.now }
     ensures { Forms result (take_sums game.now tickets.now 1) (take_of game.now tickets.now 1) }
 {
-    match best_of(game, tickets) {
-        Some(best) => taken_of(game, tickets, &best),
+    match best_of(game, tickets, total, table) {
+        Some(best) => taken_of(game, tickets, total, table, &best),
         None => None,
+    }
+}
+
+/// Whether the sums can come from counts: in security form, with a total of at most 2^95.
+fn is_countable(game: &Game, total: i128) -> bool
+    ensures security { IsTrue result → is_matrix game.now ≡ false }
+    ensures few { IsTrue result → total ≤ℤ pos (2 ^ 95) }
+{
+    match game.kind() {
+        Kind::Security => total <= MOST,
+        Kind::Matrix => false,
+    }
+}
+
+/// The same by counts.
+fn counted_take(game: &Game, tickets: &[Ticket], total: i128) -> Option<i128>
+    requires one_type { length game.now.types ≡ 1 }
+    requires security { is_matrix game.now ≡ false }
+    requires positive { All (λ (x : Ticket). pos 1 ≤ℤ x.weight) tickets.now }
+    requires legal { AreLegal game.now tickets.now }
+    requires total { total ≡ weight_total tickets.now }
+    requires few { total ≤ℤ pos (2 ^ 95) }
+    ensures { Forms result (take_sums game.now tickets.now 1) (take_of game.now tickets.now 1) }
+{
+    let mut cells = [Cell { mark: 0, count: 0 }; ROOM];
+    count_all(game, tickets, &mut cells);
+    table_take(game, tickets, total, &cells)
+}
+
+/// The same, by counts where no sum can leave 128 bits.
+fn take(game: &Game, tickets: &[Ticket], total: i128) -> Option<i128>
+    requires one_type { length game.now.types ≡ 1 }
+    requires positive { All (λ (x : Ticket). pos 1 ≤ℤ x.weight) tickets.now }
+    requires legal { AreLegal game.now tickets.now }
+    requires total { total ≡ weight_total tickets.now }
+    ensures { Forms result (take_sums game.now tickets.now 1) (take_of game.now tickets.now 1) }
+{
+    if is_countable(game, total) {
+        counted_take(game, tickets, total)
+    } else {
+        table_take(game, tickets, total, &[])
     }
 }
 
@@ -241,11 +235,12 @@ fn pair(num: Option<i128>, den: Option<i128>) -> Option<Quotient>
 /// The value of the tickets, and none where a number under it doesn't fit.
 fn value_of(game: &Game, tickets: &[Ticket], total: i128) -> Option<Quotient>
     requires one_type { length game.now.types ≡ 1 }
+    requires positive { All (λ (x : Ticket). pos 1 ≤ℤ x.weight) tickets.now }
     requires legal { AreLegal game.now tickets.now }
     requires total { total ≡ weight_total tickets.now }
     ensures { MatchOption result (All Fits (value_sums game.now tickets.now) → ⊥) (λ q. All Fits (value_sums game.now tickets.now) × IsWorthOf game.now tickets.now q) }
 {
-    let taken = match take(game, tickets) {
+    let taken = match take(game, tickets, total) {
         Some(taken) => taken,
         None => return None,
     };

@@ -1,8 +1,5 @@
-use Rattle.sg_check.proofs.Valued.{take-forms, take-none}
+use Rattle.std.proofs.Common.{arith}
 use Rattle.sg_check.proofs.value.take.Goals as goal
 
-pub returns-in-Some : goal.returns-in-Some
-returns-in-Some c = take-forms c.args.game.now c.args.tickets.now c.in-Some.best c.in-Some.ensures.1 c.in-Some.ensures.0 c.taken_of.result c.taken_of.ensures
-
-pub returns-in-None : goal.returns-in-None
-returns-in-None c = take-none c.args.game.now c.args.tickets.now c.in-None.ensures
+pub table_take-requires-clause-table : goal.table_take-requires-clause-table
+table_take-requires-clause-table c = λ some. absurd (omega (arith, some))

@@ -1,9 +1,16 @@
 use Rattle.std.proofs.Common.{sym, subst, refl, inl, inr, arith}
 use Rattle.std.proofs.lemmas.Int.{ints}
 use Rattle.sg_bounds.specs.Checking.{value_line}
+use Rattle.sg_bounds.proofs.Claims.{claim_commits}
 use Rattle.sg_check.specs.Valuing.{AreLegal}
+use Rattle.sg_check.proofs.Small.{ArePositive}
 use Rattle.sg_check.proofs.Valued.{crossed, den-positive, legal-from, value-is}
 use Rattle.sg_check.proofs.value.test_value.Goals as goal
+
+pub value_of-requires-clause-positive : goal.value_of-requires-clause-positive
+value_of-requires-clause-positive c =
+    subst ArePositive (sym c.tickets-tickets.ensures.value)
+    (claim_commits c.args.game.now c.args.report.now.tickets.tickets c.tickets-tickets.ensures.rules (legal-from c.args.game.now c.args.report.now 3 c.args.report.now.tickets.tickets c.requires.plays)).positive
 
 pub value_of-requires-clause-legal : goal.value_of-requires-clause-legal
 value_of-requires-clause-legal c =

@@ -2,7 +2,7 @@ use Rattle.std.proofs.Common.{rules, FitsSigned}
 use Rattle.std.specs.Int.{w128}
 use Rattle.std.proofs.lemmas.Int.{to_z-of_z}
 use Rattle.sg_check.proofs.Valued.{step-forms}
-use Rattle.sg_check.proofs.value.step.Goals as goal
+use Rattle.sg_check.proofs.sums.step.Goals as goal
 
 pub returns-in-Some : goal.returns-in-Some
 returns-in-Some c =

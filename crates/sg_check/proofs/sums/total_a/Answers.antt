@@ -2,7 +2,7 @@ use Rattle.std.proofs.Common.{ℕ, List, arith}
 use Rattle.std.proofs.lemmas.Int.{ints}
 use Rattle.sg_model.specs.Plays.{pay_a}
 use Rattle.sg_check.proofs.Valued.{summed-end, summed-more, summed-wide}
-use Rattle.sg_check.proofs.value.total_a.Goals as goal
+use Rattle.sg_check.proofs.sums.total_a.Goals as goal
 
 pub loop-ticket-preserved : goal.loop-ticket-preserved
 loop-ticket-preserved c =
