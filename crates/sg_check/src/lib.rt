@@ -45,10 +45,8 @@ pub use cover::has_cover;
 pub use verdict::Verdict;
 
 #[cfg(test)]
-<<<<<<< HEAD
 mod tests;
-=======
+#[cfg(test)]
 mod value_tests;
 #[cfg(test)]
 mod water_tests;
->>>>>>> 45ad7942f0f9fca423fd1e001421e24ce29b64bd

@@ -180,7 +180,12 @@ fn counted_a(game: &Game, total: i128, count: i128, t: u16) -> i128
     ensures { result ≡ ((payoff game.now 1 t).au *ℤ total) +ℤ (((payoff game.now 1 t).ac -ℤ (payoff game.now 1 t).au) *ℤ count) }
 {
     let [_, _, covered, uncovered] = game.payoffs(1, t);
-    mixed(total, count, i128::from(uncovered), difference(covered, uncovered))
+    mixed(
+        total,
+        count,
+        i128::from(uncovered),
+        difference(covered, uncovered),
+    )
 }
 
 /// The defender's sum of a target, by its count.
@@ -194,11 +199,22 @@ fn counted_d(game: &Game, total: i128, count: i128, t: u16) -> i128
     ensures { result ≡ ((payoff game.now 1 t).du *ℤ total) +ℤ (((payoff game.now 1 t).dc -ℤ (payoff game.now 1 t).du) *ℤ count) }
 {
     let [covered, uncovered, _, _] = game.payoffs(1, t);
-    mixed(total, count, i128::from(uncovered), difference(covered, uncovered))
+    mixed(
+        total,
+        count,
+        i128::from(uncovered),
+        difference(covered, uncovered),
+    )
 }
 
 /// What the type gets from action `a`, summed over the tickets: by the table of counts, where there is one.
-pub(crate) fn table_a(game: &Game, tickets: &[Ticket], total: i128, table: &[Cell], a: u16) -> Option<i128>
+pub(crate) fn table_a(
+    game: &Game,
+    tickets: &[Ticket],
+    total: i128,
+    table: &[Cell],
+    a: u16,
+) -> Option<i128>
     requires one_type { length game.now.types ≡ 1 }
     requires legal { AreLegal game.now tickets.now }
     requires total { total ≡ weight_total tickets.now }
@@ -217,7 +233,13 @@ pub(crate) fn table_a(game: &Game, tickets: &[Ticket], total: i128, table: &[Cel
 
 /// What the defender gets where the type takes action `a`, summed over the tickets: by the table of counts, where there
 /// is one.
-pub(crate) fn table_d(game: &Game, tickets: &[Ticket], total: i128, table: &[Cell], a: u16) -> Option<i128>
+pub(crate) fn table_d(
+    game: &Game,
+    tickets: &[Ticket],
+    total: i128,
+    table: &[Cell],
+    a: u16,
+) -> Option<i128>
     requires one_type { length game.now.types ≡ 1 }
     requires legal { AreLegal game.now tickets.now }
     requires total { total ≡ weight_total tickets.now }

@@ -82,7 +82,14 @@ fn best_of(game: &Game, tickets: &[Ticket], total: i128, table: &[Cell]) -> Opti
 }
 
 /// Whether action `a` is a best one.
-fn is_best(game: &Game, tickets: &[Ticket], total: i128, table: &[Cell], a: u16, best: &Best) -> bool
+fn is_best(
+    game: &Game,
+    tickets: &[Ticket],
+    total: i128,
+    table: &[Cell],
+    a: u16,
+    best: &Best,
+) -> bool
     requires one_type { length game.now.types ≡ 1 }
     requires legal { AreLegal game.now tickets.now }
     requires total { total ≡ weight_total tickets.now }
@@ -105,7 +112,14 @@ fn greater(a: i128, b: i128) -> i128
 }
 
 /// What is taken where the defender's sum of a best action is looked at too.
-fn taken_with(game: &Game, tickets: &[Ticket], total: i128, table: &[Cell], a: u16, taken: i128) -> Option<i128>
+fn taken_with(
+    game: &Game,
+    tickets: &[Ticket],
+    total: i128,
+    table: &[Cell],
+    a: u16,
+    taken: i128,
+) -> Option<i128>
     requires one_type { length game.now.types ≡ 1 }
     requires legal { AreLegal game.now tickets.now }
     requires total { total ≡ weight_total tickets.now }
@@ -120,7 +134,15 @@ fn taken_with(game: &Game, tickets: &[Ticket], total: i128, table: &[Cell], a: u
 }
 
 /// What is taken where action `a` is looked at too.
-fn look(game: &Game, tickets: &[Ticket], total: i128, table: &[Cell], a: u16, best: &Best, taken: i128) -> Option<i128>
+fn look(
+    game: &Game,
+    tickets: &[Ticket],
+    total: i128,
+    table: &[Cell],
+    a: u16,
+    best: &Best,
+    taken: i128,
+) -> Option<i128>
     requires one_type { length game.now.types ≡ 1 }
     requires legal { AreLegal game.now tickets.now }
     requires total { total ≡ weight_total tickets.now }
@@ -138,7 +160,13 @@ fn look(game: &Game, tickets: &[Ticket], total: i128, table: &[Cell], a: u16, be
 }
 
 /// The defender's greatest sum over the best actions.
-fn taken_of(game: &Game, tickets: &[Ticket], total: i128, table: &[Cell], best: &Best) -> Option<i128>
+fn taken_of(
+    game: &Game,
+    tickets: &[Ticket],
+    total: i128,
+    table: &[Cell],
+    best: &Best,
+) -> Option<i128>
     requires one_type { length game.now.types ≡ 1 }
     requires legal { AreLegal game.now tickets.now }
     requires total { total ≡ weight_total tickets.now }
