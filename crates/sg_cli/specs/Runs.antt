@@ -9,11 +9,18 @@ use Rattle.sg_format.specs.GameFiles.{game_of_bytes}
 use Rattle.sg_shelf.specs.Faults.{HasRisen, HasNotRisen}
 use Rattle.sg_shelf.specs.Files.{Files, Reads, IsMissing, IsLong, held}
 use Rattle.sg_shelf.specs.Taken.{Takes, TakesFront}
-use Rattle.sg_words.specs.Commands.{Asked, solve}
+use Rattle.sg_words.specs.Commands.{Asked, solve, check, show}
 use Rattle.sg_cli.specs.Solutions.{IsSolved, IsAnswer}
 use Rattle.sg_cli.specs.Refusals.{status_of, line_of}
 use Rattle.sg_cli.specs.declared.refusal.Refusal.{Refusal}
 use Rattle.sg_cli.specs.declared.refusal.Refusal.TheVariants.{Words, GameNotRead, GameTooLong, GameRefused, NotYet, NotWritten, Memory}
+
+-- the commands that a run serves so far: `solve` alone. Words that ask for another are answered as words that give none
+abbrev pub served : Option Asked → Option Asked
+served None = None
+served (Some (solve game)) = Some (solve game)
+served (Some (check game report)) = None
+served (Some (show game report)) = None
 
 -- a run as seen from outside: what the words ask for, the files of the shelf where they are told, the counts of its faults
 -- before and after, those of the output, and the bytes that the output took before and after, where they are told

@@ -3,7 +3,7 @@
 ghost use Rattle.std.specs.Prelude.{◌≡◌, ◌≢◌, ◌≤◌, ◌⊎◌, MatchOption};
 ghost use Rattle.sg_words.specs.Commands.{command_given};
 ghost use Rattle.sg_cli.specs.Refusals.{IsGameRefused, line_of};
-ghost use Rattle.sg_cli.specs.Runs.{scene, texts, Answers, IsComplete, Tells};
+ghost use Rattle.sg_cli.specs.Runs.{scene, served, texts, Answers, IsComplete, Tells};
 
 use crate::refusal::Refusal;
 use crate::solving::obey;
@@ -43,12 +43,12 @@ pub fn run<S: Shelf, O: Sink, E: Sink>(
     err: &mut E,
 ) -> u8
     // One refusal decides the status, its cause and the line; with 0 the output took the report, and nothing is told.
-    ensures answer { Answers (scene (command_given (texts words.now.items)) (S.files shelf.old) (S.faults shelf.old) (S.faults shelf.new)
+    ensures answer { Answers (scene (served (command_given (texts words.now.items))) (S.files shelf.old) (S.faults shelf.old) (S.faults shelf.new)
         (O.faults out.old) (O.faults out.new) (O.taken out.old) (O.taken out.new))
         (E.faults err.old) (E.faults err.new) (E.taken err.old) (E.taken err.new) result }
 
     // Where nothing fails outside, it answers what the files say: but for want of memory it never gives up.
-    ensures complete { IsComplete (scene (command_given (texts words.now.items)) (S.files shelf.old) (S.faults shelf.old) (S.faults shelf.new)
+    ensures complete { IsComplete (scene (served (command_given (texts words.now.items))) (S.files shelf.old) (S.faults shelf.old) (S.faults shelf.new)
         (O.faults out.old) (O.faults out.new) (O.taken out.old) (O.taken out.new)) result }
 
     // With 0 nothing is told; with any refusal but a failing output that is not touched at all.

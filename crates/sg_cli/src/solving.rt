@@ -5,7 +5,7 @@ ghost use Rattle.sg_format.specs.GameFiles.{game_of_bytes};
 ghost use Rattle.sg_shelf.specs.Files.{Reads};
 ghost use Rattle.sg_words.specs.Commands as commands;
 ghost use Rattle.sg_cli.specs.Solutions.{IsSolved, IsAnswer};
-ghost use Rattle.sg_cli.specs.Runs.{scene, texts, ComesOf, Solves, FileFails, GameFails, FileRefused, ReadsSolved};
+ghost use Rattle.sg_cli.specs.Runs.{scene, served, texts, ComesOf, Solves, FileFails, GameFails, FileRefused, ReadsSolved};
 
 use crate::ranges::lies_in_ranges;
 use crate::refusal::Refusal;
@@ -64,12 +64,14 @@ fn game_named<S: Shelf>(alloc: Global, shelf: &mut S, name: &str) -> Result<Game
     game_of(alloc, &bytes)
 }
 
-/// The game that the words ask to solve, or none where they give no command.
+/// The game that the words ask to solve, or none where they give no command that is served.
 fn game_asked<'a>(alloc: Global, words: &'a [String]) -> Result<Option<&'a str>, AllocError>
-    ensures { IfOk result (λ o. option_map (λ name. commands.solve name.now) o ≡ commands.command_given (texts words.entry.now)) }
+    ensures { IfOk result (λ o. option_map (λ name. commands.solve name.now) o ≡ served (commands.command_given (texts words.entry.now))) }
 {
     match command_of(alloc, words)? {
         Some(Command::Solve { game }) => Ok(Some(game)),
+        Some(Command::Check { game: _, report: _ }) => Ok(None),
+        Some(Command::Show { game: _, report: _ }) => Ok(None),
         None => Ok(None),
     }
 }
@@ -125,9 +127,9 @@ pub fn obey<S: Shelf, O: Sink>(
     ensures reads { S.faults shelf.old ≤ S.faults shelf.new }
     ensures writes { O.faults out.old ≤ O.faults out.new }
     ensures kept { IfErr result (λ e. e ≢ Refusal.NotWritten → out.new ≡ out.old) }
-    ensures ok { OnOk result (Solves (scene (commands.command_given (texts words.now)) (S.files shelf.old) (S.faults shelf.old) (S.faults shelf.new)
+    ensures ok { OnOk result (Solves (scene (served (commands.command_given (texts words.now))) (S.files shelf.old) (S.faults shelf.old) (S.faults shelf.new)
         (O.faults out.old) (O.faults out.new) (O.taken out.old) (O.taken out.new))) }
-    ensures err { IfErr result (ComesOf (scene (commands.command_given (texts words.now)) (S.files shelf.old) (S.faults shelf.old) (S.faults shelf.new)
+    ensures err { IfErr result (ComesOf (scene (served (commands.command_given (texts words.now))) (S.files shelf.old) (S.faults shelf.old) (S.faults shelf.new)
         (O.faults out.old) (O.faults out.new) (O.taken out.old) (O.taken out.new))) }
 {
     match game_asked(alloc, words) {

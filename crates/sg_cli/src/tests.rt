@@ -280,7 +280,7 @@ fn refuses_games(rt: HostRuntime) -> Result<(), AllocError> {
 #[test]
 fn refuses_words_and_names(rt: HostRuntime) -> Result<(), AllocError> {
     let alloc = rt.alloc();
-    let lists: [&[&str]; 8] = [
+    let lists: [&[&str]; 10] = [
         &[],
         &["solve"],
         &["game.toml"],
@@ -288,6 +288,8 @@ fn refuses_words_and_names(rt: HostRuntime) -> Result<(), AllocError> {
         &["solve", "game.toml", "--nodes", "01"],
         &["solve", "game.toml", "--seed=3", "--seed=3"],
         &["check", "game.toml"],
+        &["check", "game.toml", "report"],
+        &["show", "game.toml", "report"],
         &["solve", "-"],
     ];
     for words in lists {

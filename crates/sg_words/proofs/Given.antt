@@ -1,46 +1,27 @@
 -- clap and the definition agree on the command of the words.
 use Rattle.std.proofs.Common.{◌≡◌, ◌∙◌, Bool, true, false, List, [], ◌∷◌, Option, Some, None, codes, refl, sym, ap, subst, inl, inr}
-use Rattle.std.specs.Prelude.{◌⊎◌, ◌||◌, bytes_eq, if◌then◌else◌}
+use Rattle.std.specs.Prelude.{◌⊎◌, ◌||◌, if◌then◌else◌}
 use Rattle.std.proofs.lemmas.Bool.{cases_Bool, false≢true}
 use Rattle.std.proofs.lemmas.Slice.Eq.{bytes_eq-Decides}
-use Rattle.clap.specs.Walk.{Row, idle, subcommand_met}
+use Rattle.clap.specs.Walk.{Row}
 use Rattle.clap.specs.Simple.{App, is_simple, subcommand_of}
 use Rattle.clap.specs.Kinds.{Kinds, IsAmong}
 use Rattle.clap.specs.Faults.{fault_of, is_simple_and_free}
 use Rattle.clap.specs.declared.error.kind.ErrorKind.{ErrorKind}
 use Rattle.clap.specs.declared.error.kind.ErrorKind.TheVariants.{UnknownArgument, InvalidSubcommand, OutOfMemory}
-use Rattle.clap.proofs.OnLiterals.{clap_on_literals}
 use Rattle.sg_words.specs.Words.{Text, is_end_of_options, begins_with_hyphen, has_stray, positional_words}
 use Rattle.sg_words.specs.Commands.{Asked, asked_by, command_given}
 use Rattle.sg_words.specs.Line.{line, command_found}
 use Rattle.sg_words.proofs.Marks.{has_stray-mark, has_stray-word, stray_parts}
-use Rattle.sg_words.proofs.Solve.{solve_agrees}
-use Rattle.sg_words.proofs.Top.{Agrees, agrees_as, agrees_none, command_names, line_is_simple, line_is_free, fault_of-no_name, fault_of-no_words, fault_of-mark}
+use Rattle.sg_words.proofs.Names.{Named, named, none_is_met, asked_by-none, asked_by-hyphen}
+use Rattle.sg_words.proofs.Game.{solve_agrees}
+use Rattle.sg_words.proofs.Report.{check_agrees, show_agrees}
+use Rattle.sg_words.proofs.Top.{Agrees, agrees_as, agrees_none, line_is_simple, line_is_free, fault_of-no_name, fault_of-no_words, fault_of-mark}
 
 -- ---- clap agrees with the definition
 
 no_fault : (kinds : Kinds) → kinds ≡ UnknownArgument ∷ InvalidSubcommand ∷ [] → kinds ≡ [] → ⊥
 no_fault kinds e none = cc
-
--- ---- no command of that name
-
-none_is_met : (word : Text) → bytes_eq (codes "solve") word ≡ false → subcommand_met command_names idle word ≡ None
-unfolding clap_on_literals
-none_is_met word e = rw e refl
-
-pub asked_by-none : (word : Text) (words : List Text) → bytes_eq (codes "solve") word ≡ false → asked_by word words ≡ None
-asked_by-none word words e = rw e refl
-
--- a name begins with no hyphen
-solve_is_unhyphened : (word : Text) → begins_with_hyphen word ≡ true → bytes_eq (codes "solve") word ≡ false
-solve_is_unhyphened word h = go (cases_Bool (bytes_eq (codes "solve") word))
-  where
-    go : (bytes_eq (codes "solve") word ≡ true) ⊎ (bytes_eq (codes "solve") word ≡ false) → bytes_eq (codes "solve") word ≡ false
-    go (inl e) = absurd (false≢true (subst (λ (t : Text). begins_with_hyphen t ≡ true) (sym ((bytes_eq-Decides (codes "solve") word).0 e)) h))
-    go (inr e) = e
-
-asked_by-hyphen : (word : Text) (words : List Text) → begins_with_hyphen word ≡ true → asked_by word words ≡ None
-asked_by-hyphen word words h = asked_by-none word words (solve_is_unhyphened word h)
 
 -- ---- all words
 
@@ -70,14 +51,18 @@ command_given-stray (word ∷ words) h = go (cases_Bool (is_end_of_options word)
 is_end_of_options-hyphen : (word : Text) → is_end_of_options word ≡ true → begins_with_hyphen word ≡ true
 is_end_of_options-hyphen word e = subst (λ (t : Text). begins_with_hyphen t ≡ true) (sym ((bytes_eq-Decides word (codes "--")).0 e)) refl
 
-named_agrees : (word : Text) (words : List Text) → begins_with_hyphen word ≡ false → has_stray words ≡ false → (bytes_eq (codes "solve") word ≡ true) ⊎ (bytes_eq (codes "solve") word ≡ false)
-    → Agrees (command_given (word ∷ words)) (fault_of line (word ∷ words)) (subcommand_of line (word ∷ words))
-named_agrees word words unhyphened plain (inl e) =
-    agrees_as (command_given-plain word words plain) refl refl (solve_agrees word words e plain)
-named_agrees word words unhyphened plain (inr e) =
-    agrees_none (command_given (word ∷ words)) (fault_of line (word ∷ words)) (subcommand_of line (word ∷ words))
-    (command_given-no_name word words (asked_by-none word (positional_words words) e))
-    (no_fault (fault_of line (word ∷ words)) (fault_of-no_name word words (none_is_met word e) unhyphened))
+abbrev pub AgreesOn : List Text → Text → Type 0
+AgreesOn words word = Agrees (asked_by word (positional_words words)) (fault_of line (word ∷ words)) (subcommand_of line (word ∷ words))
+
+named_agrees : (word : Text) (words : List Text) → begins_with_hyphen word ≡ false → has_stray words ≡ false → Named word
+    → Agrees (asked_by word (positional_words words)) (fault_of line (word ∷ words)) (subcommand_of line (word ∷ words))
+named_agrees word words unhyphened plain (inl e) = subst (AgreesOn words) (sym e) (solve_agrees words plain)
+named_agrees word words unhyphened plain (inr (inl e)) = subst (AgreesOn words) (sym e) (check_agrees words plain)
+named_agrees word words unhyphened plain (inr (inr (inl e))) = subst (AgreesOn words) (sym e) (show_agrees words plain)
+named_agrees word words unhyphened plain (inr (inr (inr none))) =
+    agrees_none (asked_by word (positional_words words)) (fault_of line (word ∷ words)) (subcommand_of line (word ∷ words))
+    (asked_by-none word (positional_words words) none)
+    (no_fault (fault_of line (word ∷ words)) (fault_of-no_name word words (none_is_met word none) unhyphened))
 
 first_agrees : (word : Text) (words : List Text) → has_stray (word ∷ words) ≡ false → (is_end_of_options word ≡ true) ⊎ (is_end_of_options word ≡ false)
     → Agrees (command_given (word ∷ words)) (fault_of line (word ∷ words)) (subcommand_of line (word ∷ words))
@@ -86,7 +71,7 @@ first_agrees word words h (inl e) =
     (command_given-no_name word words (asked_by-hyphen word (positional_words words) (is_end_of_options-hyphen word e))) (fault_of-mark word words e)
 first_agrees word words h (inr e) =
     let parts = stray_parts word words h e in
-    named_agrees word words parts.0 parts.1 (cases_Bool (bytes_eq (codes "solve") word))
+    agrees_as (command_given-plain word words parts.1) refl refl (named_agrees word words parts.0 parts.1 (named word))
 
 -- where no word is stray, clap finds what the words ask for
 line_agrees : (words : List Text) → has_stray words ≡ false → Agrees (command_given words) (fault_of line words) (subcommand_of line words)

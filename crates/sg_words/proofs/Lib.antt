@@ -1,7 +1,10 @@
 pub mod Marks
 pub mod Leaf
-pub mod Solve
 pub mod Top
+pub mod Names
+pub mod Enters
+pub mod Game
+pub mod Report
 pub mod Found
 pub mod Given
 pub mod Written

@@ -1,43 +1,75 @@
 -- Reading words is writing a command turned round.
 use Rattle.std.proofs.Common.{◌≡◌, ◌∙◌, true, false, List, [], ◌∷◌, Option, Some, None, codes, refl, sym, ap, inl, inr}
-use Rattle.std.specs.Prelude.{◌⊎◌, ◌↔◌, bytes_eq, option_map, IsNone}
+use Rattle.std.specs.Prelude.{◌⊎◌, ◌↔◌, option_map, IsNone}
 use Rattle.std.specs.List.{before_first}
 use Rattle.std.proofs.lemmas.Bool.{cases_Bool, true≢false}
 use Rattle.std.proofs.lemmas.List.Folds.{list_any_none}
-use Rattle.std.proofs.lemmas.Slice.Eq.{bytes_eq-Decides}
 use Rattle.sg_words.specs.Words.{Text, is_end_of_options, begins_with_hyphen, has_stray, positional_words}
-use Rattle.sg_words.specs.Commands.{Asked, solve, Gives, WordsGive, name_of, positionals_of, with_one, asked_by, command_given, asked_of}
+use Rattle.sg_words.specs.Commands.{Asked, solve, check, show, Gives, WordsGive, name_of, positionals_of, with_one, with_two, asked_by, command_given, asked_of}
 use Rattle.sg_words.specs.declared.command.Command.{Command}
 use Rattle.sg_words.proofs.Marks.{All-unhyphened}
-use Rattle.sg_words.proofs.Solve.{asked_by-solve}
-use Rattle.sg_words.proofs.Given.{command_given-plain, command_given-no_name, command_given-stray_rest, asked_by-none}
+use Rattle.sg_words.proofs.Names.{Named, named, asked_by-none}
+use Rattle.sg_words.proofs.Given.{command_given-plain, command_given-stray_rest}
 
 one_positional : (words : List Text) (asked : Asked) → with_one solve words ≡ Some asked → (codes "solve" ≡ name_of asked) × (words ≡ positionals_of asked)
 one_positional [] asked e = absurd cc
 one_positional (game ∷ []) (solve name) e = (refl, cc)
+one_positional (game ∷ []) (check _ _) e = absurd cc
+one_positional (game ∷ []) (show _ _) e = absurd cc
 one_positional (game ∷ word ∷ words) asked e = absurd cc
+
+check_positionals : (words : List Text) (asked : Asked) → with_two check words ≡ Some asked → (codes "check" ≡ name_of asked) × (words ≡ positionals_of asked)
+check_positionals [] asked e = absurd cc
+check_positionals (game ∷ []) asked e = absurd cc
+check_positionals (game ∷ report ∷ []) (solve _) e = absurd cc
+check_positionals (game ∷ report ∷ []) (check _ _) e = (refl, cc)
+check_positionals (game ∷ report ∷ []) (show _ _) e = absurd cc
+check_positionals (game ∷ report ∷ word ∷ words) asked e = absurd cc
+
+show_positionals : (words : List Text) (asked : Asked) → with_two show words ≡ Some asked → (codes "show" ≡ name_of asked) × (words ≡ positionals_of asked)
+show_positionals [] asked e = absurd cc
+show_positionals (game ∷ []) asked e = absurd cc
+show_positionals (game ∷ report ∷ []) (solve _) e = absurd cc
+show_positionals (game ∷ report ∷ []) (check _ _) e = absurd cc
+show_positionals (game ∷ report ∷ []) (show _ _) e = (refl, cc)
+show_positionals (game ∷ report ∷ word ∷ words) asked e = absurd cc
+
+-- what the name and the positional words ask for has this name and these positional words
+asked_is : (name : Text) (words : List Text) (asked : Asked) → Named name → asked_by name words ≡ Some asked → (name ≡ name_of asked) × (words ≡ positionals_of asked)
+asked_is name words asked (inl e) h =
+    let parts = one_positional words asked (sym (ap (λ (n : Text). asked_by n words) e) ∙ h) in (e ∙ parts.0, parts.1)
+asked_is name words asked (inr (inl e)) h =
+    let parts = check_positionals words asked (sym (ap (λ (n : Text). asked_by n words) e) ∙ h) in (e ∙ parts.0, parts.1)
+asked_is name words asked (inr (inr (inl e))) h =
+    let parts = show_positionals words asked (sym (ap (λ (n : Text). asked_by n words) e) ∙ h) in (e ∙ parts.0, parts.1)
+asked_is name words asked (inr (inr (inr no_name))) h = absurd (let none = asked_by-none name words no_name in cc)
 
 read_written : (words : List Text) (asked : Asked) → command_given words ≡ Some asked → Gives words asked
 read_written [] asked e = absurd cc
-read_written (name ∷ others) asked e = go (cases_Bool (has_stray others)) (cases_Bool (bytes_eq (codes "solve") name))
+read_written (name ∷ others) asked e = go (cases_Bool (has_stray others))
   where
-    go : (has_stray others ≡ true) ⊎ (has_stray others ≡ false) → (bytes_eq (codes "solve") name ≡ true) ⊎ (bytes_eq (codes "solve") name ≡ false) → Gives (name ∷ others) asked
-    go (inl stray) named = absurd (let none = command_given-stray_rest name others stray in cc)
-    go (inr plain) (inr other) = absurd (let none = command_given-no_name name others (asked_by-none name (positional_words others) other) in cc)
-    go (inr plain) (inl named) =
-        let parts = one_positional (positional_words others) asked (sym (command_given-plain name others plain ∙ asked_by-solve name (positional_words others) named) ∙ e) in
+    go : (has_stray others ≡ true) ⊎ (has_stray others ≡ false) → Gives (name ∷ others) asked
+    go (inl stray) = absurd (let none = command_given-stray_rest name others stray in cc)
+    go (inr plain) =
+        let parts = asked_is name (positional_words others) asked (named name) (sym (command_given-plain name others plain) ∙ e) in
         record {
           others = others;
-          named = ap (λ (n : Text). n ∷ others) (sym ((bytes_eq-Decides (codes "solve") name).0 named) ∙ parts.0);
+          named = ap (λ (n : Text). n ∷ others) parts.0;
           unhyphened = All-unhyphened (before_first is_end_of_options others) plain;
           positionals = parts.1;
         }
 
+-- the positional words of a command ask for it
+asked_by-positionals : (asked : Asked) → asked_by (name_of asked) (positionals_of asked) ≡ Some asked
+asked_by-positionals (solve game) = refl
+asked_by-positionals (check game report) = refl
+asked_by-positionals (show game report) = refl
+
 written_read : (words : List Text) (asked : Asked) → Gives words asked → command_given words ≡ Some asked
-written_read words (solve game) gives =
+written_read words asked gives =
     ap command_given gives.named
-    ∙ command_given-plain (codes "solve") gives.others (list_any_none begins_with_hyphen (before_first is_end_of_options gives.others) gives.unhyphened)
-    ∙ ap (asked_by (codes "solve")) gives.positionals
+    ∙ command_given-plain (name_of asked) gives.others (list_any_none begins_with_hyphen (before_first is_end_of_options gives.others) gives.unhyphened)
+    ∙ ap (asked_by (name_of asked)) gives.positionals ∙ asked_by-positionals asked
 
 -- what is read is what is written
 pub given_exactly : (given : Option Asked) (words : List Text) → given ≡ command_given words → (asked : Asked) → (given ≡ Some asked) ↔ Gives words asked

@@ -1,9 +1,23 @@
-/// What the words of a call ask for. The texts are the words themselves.
+/// What the words of a call ask for. The texts are the words themselves, and any text is one, also an empty one.
 #[derive(Clone, Copy, Debug, PartialEq, Eq)]
 pub enum Command<'a> {
     /// `solve GAME`: find a best commitment for a game.
     Solve {
-        /// The name of the game's file: any text, also an empty one.
+        /// The name of the game's file.
         game: &'a str,
+    },
+    /// `check GAME REPORT`: judge a report on a game.
+    Check {
+        /// The name of the game's file.
+        game: &'a str,
+        /// The name of the report's file.
+        report: &'a str,
+    },
+    /// `show GAME REPORT`: show a report on a game as a table for people.
+    Show {
+        /// The name of the game's file.
+        game: &'a str,
+        /// The name of the report's file.
+        report: &'a str,
     },
 }

@@ -7,8 +7,9 @@
 //! is written, `command_given` how words are read, and `words_give` that the one is the other turned round. The words go
 //! through `clap`, as a command line with one level of subcommands.
 //!
-//! A command more is a variant of `Command`, a function and an arm in `line`, and a row of `name_of`, `positionals_of`
-//! and `forms` in the definitions; its proof is one file beside `proofs/Solve.antt`.
+//! A command more is a variant of `Command`, a line and an arm in `line`, and a row of `name_of`, `positionals_of`, `forms`
+//! and `command_in_rows` in the definitions. Its proof is a case of `proofs/Names.antt`, and an `Enters` as those in
+//! `proofs/Game.antt` (one positional word) and `proofs/Report.antt` (two).
 #![tactic(auto)]
 
 mod command;

@@ -1,24 +1,24 @@
 -- clap and the definition agree on `solve GAME`, which takes one positional word.
-use Rattle.std.proofs.Common.{◌≡◌, ◌∙◌, ◌<◌, ◌≤◌, Bool, true, false, List, [], ◌∷◌, ◌++◌, length, Some, None, codes, refl, arith}
-use Rattle.std.specs.Prelude.{bytes_eq}
-use Rattle.clap.specs.Walk.{Row, Walk, idle, subcommand_met, finished, nothing_held, walk_from}
-use Rattle.clap.specs.Simple.{Shape, built, built_leaf, entered, inherited, subcommand_of}
-use Rattle.clap.specs.Kinds.{Kinds, or_else}
+use Rattle.std.proofs.Common.{◌≡◌, ◌<◌, ◌≤◌, Bool, true, false, List, [], ◌∷◌, ◌++◌, length, Some, None, codes, refl, arith}
+use Rattle.clap.specs.Walk.{Row, Walk, idle, finished, nothing_held, walk_from}
+use Rattle.clap.specs.Simple.{Shape, built_leaf, inherited, subcommand_of}
+use Rattle.clap.specs.Kinds.{Kinds}
 use Rattle.clap.specs.Faults.{fault_of, turn_fault}
 use Rattle.clap.specs.declared.error.kind.ErrorKind.TheVariants.{UnknownArgument}
 use Rattle.clap.proofs.OnLiterals.{clap_on_literals}
 use Rattle.sg_words.specs.Words.{Text, is_end_of_options, has_stray, positional_words}
 use Rattle.sg_words.specs.Commands.{solve, with_one, asked_by}
-use Rattle.sg_words.specs.Line.{line, solve_line}
-use Rattle.sg_words.proofs.Leaf.{Takes, Moves, IsPositional, Finds, finds, end_fault, rest_fault, rest_rows}
-use Rattle.sg_words.proofs.Top.{Agrees, agrees_as, command_names, whole_fault, stopped_at, fault_of-name, subcommand_of-name}
+use Rattle.sg_words.specs.Line.{line, game_line}
+use Rattle.sg_words.proofs.Leaf.{Takes, Moves, IsPositional, Finds, end_fault}
+use Rattle.sg_words.proofs.Top.{Agrees}
+use Rattle.sg_words.proofs.Enters.{Enters, name_agrees}
 use Rattle.sg_words.proofs.Marks.{is_end_of_options-unhyphened, long_of-unhyphened, short_of-unhyphened}
 
 -- ---- word by word
 
 -- the subcommand as clap builds it
 abbrev pub leaf : Shape
-leaf = built_leaf (inherited line.top solve_line.top)
+leaf = built_leaf (inherited line.top (game_line (codes "solve")).top)
 
 -- where the walk stands after these positional words
 abbrev pub stands : List Text → Bool → Walk
@@ -69,41 +69,22 @@ unfolding clap_on_literals
 short [] ended lt = λ none. absurd cc
 short (name ∷ names) ended lt = absurd (grind arith)
 
-pub takes : Takes leaf 1 stands rows
+takes : Takes leaf 1 stands rows
 takes = record { starts = refl; mark = mark; next = next; stray = stray; full = full; short = short }
 
 -- ---- after the first word
 
-words_agree : (words : List Text) (kinds : Kinds) (found : List Row) → Finds 1 rows words kinds found → Agrees (with_one solve words) kinds (Some (codes "solve", found))
+agrees : (words : List Text) (kinds : Kinds) (found : List Row) → Finds 1 rows words kinds found → Agrees (with_one solve words) kinds (Some (codes "solve", found))
 unfolding clap_on_literals
-words_agree [] kinds found f = f.wrong (λ e. cc)
-words_agree (game ∷ []) kinds found f = let right = f.right refl in (right.0, rw right.1 refl)
-words_agree (game ∷ word ∷ words) kinds found f = f.wrong (λ e. absurd (omega arith))
+agrees [] kinds found f = f.wrong (λ e. cc)
+agrees (game ∷ []) kinds found f = let right = f.right refl in (right.0, rw right.1 refl)
+agrees (game ∷ word ∷ words) kinds found f = f.wrong (λ e. absurd (omega arith))
 
-or_else-nil : (kinds : Kinds) → or_else kinds [] ≡ kinds
-or_else-nil [] = refl
-or_else-nil (x ∷ xs) = refl
-
-whole : (words : List Text) → whole_fault [] (stopped_at (codes "solve") words) ≡ or_else (rest_fault leaf (walk_from nothing_held) words) []
+enters : Enters leaf 1 rows (codes "solve") (with_one solve)
 unfolding clap_on_literals
-whole words = refl
-
-is_entered : (words : List Text) → entered (built line) (Some (codes "solve", words)) ≡ Some (codes "solve", rest_rows leaf (walk_from nothing_held) words)
-unfolding clap_on_literals
-is_entered words = refl
-
-is_met : (word : Text) → bytes_eq (codes "solve") word ≡ true → subcommand_met command_names idle word ≡ Some (codes "solve")
-unfolding clap_on_literals
-is_met word e = rw e refl
-
-pub asked_by-solve : (word : Text) (words : List Text) → bytes_eq (codes "solve") word ≡ true → asked_by word words ≡ with_one solve words
-asked_by-solve word words e = rw e refl
+enters = record { met = refl; whole = λ words. refl; within = λ words. refl; asks = λ words. refl; agrees = agrees }
 
 -- clap agrees where the first word is `solve`
-pub solve_agrees : (word : Text) (words : List Text) → bytes_eq (codes "solve") word ≡ true → has_stray words ≡ false
-    → Agrees (asked_by word (positional_words words)) (fault_of line (word ∷ words)) (subcommand_of line (word ∷ words))
-solve_agrees word words e plain =
-    agrees_as (asked_by-solve word (positional_words words) e)
-    (fault_of-name word (codes "solve") words (is_met word e) ∙ whole words ∙ or_else-nil (rest_fault leaf (walk_from nothing_held) words))
-    (subcommand_of-name word (codes "solve") words (is_met word e) ∙ is_entered words)
-    (words_agree (positional_words words) (rest_fault leaf (walk_from nothing_held) words) (rest_rows leaf (walk_from nothing_held) words) (finds leaf 1 stands rows takes words plain))
+pub solve_agrees : (words : List Text) → has_stray words ≡ false
+    → Agrees (asked_by (codes "solve") (positional_words words)) (fault_of line (codes "solve" ∷ words)) (subcommand_of line (codes "solve" ∷ words))
+solve_agrees = name_agrees leaf 1 stands rows (codes "solve") (with_one solve) takes enters
