@@ -1,7 +1,7 @@
 #!/usr/bin/env python3
 """Times the proved program on games of identical patrols, beside a plain floating-point filling in the same run.
 
-The program is crates/patrol/out/patrol, as `.ci/run` leaves it. Prints, for some numbers of targets and patrols: the program's
+The program is crates/patrol/out/patrol, as `.ci/run` leaves it, or the one that PATROL names. Prints, for some numbers of targets and patrols: the program's
 seconds (least of five runs, from file to report), its peak memory, the size of the report, the seconds of the floating-point
 filling (which gives the level alone: no reading, no tickets, no text), and the ratio of the two.
 """
@@ -14,7 +14,7 @@ import tempfile
 import time
 
 TOP = os.path.dirname(os.path.dirname(os.path.abspath(__file__)))
-PROGRAM = os.path.join(TOP, "crates", "patrol", "out", "patrol")
+PROGRAM = os.environ.get("PATROL", os.path.join(TOP, "crates", "patrol", "out", "patrol"))
 SCALE = 2**32
 
 
@@ -25,6 +25,16 @@ def payoffs_of(targets, seed):
         gap = 2 ** (10 + draw.randrange(11))
         covered = -draw.randrange(1000)
         rows.append((draw.randrange(1000), -1 - draw.randrange(1000), covered, covered + gap))
+    return rows
+
+
+def close_payoffs_of(targets, seed):
+    """Payoffs so close that every target is covered: as many tickets as a report can have."""
+    draw = random.Random(seed)
+    rows = []
+    for _ in range(targets):
+        uncovered = 2**20 + draw.randrange(1000)
+        rows.append((draw.randrange(1000), -1 - draw.randrange(1000), uncovered - 2**20, uncovered))
     return rows
 
 
@@ -61,8 +71,16 @@ def main():
         sys.exit("no proved program: run .ci/run first")
     print("targets  patrols  program s  peak MB  report MB  float s   ratio  value (program, float)")
     with tempfile.TemporaryDirectory() as folder:
-        for targets, patrols in ((100, 1), (1000, 1), (10000, 1), (1000, 50), (10000, 200)):
-            rows = payoffs_of(targets, targets)
+        for targets, patrols, draw in (
+            (100, 1, payoffs_of),
+            (1000, 1, payoffs_of),
+            (10000, 1, payoffs_of),
+            (1000, 50, payoffs_of),
+            (10000, 200, payoffs_of),
+            (1000, 50, close_payoffs_of),
+            (10000, 200, close_payoffs_of),
+        ):
+            rows = draw(targets, targets)
             path = os.path.join(folder, f"{targets}.toml")
             write_game(path, rows, patrols)
             best = None
