@@ -1,192 +1,257 @@
--- A run that answers by one refusal never gives up but for want of memory.
-use Rattle.std.proofs.Common.{◌≡◌, ◌⊎◌, ℕ, ◌+◌, ◌-◌, ◌^◌, ◌<◌, ◌≤◌, List, length, Option, Some, None, IsSomeAnd, Result, Ok, Err, refl, sym, ◌∙◌, ap, subst, arith, inl, inr}
+-- A run that answers by what it did, or by one refusal, never gives up but for want of memory: told files decide the status.
+use Rattle.std.proofs.Common.{◌≡◌, ◌⊎◌, ℕ, ◌<◌, ◌≤◌, ◌+◌, ◌-◌, ◌^◌, Bool, true, false, MatchBool, ◌==◌, nat_lt, List, length, Option, Some, None, IsSomeAnd, Result, Ok, Err, refl, sym, ◌∙◌, ap, subst, arith, inl, inr}
+use Rattle.std.proofs.lemmas.Bool.{lt-ltb, le-ltb, false_from_ne_true, true_from_ne_false, eqb-true}
 use Rattle.sg_model.specs.declared.fault.GameFault.{GameFault}
 use Rattle.sg_model.specs.Games.{Game}
+use Rattle.sg_model.specs.Limits.{is_scaled}
 use Rattle.sg_format.specs.GameFiles.{game_of_bytes}
+use Rattle.sg_tree.specs.declared.report.Report.{Report}
+use Rattle.sg_cert.specs.declared.fault.ReportFault.{ReportFault}
+use Rattle.sg_cert.specs.Reading.{report_of}
+use Rattle.sg_bounds.specs.Accepted.{IsAccepted, is_optimal}
+use Rattle.sg_bounds.specs.Checking.{IsRefused}
+use Rattle.sg_check.specs.Covered.{has_cover}
 use Rattle.sg_shelf.specs.Faults.{HasRisen, HasNotRisen}
-use Rattle.sg_shelf.specs.Files.{Files, Reads, MayHold, IsMissing, IsLong, held}
-use Rattle.sg_words.specs.Commands.{Asked, solve}
-use Rattle.sg_cli.specs.Solutions.{IsSolved}
-use Rattle.sg_cli.specs.Runs.{Scene, Names, ReadsGame, MayBeLong, Solves, HoldsGame, ComesOf, Answers, IsComplete}
+use Rattle.sg_shelf.specs.Files.{Files, IsLong, held}
+use Rattle.sg_words.specs.Commands.{Asked, solve, check, show}
+use Rattle.sg_cli.specs.Scenes.{Scene, SaysGame, SaysReport, game_limit, game_name, report_limit, report_name}
+use Rattle.sg_cli.specs.Solutions.{IsCheckable, yes_status}
+use Rattle.sg_cli.specs.Deeds.{Accepts, Does}
+use Rattle.sg_cli.specs.Causes.{ComesOf, Fails, IsNotRead, IsGameLong, IsReportLong, IsTaken, IsWrong, IsGameNotYet, OfReport, ReadsReport, Stops, TakesGame}
+use Rattle.sg_cli.specs.Decisions.{ByChecking, ByFile, ByGame, ByGameFile, ByPair, ByReport, ByShowing, BySolving, Decides}
 use Rattle.sg_cli.specs.Refusals.{status_of}
+use Rattle.sg_cli.specs.Runs.{Answers, IsComplete, IsDone, IsOfFault}
 use Rattle.sg_cli.specs.declared.refusal.Refusal.{Refusal}
-use Rattle.sg_cli.specs.declared.refusal.Refusal.TheVariants.{Words, GameNotRead, GameTooLong, GameRefused, NotYet, NotWritten, Memory}
+use Rattle.sg_cli.specs.declared.refusal.Refusal.TheVariants.{Words, GameNotRead, GameTooLong, GameRefused, NotYet, ReportNotRead, ReportTooLong, ReportRefused, ReportWrong, NotWritten, Memory}
 
--- ---- what can't be at once
+-- ---- choices
 
-pub risen_not : (before after : ℕ) → HasRisen before after → HasNotRisen before after → ⊥
-risen_not before after h k = omega (arith, h, k)
+at_true : (b : Bool) (P Q : Type 0) → b ≡ true → P → MatchBool b P Q
+at_true true P Q e p = p
+at_true false P Q e p = let no_way : ⊥ = cc in absurd no_way
 
-no_words : (s : Scene) (name : List ℕ) → s.asked ≡ None → Names s name → ⊥
-no_words s name none names = let e : ◌≡◌ {A = Option Asked} None (Some (solve name)) = sym none ∙ names in cc
+at_false : (b : Bool) (P Q : Type 0) → b ≡ false → Q → MatchBool b P Q
+at_false true P Q e q = let no_way : ⊥ = cc in absurd no_way
+at_false false P Q e q = q
 
-same_name : (s : Scene) (a b : List ℕ) → Names s a → Names s b → a ≡ b
-same_name s a b p q = let e : ◌≡◌ {A = Option Asked} (Some (solve a)) (Some (solve b)) = sym p ∙ q in cc
+-- ---- by files and what they say
 
-held_missing : (files : Option Files) (name bytes : List ℕ) → MayHold files name bytes → IsMissing files name → ⊥
-held_missing None name bytes h k = k
-held_missing (Some files) name bytes h k = let e : ◌≡◌ {A = Option (List ℕ)} (Some bytes) None = sym h ∙ k in cc
+by_none : (limit : ℕ) (P : List ℕ → ℕ → Type 0) (file : Option (List ℕ)) (status : ℕ) → file ≡ None → status ≡ 4 → ByFile limit P file status
+by_none limit P None status e is = is
+by_none limit P (Some bytes) status e is = let no_way : ⊥ = cc in absurd no_way
 
-held_same : (files : Files) (name a b : List ℕ) → MayHold (Some files) name a → held files name ≡ Some b → a ≡ b
-held_same files name a b h k = let e : ◌≡◌ {A = Option (List ℕ)} (Some a) (Some b) = sym h ∙ k in cc
+by_long : (limit : ℕ) (P : List ℕ → ℕ → Type 0) (file : Option (List ℕ)) (status : ℕ) → IsSomeAnd file (λ bytes. limit < length bytes) → status ≡ 5 → ByFile limit P file status
+by_long limit P None status h is = absurd h
+by_long limit P (Some bytes) status h is = at_true (nat_lt limit (length bytes)) (status ≡ 5) (P bytes status) (lt-ltb limit (length bytes) h) is
 
-short_long : (files : Option Files) (name bytes : List ℕ) → MayHold files name bytes → length bytes ≤ 4194304 → IsLong files name 4194304 → ⊥
-short_long None name bytes h le k = k
-short_long (Some files) name bytes h le k = too_short (held files name) bytes h le k
+by_bytes : (limit : ℕ) (P : List ℕ → ℕ → Type 0) (file : Option (List ℕ)) (bytes : List ℕ) (status : ℕ) → file ≡ Some bytes → length bytes ≤ limit → P bytes status
+    → ByFile limit P file status
+by_bytes limit P file bytes status e le h =
+    subst (λ (f : Option (List ℕ)). ByFile limit P f status) (sym e) (at_false (nat_lt limit (length bytes)) (status ≡ 5) (P bytes status) (le-ltb limit (length bytes) le) h)
+
+by_game : (P : Game → ℕ → Type 0) (says : Result Game GameFault) (g : Game) (status : ℕ) → says ≡ Ok g → P g status → ByGame P says status
+by_game P says g status e h = subst (λ (s : Result Game GameFault). ByGame P s status) (sym e) h
+
+by_fault : (P : Game → ℕ → Type 0) (says : Result Game GameFault) (f : GameFault) (status : ℕ) → says ≡ Err f → status ≡ 6 → ByGame P says status
+by_fault P says f status e h = subst (λ (s : Result Game GameFault). ByGame P s status) (sym e) h
+
+by_report : (P : Report → ℕ → Type 0) (says : Result Report ReportFault) (r : Report) (status : ℕ) → says ≡ Ok r → MatchBool (has_cover r) (status ≡ 3) (P r status)
+    → ByReport P says status
+by_report P says r status e h = subst (λ (s : Result Report ReportFault). ByReport P s status) (sym e) h
+
+by_report_fault : (P : Report → ℕ → Type 0) (says : Result Report ReportFault) (f : ReportFault) (status : ℕ) → says ≡ Err f → status ≡ 7 → ByReport P says status
+by_report_fault P says f status e h = subst (λ (s : Result Report ReportFault). ByReport P s status) (sym e) h
+
+-- ---- by the game's file
+
+-- what decides once the game is known
+after_game : Files → Asked → Game → ℕ → Type 0
+after_game files (solve game) = BySolving
+after_game files (check game report) = ByPair ByChecking (held files report)
+after_game files (show game report) = ByPair ByShowing (held files report)
+
+by_name : (files : Files) (asked : Asked) (status : ℕ) → ByGameFile (after_game files asked) (held files (game_name asked)) status → Decides files asked status
+by_name files (solve game) status h = h
+by_name files (check game report) status h = h
+by_name files (show game report) status h = h
+
+no_game : (files : Files) (asked : Asked) (status : ℕ) → held files (game_name asked) ≡ None → status ≡ 4 → Decides files asked status
+no_game files asked status e is = by_name files asked status (by_none game_limit _ (held files (game_name asked)) status e is)
+
+long_game : (files : Files) (asked : Asked) (status : ℕ) → IsLong (Some files) (game_name asked) game_limit → status ≡ 5 → Decides files asked status
+long_game files asked status h is = by_name files asked status (by_long game_limit _ (held files (game_name asked)) status h is)
+
+refused_game : (files : Files) (asked : Asked) (status : ℕ) (f : GameFault) → SaysGame (Some files) (game_name asked) (Err f) → status ≡ 6 → Decides files asked status
+refused_game files asked status f h is =
+    by_name files asked status
+    (by_bytes game_limit (λ bytes. ByGame (after_game files asked) (game_of_bytes bytes)) (held files (game_name asked)) h.bytes status h.reads.may_hold h.reads.within
+    (by_fault (after_game files asked) (game_of_bytes h.bytes) f status h.game is))
+
+read_game : (files : Files) (asked : Asked) (status : ℕ) (g : Game) → SaysGame (Some files) (game_name asked) (Ok g) → after_game files asked g status → Decides files asked status
+read_game files asked status g h next =
+    by_name files asked status
+    (by_bytes game_limit (λ bytes. ByGame (after_game files asked) (game_of_bytes bytes)) (held files (game_name asked)) h.bytes status h.reads.may_hold h.reads.within
+    (by_game (after_game files asked) (game_of_bytes h.bytes) g status h.game next))
+
+not_one : (g : Game) → ¬ (length g.types ≡ 1) → (length g.types == 1) ≡ false
+not_one g other = false_from_ne_true (length g.types == 1) (λ e. other (eqb-true (length g.types) 1 e))
+
+is_one : (g : Game) → length g.types ≡ 1 → (length g.types == 1) ≡ true
+is_one g e = ap (λ (n : ℕ). n == 1) e
+
+not_taken : (files : Files) (asked : Asked) (g : Game) (status : ℕ) → ¬ (IsTaken asked g) → status ≡ 3 → after_game files asked g status
+not_taken files (solve game) g status other is = at_false (is_scaled g) (status ≡ 0) (status ≡ 3) (false_from_ne_true (is_scaled g) other) is
+not_taken files (check game report) g status other is = at_false (length g.types == 1) _ (status ≡ 3) (not_one g other) is
+not_taken files (show game report) g status other is = at_false (length g.types == 1) _ (status ≡ 3) (not_one g other) is
+
+-- ---- by the report's file
+
+-- what decides once both are known
+after_both : Asked → Game → Report → ℕ → Type 0
+after_both (solve game) g r status = status ≡ 0
+after_both (check game report) g r status = ByChecking g r status
+after_both (show game report) g r status = ByShowing g r status
+
+by_pair : (files : Files) (asked : Asked) (g : Game) (report : List ℕ) (status : ℕ) → IsTaken asked g → report_name asked ≡ Some report
+    → ByFile report_limit (λ bytes. ByReport (after_both asked g) (report_of bytes)) (held files report) status → after_game files asked g status
+by_pair files (solve game) g report status taken names h = let no_way : ⊥ = cc in absurd no_way
+by_pair files (check game other) g report status taken names h =
+    let same : other ≡ report = cc in
+    at_true (length g.types == 1) _ (status ≡ 3) (is_one g taken)
+    (subst (λ (n : List ℕ). ByFile report_limit (λ bytes. ByReport (ByChecking g) (report_of bytes)) (held files n) status) (sym same) h)
+by_pair files (show game other) g report status taken names h =
+    let same : other ≡ report = cc in
+    at_true (length g.types == 1) _ (status ≡ 3) (is_one g taken)
+    (subst (λ (n : List ℕ). ByFile report_limit (λ bytes. ByReport (ByShowing g) (report_of bytes)) (held files n) status) (sym same) h)
+
+-- the game is taken, and the report's file decides
+of_report : (files : Files) (asked : Asked) (status : ℕ) (P : Game → List ℕ → Type 0) → OfReport (Some files) asked P
+    → ((g : Game) (report : List ℕ) → P g report → ByFile report_limit (λ bytes. ByReport (after_both asked g) (report_of bytes)) (held files report) status)
+    → Decides files asked status
+of_report files asked status P h next =
+    read_game files asked status h.game h.takes.says (by_pair files asked h.game h.report status h.takes.taken h.names (next h.game h.report h.holds))
+
+read_report : (files : Files) (asked : Asked) (g : Game) (report : List ℕ) (status : ℕ) (r : Report) → SaysReport (Some files) report (Ok r)
+    → MatchBool (has_cover r) (status ≡ 3) (after_both asked g r status) → ByFile report_limit (λ bytes. ByReport (after_both asked g) (report_of bytes)) (held files report) status
+read_report files asked g report status r h next =
+    by_bytes report_limit (λ bytes. ByReport (after_both asked g) (report_of bytes)) (held files report) h.bytes status h.reads.may_hold h.reads.within
+    (by_report (after_both asked g) (report_of h.bytes) r status h.report next)
+
+wrong : (asked : Asked) (g : Game) (r : Report) (line reason status : ℕ) → report_name asked ≢ None → IsWrong g line reason r → status ≡ 7
+    → MatchBool (has_cover r) (status ≡ 3) (after_both asked g r status)
+wrong (solve game) g r line reason status reads h is = absurd (reads refl)
+wrong (check game report) g r line reason status reads h is = at_false (has_cover r) (status ≡ 3) _ h.is_checkable (inr (inr (line, reason, h.refused, is)))
+wrong (show game report) g r line reason status reads h is = at_false (has_cover r) (status ≡ 3) _ h.is_checkable (inr (inr (line, reason, h.refused, is)))
+
+not_none : (asked : Asked) (report : List ℕ) → report_name asked ≡ Some report → report_name asked ≢ None
+not_none asked report e none = let no_way : ◌≡◌ {A = Option (List ℕ)} (Some report) None = sym e ∙ none in cc
+
+-- ---- a refusal
+
+fails_decides : (s : Scene) (status : ℕ) (asked : Asked) (files : Files) (refusal : Refusal) → Fails (Some files) s.reads_before s.reads_after asked refusal
+    → status ≡ status_of refusal → (status ≡ 11) ⊎ (IsOfFault s status ⊎ Decides files asked status)
+fails_decides s status asked files Words c e = absurd c
+fails_decides s status asked files NotWritten c e = absurd c
+fails_decides s status asked files Memory c e = inl e
+fails_decides s status asked files GameNotRead (inl risen) e = inr (inl (inl (e, risen)))
+fails_decides s status asked files GameNotRead (inr missing) e = inr (inr (no_game files asked status missing e))
+fails_decides s status asked files GameTooLong c e = inr (inr (long_game files asked status c.0 e))
+fails_decides s status asked files (GameRefused fault) c e = inr (inr (refused_game files asked status fault c e))
+fails_decides s status asked files NotYet (inl c) e = inr (inr (read_game files asked status c.game c.says (not_taken files asked c.game status c.not_taken e)))
+fails_decides s status asked files NotYet (inr c) e =
+    inr (inr (of_report files asked status _ c (λ g report h.
+      read_report files asked g report status h.read h.says
+      (at_true (has_cover h.read) (status ≡ 3) _ (true_from_ne_false (has_cover h.read) h.holds) e))))
+fails_decides s status asked files ReportNotRead c e =
+    elim c.holds [
+      | inl risen ↦ inr (inl (inl (e, risen)))
+      | inr missing ↦ inr (inr (read_game files asked status c.game c.takes.says
+          (by_pair files asked c.game c.report status c.takes.taken c.names (by_none report_limit _ (held files c.report) status missing e))))
+    ]
+fails_decides s status asked files ReportTooLong c e =
+    inr (inr (of_report files asked status _ c (λ g report h. by_long report_limit _ (held files report) status h e)))
+fails_decides s status asked files (ReportRefused fault) c e =
+    inr (inr (of_report files asked status _ c (λ g report h.
+      by_bytes report_limit (λ bytes. ByReport (after_both asked g) (report_of bytes)) (held files report) h.bytes status h.reads.may_hold h.reads.within
+      (by_report_fault (after_both asked g) (report_of h.bytes) fault status h.report e))))
+fails_decides s status asked files (ReportWrong line reason) c e =
+    inr (inr (of_report files asked status _ c (λ g report h.
+      read_report files asked g report status h.read h.says (wrong asked g h.read line reason status (not_none asked c.report c.names) h.holds e))))
+
+-- ---- what was done
+
+yes_decides : (g : Game) (r : Report) (status : ℕ) → IsAccepted g r → status ≡ yes_status r → ByChecking g r status
+yes_decides g r status accepted e = by_cases (is_optimal r.ending) refl
   where
-    too_short : (o : Option (List ℕ)) (bytes : List ℕ) → o ≡ Some bytes → length bytes ≤ 4194304 → IsSomeAnd o (λ b. 4194304 < length b) → ⊥
-    too_short None bytes e le k = k
-    too_short (Some b) bytes e le k = let same : b ≡ bytes = cc in omega (arith, le, k, ap length same)
+    by_cases : (b : Bool) → is_optimal r.ending ≡ b → ByChecking g r status
+    by_cases true is = inl (record { accepted = accepted; ending = is }, e ∙ (rw is refl))
+    by_cases false is = inr (inl (record { accepted = accepted; ending = is }, e ∙ (rw is refl)))
 
-missing_long : (files : Option Files) (name : List ℕ) → IsMissing files name → IsLong files name 4194304 → ⊥
-missing_long None name h k = h
-missing_long (Some files) name h k = none (held files name) h k
+shown_decides : (g : Game) (r : Report) (status : ℕ) → IsAccepted g r → status ≡ 0 → ByShowing g r status
+shown_decides g r status accepted e = by_cases (is_optimal r.ending) refl
   where
-    none : (o : Option (List ℕ)) → o ≡ None → IsSomeAnd o (λ b. 4194304 < length b) → ⊥
-    none None e k = k
-    none (Some b) e k = cc
+    by_cases : (b : Bool) → is_optimal r.ending ≡ b → ByShowing g r status
+    by_cases true is = inl (record { accepted = accepted; ending = is }, e)
+    by_cases false is = inr (inl (record { accepted = accepted; ending = is }, e))
 
-long_missing : (files : Option Files) (name : List ℕ) (before after : ℕ) → MayBeLong files name before after → IsMissing files name → ⊥
-long_missing None name before after h k = k
-long_missing (Some files) name before after h k = missing_long (Some files) name k h.0
+accepted_decides : (files : Files) (asked : Asked) (name report : List ℕ) (g : Game) (r : Report) (status : ℕ) → Accepts (Some files) name report g r
+    → game_name asked ≡ name → report_name asked ≡ Some report → IsTaken asked g → after_both asked g r status → Decides files asked status
+accepted_decides files asked name report g r status h is names taken next =
+    read_game files asked status g (subst (λ (n : List ℕ). SaysGame (Some files) n (Ok g)) (sym is) h.says)
+    (by_pair files asked g report status taken names
+    (read_report files asked g report status r h.says_report (at_false (has_cover r) (status ≡ 3) _ h.is_checkable next)))
 
--- ---- what a read of the game says where the files are told
+does_decides : (files : Files) (asked : Asked) (status : ℕ) (text : List ℕ) → Does (Some files) asked status text → Decides files asked status
+does_decides files (solve game) status text h =
+    read_game files (solve game) status h.game h.says (at_true (is_scaled h.game) (status ≡ 0) (status ≡ 3) h.is_solved h.done)
+does_decides files (check game report) status text h =
+    accepted_decides files (check game report) game report h.game h.read status h.accepts refl refl h.accepts.is_checked (yes_decides h.game h.read status h.accepts.accepted h.done)
+does_decides files (show game report) status text h =
+    accepted_decides files (show game report) game report h.game h.read status h.accepts refl refl h.accepts.is_checked (shown_decides h.game h.read status h.accepts.accepted h.done)
 
-reads_same : (s : Scene) (says : Result Game GameFault) (bytes : List ℕ) → ReadsGame s says → HoldsGame s bytes → game_of_bytes bytes ≡ says
-reads_same s says bytes r h =
-    let name : r.name ≡ h.name = same_name s r.name h.name r.names h.names in
-    let there : MayHold (Some h.files) h.name r.bytes =
-    subst (λ (f : Option Files). MayHold f h.name r.bytes) h.told (subst (λ (n : List ℕ). MayHold s.files n r.bytes) name r.reads.may_hold) in
-    let same : r.bytes ≡ bytes = held_same h.files h.name r.bytes bytes there h.is_held in
-    ap game_of_bytes (sym same) ∙ r.game
+-- ---- the whole
 
-not_missing : (s : Scene) (name bytes : List ℕ) → Names s name → IsMissing s.files name → HoldsGame s bytes → ⊥
-not_missing s name bytes names k h =
-    let e : name ≡ h.name = same_name s name h.name names h.names in
-    let none : IsMissing (Some h.files) h.name = subst (λ (f : Option Files). IsMissing f h.name) h.told (subst (λ (n : List ℕ). IsMissing s.files n) e k) in
-    held_missing (Some h.files) h.name bytes h.is_held none
+same_asked : (s : Scene) (a b : Asked) → s.asked ≡ Some a → s.asked ≡ Some b → a ≡ b
+same_asked s a b p q = let e : ◌≡◌ {A = Option Asked} (Some a) (Some b) = sym p ∙ q in cc
 
-not_long : (s : Scene) (name bytes : List ℕ) (before after : ℕ) → Names s name → MayBeLong s.files name before after → HoldsGame s bytes → ⊥
-not_long s name bytes before after names k h =
-    let e : name ≡ h.name = same_name s name h.name names h.names in
-    let long : MayBeLong (Some h.files) h.name before after =
-    subst (λ (f : Option Files). MayBeLong f h.name before after) h.told (subst (λ (n : List ℕ). MayBeLong s.files n before after) e k) in
-    short_long (Some h.files) h.name bytes h.is_held h.short long.0
+no_asked : (s : Scene) (a : Asked) → s.asked ≡ None → s.asked ≡ Some a → ⊥
+no_asked s a p q = let e : ◌≡◌ {A = Option Asked} None (Some a) = sym p ∙ q in cc
 
-read_missing : (s : Scene) (says : Result Game GameFault) (name : List ℕ) → ReadsGame s says → Names s name → IsMissing s.files name → ⊥
-read_missing s says name r names k =
-    held_missing s.files name r.bytes (subst (λ (n : List ℕ). MayHold s.files n r.bytes) (same_name s r.name name r.names names) r.reads.may_hold) k
-
-read_long : (s : Scene) (says : Result Game GameFault) (name : List ℕ) → ReadsGame s says → Names s name → IsLong s.files name 4194304 → ⊥
-read_long s says name r names k =
-    short_long s.files name r.bytes (subst (λ (n : List ℕ). MayHold s.files n r.bytes) (same_name s r.name name r.names names) r.reads.may_hold) r.reads.within k
-
-game_fault : (g : Game) (f : GameFault) (says : Result Game GameFault) → says ≡ Ok g → says ≡ Err f → ⊥
-game_fault g f says p q = let e : ◌≡◌ {A = Result Game GameFault} (Ok g) (Err f) = sym p ∙ q in cc
-
-one_game : (g h : Game) (says : Result Game GameFault) → says ≡ Ok g → says ≡ Ok h → g ≡ h
-one_game g h says p q = let e : ◌≡◌ {A = Result Game GameFault} (Ok g) (Ok h) = sym p ∙ q in cc
-
--- ---- each answer
-
-solved_complete : (s : Scene) (status : ℕ) → status ≡ 0 → Solves s → IsComplete s status
-solved_complete s status e v =
-    let r = v.reports.reads in
+done_complete : (s : Scene) (status : ℕ) → IsDone s status → IsComplete s status
+done_complete s status d =
     record {
-      words = λ none. absurd (no_words s r.name none r.names);
-      missing = λ name names k. absurd (read_missing s _ name r names k);
-      long = λ name names k calm. absurd (read_long s _ name r names k);
-      refused = λ bytes fault h calm is. absurd (game_fault v.reports.game fault (game_of_bytes bytes) (reads_same s _ bytes r h) is);
-      not_yet = λ bytes game h calm is not.
-          let same : v.reports.game ≡ game = one_game v.reports.game game (game_of_bytes bytes) (reads_same s _ bytes r h) is in
-          absurd (not (subst IsSolved same v.reports.is_solved));
-      solved = λ bytes game h calm quiet is yes. inl e;
+      words = λ none. absurd (no_asked s d.asked none d.asks);
+      told = λ asked files asks is.
+          let here : Does (Some files) d.asked status d.text = subst (λ (f : Option Files). Does f d.asked status d.text) is d.does in
+          inr (inr (subst (λ (a : Asked). Decides files a status) (same_asked s d.asked asked d.asks asks) (does_decides files d.asked status d.text here)));
+    }
+
+stops_complete : (s : Scene) (status : ℕ) (refusal : Refusal) → status ≡ status_of refusal → Stops s refusal → IsComplete s status
+stops_complete s status refusal e c =
+    record {
+      words = λ none. absurd (no_asked s c.asked none c.asks);
+      told = λ asked files asks is.
+          let here : Fails (Some files) s.reads_before s.reads_after c.asked refusal =
+          subst (λ (f : Option Files). Fails f s.reads_before s.reads_after c.asked refusal) is c.cause in
+          fails_decides s status asked files refusal
+          (subst (λ (a : Asked). Fails (Some files) s.reads_before s.reads_after a refusal) (same_asked s c.asked asked c.asks asks) here) e;
     }
 
 refused_complete : (s : Scene) (status : ℕ) (refusal : Refusal) → status ≡ status_of refusal → ComesOf s refusal → IsComplete s status
-refused_complete s status Words e c =
-    record {
-      words = λ none. inl e;
-      missing = λ name names k. absurd (no_words s name c.0 names);
-      long = λ name names k calm. absurd (no_words s name c.0 names);
-      refused = λ bytes fault h calm is. absurd (no_words s h.name c.0 h.names);
-      not_yet = λ bytes game h calm is not. absurd (no_words s h.name c.0 h.names);
-      solved = λ bytes game h calm quiet is yes. absurd (no_words s h.name c.0 h.names);
-    }
-refused_complete s status GameNotRead e c =
-    let why = c.0 in
-    let never : (bytes : List ℕ) → HoldsGame s bytes → HasNotRisen s.reads_before s.reads_after → ⊥ =
-    λ bytes h calm. elim why.cause [ inl risen ↦ risen_not s.reads_before s.reads_after risen calm | inr gone ↦ not_missing s why.name bytes why.names gone h ] in
-    record {
-      words = λ none. absurd (no_words s why.name none why.names);
-      missing = λ name names k. inl e;
-      long = λ name names k calm.
-          absurd (elim why.cause [
-            | inl risen ↦ risen_not s.reads_before s.reads_after risen calm
-            | inr gone ↦ missing_long s.files name (subst (λ (n : List ℕ). IsMissing s.files n) (same_name s why.name name why.names names) gone) k
-          ]);
-      refused = λ bytes fault h calm is. absurd (never bytes h calm);
-      not_yet = λ bytes game h calm is not. absurd (never bytes h calm);
-      solved = λ bytes game h calm quiet is yes. absurd (never bytes h calm);
-    }
-refused_complete s status GameTooLong e c =
-    let why = c.0 in
-    let never : (bytes : List ℕ) → HoldsGame s bytes → ⊥ = λ bytes h. not_long s why.name bytes s.reads_before s.reads_after why.names why.cause h in
-    record {
-      words = λ none. absurd (no_words s why.name none why.names);
-      missing = λ name names k.
-          absurd (long_missing s.files name s.reads_before s.reads_after (subst (λ (n : List ℕ). MayBeLong s.files n s.reads_before s.reads_after) (same_name s why.name name why.names names) why.cause) k);
-      long = λ name names k calm. inl e;
-      refused = λ bytes fault h calm is. absurd (never bytes h);
-      not_yet = λ bytes game h calm is not. absurd (never bytes h);
-      solved = λ bytes game h calm quiet is yes. absurd (never bytes h);
-    }
-refused_complete s status (GameRefused fault') e c =
-    let r = c.0 in
-    record {
-      words = λ none. absurd (no_words s r.name none r.names);
-      missing = λ name names k. absurd (read_missing s _ name r names k);
-      long = λ name names k calm. absurd (read_long s _ name r names k);
-      refused = λ bytes fault h calm is. inl e;
-      not_yet = λ bytes game h calm is not. absurd (game_fault game fault' (game_of_bytes bytes) is (reads_same s _ bytes r h));
-      solved = λ bytes game h calm quiet is yes. absurd (game_fault game fault' (game_of_bytes bytes) is (reads_same s _ bytes r h));
-    }
-refused_complete s status NotYet e c =
-    let v = c.0 in
-    let r = v.reads in
-    record {
-      words = λ none. absurd (no_words s r.name none r.names);
-      missing = λ name names k. absurd (read_missing s _ name r names k);
-      long = λ name names k calm. absurd (read_long s _ name r names k);
-      refused = λ bytes fault h calm is. absurd (game_fault v.game fault (game_of_bytes bytes) (reads_same s _ bytes r h) is);
-      not_yet = λ bytes game h calm is not. inl e;
-      solved = λ bytes game h calm quiet is yes.
-          let same : game ≡ v.game = one_game game v.game (game_of_bytes bytes) is (reads_same s _ bytes r h) in
-          absurd (v.not_solved (subst IsSolved same yes));
-    }
+refused_complete s status Words e c = record { words = λ none. inl e; told = λ asked files asks is. absurd (no_asked s asked c.0 asks) }
+refused_complete s status Memory e c = record { words = λ none. inr e; told = λ asked files asks is. inl e }
 refused_complete s status NotWritten e c =
-    let r = c.reports.reads in
-    record {
-      words = λ none. absurd (no_words s r.name none r.names);
-      missing = λ name names k. absurd (read_missing s _ name r names k);
-      long = λ name names k calm. absurd (read_long s _ name r names k);
-      refused = λ bytes fault h calm is. absurd (game_fault c.reports.game fault (game_of_bytes bytes) (reads_same s _ bytes r h) is);
-      not_yet = λ bytes game h calm is not.
-          let same : c.reports.game ≡ game = one_game c.reports.game game (game_of_bytes bytes) (reads_same s _ bytes r h) is in
-          absurd (not (subst IsSolved same c.reports.is_solved));
-      solved = λ bytes game h calm quiet is yes. absurd (risen_not s.writes_before s.writes_after c.fault quiet);
-    }
-refused_complete s status Memory e c =
-    record {
-      words = λ none. inr e;
-      missing = λ name names k. inr e;
-      long = λ name names k calm. inr e;
-      refused = λ bytes fault h calm is. inr e;
-      not_yet = λ bytes game h calm is not. inr e;
-      solved = λ bytes game h calm quiet is yes. inr e;
-    }
+    record { words = λ none. absurd (no_asked s c.asked none c.asks); told = λ asked files asks is. inr (inl (inr (e, c.fault))) }
+refused_complete s status GameNotRead e c = stops_complete s status GameNotRead e c
+refused_complete s status GameTooLong e c = stops_complete s status GameTooLong e c
+refused_complete s status (GameRefused fault) e c = stops_complete s status (GameRefused fault) e c
+refused_complete s status NotYet e c = stops_complete s status NotYet e c
+refused_complete s status ReportNotRead e c = stops_complete s status ReportNotRead e c
+refused_complete s status ReportTooLong e c = stops_complete s status ReportTooLong e c
+refused_complete s status (ReportRefused fault) e c = stops_complete s status (ReportRefused fault) e c
+refused_complete s status (ReportWrong line reason) e c = stops_complete s status (ReportWrong line reason) e c
 
 pub answers_complete : (s : Scene) (faults_before faults_after : ℕ) (told_before told_after : Option (List ℕ)) (status : ℕ)
     → Answers s faults_before faults_after told_before told_after status → IsComplete s status
-answers_complete s fb fa tb ta status (inl h) = solved_complete s status h.0 h.1
+answers_complete s fb fa tb ta status (inl h) = done_complete s status h.0
 answers_complete s fb fa tb ta status (inr h) = refused_complete s status h.refusal h.is_status h.cause

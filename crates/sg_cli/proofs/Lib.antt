@@ -1,5 +1,4 @@
 pub mod Completes
-pub mod Tellings
-pub mod Causes
 pub mod Outcomes
+pub mod Tellings
 pub mod SmallNumbers

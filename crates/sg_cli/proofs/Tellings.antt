@@ -1,5 +1,5 @@
 -- What is told of a refusal, from what a put of its line took.
-use Rattle.std.proofs.Common.{◌≡◌, ℕ, ◌<◌, List, length, take, Option, Result, Ok, Err, sym, ap, subst, arith, OnOk, OnErr}
+use Rattle.std.proofs.Common.{◌≡◌, ℕ, ◌<◌, ◌≤◌, ◌+◌, ◌-◌, ◌^◌, min, List, length, take, Option, Result, Ok, Err, sym, ap, subst, arith, OnOk, OnErr}
 use Rattle.std.proofs.lemmas.List.{take_all}
 use Rattle.sg_shelf.specs.Faults.{HasRisen, HasNotRisen}
 use Rattle.sg_shelf.specs.Taken.{Takes, TakesFront}
@@ -7,7 +7,9 @@ use Rattle.sg_shelf.specs.declared.sink.SinkError.{SinkError}
 use Rattle.sg_cli.specs.Refusals.{line_of}
 use Rattle.sg_cli.specs.Runs.{Tells}
 use Rattle.sg_cli.specs.declared.refusal.Refusal.{Refusal}
-use Rattle.sg_cli.proofs.Completes.{risen_not}
+
+risen_not : (before after : ℕ) → HasRisen before after → HasNotRisen before after → ⊥
+risen_not before after h k = omega (arith, h, k)
 
 whole_front : (before after : Option (List ℕ)) (piece : List ℕ) → Takes before after piece → TakesFront before after piece
 whole_front before after piece h = (length piece, subst (λ (p : List ℕ). Takes before after p) (sym (take_all (length piece) piece (omega arith))) h)

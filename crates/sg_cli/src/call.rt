@@ -1,40 +1,49 @@
 //! The program's one call.
 
-ghost use Rattle.std.specs.Prelude.{◌≡◌, ◌≢◌, ◌≤◌, ◌⊎◌, MatchOption};
+ghost use Rattle.std.specs.Prelude.{◌≡◌, ◌≢◌, ◌≤◌, IfOk, IfErr};
 ghost use Rattle.sg_words.specs.Commands.{command_given};
-ghost use Rattle.sg_cli.specs.Refusals.{IsGameRefused, line_of};
-ghost use Rattle.sg_cli.specs.Runs.{scene, served, texts, Answers, IsComplete, Tells};
+ghost use Rattle.sg_cli.specs.Scenes.{scene, texts};
+ghost use Rattle.sg_cli.specs.Causes.{ComesOf};
+ghost use Rattle.sg_cli.specs.Runs.{Answers, IsComplete, IsDone};
 
+use crate::checking::check_named;
 use crate::refusal::Refusal;
-use crate::solving::obey;
+use crate::showing::show_named;
+use crate::solving::solve_named;
+use crate::telling::tell;
 use sg_shelf::{Shelf, Sink};
+use sg_words::{Command, command_of};
 use std::alloc::Global;
 
-/// Tells a refusal by its line. Where there is no memory for the line, that is told instead.
-fn tell<E: Sink>(alloc: Global, refusal: Refusal, err: &mut E) -> Refusal
-    ensures count { E.faults err.old ≤ E.faults err.new }
-    ensures same { (result ≡ refusal) ⊎ ((result ≡ Refusal.Memory) × IsGameRefused refusal) }
-    ensures tells { Tells (E.faults err.old) (E.faults err.new) (E.taken err.old) (E.taken err.new) result }
+/// Does what the words ask for, and answers the status of success.
+fn obey<S: Shelf, O: Sink>(
+    alloc: Global,
+    words: &[String],
+    shelf: &mut S,
+    out: &mut O,
+) -> Result<u8, Refusal>
+    ensures files { S.files shelf.new ≡ S.files shelf.old }
+    ensures reads { S.faults shelf.old ≤ S.faults shelf.new }
+    ensures writes { O.faults out.old ≤ O.faults out.new }
+    ensures kept { IfErr result (λ e. e ≢ Refusal.NotWritten → out.new ≡ out.old) }
+    ensures ok { IfOk result (IsDone (scene (command_given (texts words.now)) (S.files shelf.old) (S.faults shelf.old) (S.faults shelf.new)
+        (O.faults out.old) (O.faults out.new) (O.taken out.old) (O.taken out.new))) }
+    ensures err { IfErr result (ComesOf (scene (command_given (texts words.now)) (S.files shelf.old) (S.faults shelf.old) (S.faults shelf.new)
+        (O.faults out.old) (O.faults out.new) (O.taken out.old) (O.taken out.new))) }
 {
-    let Refusal::GameRefused(fault) = refusal else {
-        let _ = err.put(refusal.plain_line().as_bytes());
-        return refusal;
-    };
-    match Refusal::game_line(alloc, fault) {
-        Ok(line) => {
-            let _ = err.put(line.as_bytes());
-            refusal
-        }
-        Err(_) => {
-            let _ = err.put(Refusal::Memory.plain_line().as_bytes());
-            Refusal::Memory
-        }
+    match command_of(alloc, words) {
+        Ok(Some(Command::Solve { game })) => solve_named(alloc, game, shelf, out),
+        Ok(Some(Command::Check { game, report })) => check_named(alloc, game, report, shelf, out),
+        Ok(Some(Command::Show { game, report })) => show_named(alloc, game, report, shelf, out),
+        Ok(None) => Err(Refusal::Words),
+        Err(_) => Err(Refusal::Memory),
     }
 }
 
 /// Does what the words ask for, over the files of a shelf, and answers the status with which the program ends.
 ///
-/// `words` are the words after the program's name. The report goes to `out` in one piece, a refusal to `err` as one line.
+/// `words` are the words after the program's name. A report, the line that accepts one, or a table goes to `out`, a
+/// refusal to `err` as one line.
 pub fn run<S: Shelf, O: Sink, E: Sink>(
     alloc: Global,
     words: &Vec<String>,
@@ -42,18 +51,21 @@ pub fn run<S: Shelf, O: Sink, E: Sink>(
     out: &mut O,
     err: &mut E,
 ) -> u8
-    // One refusal decides the status, its cause and the line; with 0 the output took the report, and nothing is told.
-    ensures answer { Answers (scene (served (command_given (texts words.now.items))) (S.files shelf.old) (S.faults shelf.old) (S.faults shelf.new)
+    // The command was done, with the status and the text that are due, and nothing is told; or one refusal decides the
+    // status, its cause and the line.
+    ensures answer { Answers (scene (command_given (texts words.now.items)) (S.files shelf.old) (S.faults shelf.old) (S.faults shelf.new)
         (O.faults out.old) (O.faults out.new) (O.taken out.old) (O.taken out.new))
         (E.faults err.old) (E.faults err.new) (E.taken err.old) (E.taken err.new) result }
 
-    // Where nothing fails outside, it answers what the files say: but for want of memory it never gives up.
-    ensures complete { IsComplete (scene (served (command_given (texts words.now.items))) (S.files shelf.old) (S.faults shelf.old) (S.faults shelf.new)
+    // Where the files are told and no fault is counted, the status is the one that they decide: but for want of memory it
+    // never gives up.
+    ensures complete { IsComplete (scene (command_given (texts words.now.items)) (S.files shelf.old) (S.faults shelf.old) (S.faults shelf.new)
         (O.faults out.old) (O.faults out.new) (O.taken out.old) (O.taken out.new)) result }
 
-    // With 0 nothing is told; with any refusal but a failing output that is not touched at all.
+    // With success nothing is told; with any refusal but a failing output that is not touched at all.
     ensures silent { result ≡ 0 → err.new ≡ err.old }
-    ensures kept { result ≢ 0 → result ≢ 9 → out.new ≡ out.old }
+    ensures silent_gap { result ≡ 10 → err.new ≡ err.old }
+    ensures kept { result ≢ 0 → result ≢ 10 → result ≢ 9 → out.new ≡ out.old }
 
     // The shelf's files are as they were, and no count falls.
     ensures files { S.files shelf.new ≡ S.files shelf.old }
@@ -62,7 +74,7 @@ pub fn run<S: Shelf, O: Sink, E: Sink>(
     ensures tellings { E.faults err.old ≤ E.faults err.new }
 {
     match obey(alloc, words, shelf, out) {
-        Ok(()) => 0,
+        Ok(status) => status,
         Err(refusal) => tell(alloc, refusal, err).status(),
     }
 }

@@ -1,16 +1,24 @@
-//! The program's one call, [`run`]: words in, a report or a refusal out.
+//! The program's one call, [`run`]: words in; a report, a yes to one, a table or a refusal out.
 //!
-//! What it promises stands in `specs/Runs.antt` (`Answers`, `IsComplete`), what a right report is in
-//! `specs/Solutions.antt`, and the status and line of each refusal in `specs/Refusals.antt`.
+//! What it promises stands in `specs/Runs.antt` (`Answers`, `IsComplete`): what the commands do in `specs/Deeds.antt`, what
+//! each refusal comes of in `specs/Causes.antt`, which status told files decide in `specs/Decisions.antt`, and the status
+//! and line of each refusal in `specs/Refusals.antt`.
 #![tactic(auto)]
 
 mod call;
+mod checking;
+mod judging;
 mod ranges;
+mod reading;
 mod refusal;
+mod showing;
 mod solving;
+mod telling;
 
 pub use call::run;
 pub use refusal::Refusal;
 
+#[cfg(test)]
+mod report_tests;
 #[cfg(test)]
 mod tests;

@@ -4,14 +4,14 @@ use std::alloc::{AllocError, Global};
 use std::test::*;
 
 /// A game of the given top keys, whose one attacker has these payoffs.
-fn game_text(alloc: Global, keys: &str, payoffs: &str) -> Result<String, AllocError> {
+pub(crate) fn game_text(alloc: Global, keys: &str, payoffs: &str) -> Result<String, AllocError> {
     format!(in alloc;
         "version = 1\nform = \"security\"\n{keys}\n\n[[type]]\nname = \"thief\"\nprior = 1\npayoffs = {payoffs}\n"
     )
 }
 
 /// The words, as a program is given them.
-fn words_of(alloc: Global, words: &[&str]) -> Result<Vec<String>, AllocError> {
+pub(crate) fn words_of(alloc: Global, words: &[&str]) -> Result<Vec<String>, AllocError> {
     let mut all = Vec::new(alloc);
     for word in words {
         all.push(String::from_str(alloc, word)?)?;
@@ -48,7 +48,7 @@ fn answers(
 }
 
 /// Games of identical patrols, worked out by hand: the top keys, the payoffs, and the report.
-const SOLVED: [(&str, &str, &str); 19] = [
+pub(crate) const SOLVED: [(&str, &str, &str); 19] = [
     // Two targets, the first worth twice the second.
     (
         "scale = 4\npatrols = 1\ntargets = [\"t1\", \"t2\"]",
@@ -280,7 +280,7 @@ fn refuses_games(rt: HostRuntime) -> Result<(), AllocError> {
 #[test]
 fn refuses_words_and_names(rt: HostRuntime) -> Result<(), AllocError> {
     let alloc = rt.alloc();
-    let lists: [&[&str]; 10] = [
+    let lists: [&[&str]; 8] = [
         &[],
         &["solve"],
         &["game.toml"],
@@ -288,8 +288,6 @@ fn refuses_words_and_names(rt: HostRuntime) -> Result<(), AllocError> {
         &["solve", "game.toml", "--nodes", "01"],
         &["solve", "game.toml", "--seed=3", "--seed=3"],
         &["check", "game.toml"],
-        &["check", "game.toml", "report"],
-        &["show", "game.toml", "report"],
         &["solve", "-"],
     ];
     for words in lists {

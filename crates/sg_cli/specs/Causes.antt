@@ -1,0 +1,110 @@
+-- What each refusal comes of.
+use Rattle.std.specs.Prelude.{◌≡◌, ◌⊎◌, ℕ, List, Option, Some, None, Ok, Err}
+use Rattle.sg_model.specs.Games.{Game}
+use Rattle.sg_tree.specs.declared.report.Report.{Report}
+use Rattle.sg_bounds.specs.Checking.{IsRefused}
+use Rattle.sg_shelf.specs.Faults.{HasRisen, HasNotRisen}
+use Rattle.sg_shelf.specs.Files.{Files, IsMissing, IsLong}
+use Rattle.sg_shelf.specs.Taken.{Takes, TakesFront}
+use Rattle.sg_words.specs.Commands.{Asked, solve, check, show}
+use Rattle.sg_cli.specs.Scenes.{Scene, SaysGame, SaysReport, game_limit, game_name, report_limit, report_name}
+use Rattle.sg_cli.specs.Solutions.{IsSolved, IsChecked, IsCheckable}
+use Rattle.sg_cli.specs.Deeds.{Does}
+use Rattle.sg_cli.specs.declared.refusal.Refusal.{Refusal}
+use Rattle.sg_cli.specs.declared.refusal.Refusal.TheVariants.{Words, GameNotRead, GameTooLong, GameRefused, NotYet, ReportNotRead, ReportTooLong, ReportRefused, ReportWrong, NotWritten, Memory}
+
+-- the games that a command takes so far
+abbrev pub IsTaken : Asked → Game → Type 0
+IsTaken (solve game) g = IsSolved g
+IsTaken (check game report) g = IsChecked g
+IsTaken (show game report) g = IsChecked g
+
+-- the count of the shelf's faults rose, or the files are told and none has the name
+abbrev pub IsNotRead : Option Files → List ℕ → ℕ → ℕ → Type 0
+IsNotRead files name before after = HasRisen before after ⊎ IsMissing files name
+
+-- where the files are told, the game's has more bytes than it may and no fault was counted
+abbrev pub IsGameLong : Option Files → List ℕ → ℕ → ℕ → Type 0
+IsGameLong None name before after = Unit {0}
+IsGameLong (Some files) name before after = IsLong (Some files) name game_limit × HasNotRisen before after
+
+-- where the files are told, the report's has more bytes than it may
+abbrev pub IsReportLong : Option Files → List ℕ → Type 0
+IsReportLong None name = Unit {0}
+IsReportLong (Some files) name = IsLong (Some files) name report_limit
+
+-- the command's game was read, and the command takes it
+pub record TakesGame (files : Option Files) (asked : Asked) (g : Game) : Type 0 where
+  pub says : SaysGame files (game_name asked) (Ok g)
+  pub taken : IsTaken asked g
+
+-- the command reads a report too, after a game that it takes, and this holds of the report's file
+pub record OfReport (files : Option Files) (asked : Asked) (P : Game → List ℕ → Type 0) : Type 0 where
+  pub game : Game
+  pub takes : TakesGame files asked game
+  pub report : List ℕ
+  pub names : report_name asked ≡ Some report
+  pub holds : P game report
+
+-- a game was read that the command doesn't take yet
+pub record IsGameNotYet (files : Option Files) (asked : Asked) : Type 0 where
+  pub game : Game
+  pub says : SaysGame files (game_name asked) (Ok game)
+  pub not_taken : ¬ (IsTaken asked game)
+
+-- a report was read, and this holds of it
+pub record ReadsReport (files : Option Files) (P : Report → Type 0) (name : List ℕ) : Type 0 where
+  pub read : Report
+  pub says : SaysReport files name (Ok read)
+  pub holds : P read
+
+-- a report that is checked, and refused there
+pub record IsWrong (g : Game) (line reason : ℕ) (r : Report) : Type 0 where
+  pub is_checkable : IsCheckable r
+  pub refused : IsRefused g r line reason
+
+-- what a refusal comes of before anything is written; want of memory may come at any time
+abbrev pub Fails : Option Files → ℕ → ℕ → Asked → Refusal → Type 0
+Fails files before after asked GameNotRead = IsNotRead files (game_name asked) before after
+Fails files before after asked GameTooLong = IsGameLong files (game_name asked) before after
+Fails files before after asked (GameRefused fault) = SaysGame files (game_name asked) (Err fault)
+Fails files before after asked NotYet =
+    IsGameNotYet files asked ⊎ OfReport files asked (λ g report. ReadsReport files (λ r. ¬ (IsCheckable r)) report)
+Fails files before after asked ReportNotRead = OfReport files asked (λ g report. IsNotRead files report before after)
+Fails files before after asked ReportTooLong = OfReport files asked (λ g report. IsReportLong files report)
+Fails files before after asked (ReportRefused fault) = OfReport files asked (λ g report. SaysReport files report (Err fault))
+Fails files before after asked (ReportWrong line reason) = OfReport files asked (λ g report. ReadsReport files (IsWrong g line reason) report)
+Fails files before after asked Memory = Unit {0}
+Fails files before after asked Words = ⊥
+Fails files before after asked NotWritten = ⊥
+
+-- the words ask for a command, which fails so, and the output is as it was
+pub record Stops (s : Scene) (refusal : Refusal) : Type 0 where
+  pub asked : Asked
+  pub asks : s.asked ≡ Some asked
+  pub cause : Fails s.files s.reads_before s.reads_after asked refusal
+  pub kept : s.out_after ≡ s.out_before
+
+-- the count of the output's faults rose, and the output took a front of the text that the command writes
+pub record IsNotWritten (s : Scene) : Type 0 where
+  pub fault : HasRisen s.writes_before s.writes_after
+  pub asked : Asked
+  pub asks : s.asked ≡ Some asked
+  pub status : ℕ
+  pub text : List ℕ
+  pub does : Does s.files asked status text
+  pub takes : TakesFront s.out_before s.out_after text
+
+-- what a refusal comes of
+abbrev pub ComesOf : Scene → Refusal → Type 0
+ComesOf s Words = (s.asked ≡ None) × (s.out_after ≡ s.out_before)
+ComesOf s Memory = s.out_after ≡ s.out_before
+ComesOf s NotWritten = IsNotWritten s
+ComesOf s GameNotRead = Stops s GameNotRead
+ComesOf s GameTooLong = Stops s GameTooLong
+ComesOf s (GameRefused fault) = Stops s (GameRefused fault)
+ComesOf s NotYet = Stops s NotYet
+ComesOf s ReportNotRead = Stops s ReportNotRead
+ComesOf s ReportTooLong = Stops s ReportTooLong
+ComesOf s (ReportRefused fault) = Stops s (ReportRefused fault)
+ComesOf s (ReportWrong line reason) = Stops s (ReportWrong line reason)

@@ -1,0 +1,71 @@
+-- A run as seen from outside, and what the files that its words name say.
+use Rattle.std.specs.Prelude.{◌≡◌, ℕ, List, map, String, string_bytes, Option, Some, None, Result}
+use Rattle.std.specs.declared.alloc.Global.{Global}
+use Rattle.sg_model.specs.declared.fault.GameFault.{GameFault}
+use Rattle.sg_model.specs.Games.{Game}
+use Rattle.sg_format.specs.GameFiles.{game_of_bytes}
+use Rattle.sg_tree.specs.declared.report.Report.{Report}
+use Rattle.sg_cert.specs.declared.fault.ReportFault.{ReportFault}
+use Rattle.sg_cert.specs.Reading.{report_of}
+use Rattle.sg_shelf.specs.Files.{Files, Reads}
+use Rattle.sg_words.specs.Commands.{Asked, solve, check, show}
+
+-- what the words ask for, the files of the shelf where they are told, the counts of its faults before and after, those of
+-- the output, and the bytes that the output took before and after, where they are told
+pub record Scene : Type 0 where
+  pub asked : Option Asked
+  pub files : Option Files
+  pub reads_before : ℕ
+  pub reads_after : ℕ
+  pub writes_before : ℕ
+  pub writes_after : ℕ
+  pub out_before : Option (List ℕ)
+  pub out_after : Option (List ℕ)
+
+-- these, in one record
+abbrev pub scene : Option Asked → Option Files → (reads_before reads_after writes_before writes_after : ℕ) → (out_before out_after : Option (List ℕ)) → Scene
+scene asked files reads_before reads_after writes_before writes_after out_before out_after = record {
+  asked = asked;
+  files = files;
+  reads_before = reads_before;
+  reads_after = reads_after;
+  writes_before = writes_before;
+  writes_after = writes_after;
+  out_before = out_before;
+  out_after = out_after;
+}
+
+-- words as lists of bytes
+abbrev pub texts : List (String Global) → List (List ℕ)
+texts words = map string_bytes words
+
+-- the name of the game's file
+abbrev pub game_name : Asked → List ℕ
+game_name (solve game) = game
+game_name (check game report) = game
+game_name (show game report) = game
+
+-- the name of the report's file, where the command reads one
+abbrev pub report_name : Asked → Option (List ℕ)
+report_name (solve game) = None
+report_name (check game report) = Some report
+report_name (show game report) = Some report
+
+-- the most bytes that a game's file may have, and a report's
+abbrev pub game_limit : ℕ
+game_limit = 4194304
+
+abbrev pub report_limit : ℕ
+report_limit = 536870912
+
+-- the whole file of this name, within the limit, was read, and says this of a game
+pub record SaysGame (files : Option Files) (name : List ℕ) (says : Result Game GameFault) : Type 0 where
+  pub bytes : List ℕ
+  pub reads : Reads files name game_limit bytes
+  pub game : game_of_bytes bytes ≡ says
+
+-- and this of a report
+pub record SaysReport (files : Option Files) (name : List ℕ) (says : Result Report ReportFault) : Type 0 where
+  pub bytes : List ℕ
+  pub reads : Reads files name report_limit bytes
+  pub report : report_of bytes ≡ says

@@ -1,0 +1,80 @@
+//! Reads a game and a report on it, and checks the report.
+
+ghost use Rattle.std.specs.Prelude.{◌≡◌, ◌≤◌, IfOk, IfErr, List, OnOk, Ok, ℕ};
+ghost use Rattle.sg_words.specs.Commands as commands;
+ghost use Rattle.sg_cli.specs.Scenes.{SaysReport};
+ghost use Rattle.sg_cli.specs.Causes.{Fails};
+ghost use Rattle.sg_cli.specs.Deeds.{Accepts};
+ghost use Rattle.sg_cli.specs.Solutions.{IsChecked};
+ghost use Rattle.sg_cli.specs.Readings.{HasChecked, IsJudged, JudgingFails};
+
+use crate::reading::{game_named, report_named};
+use crate::refusal::Refusal;
+use sg_check::{Verdict, check, has_cover};
+use sg_game::Game;
+use sg_shelf::Shelf;
+use sg_tree::Report;
+use std::alloc::Global;
+
+/// A game, and a report that is accepted for it.
+#[derive(Drop)]
+pub(crate) struct Accepted {
+    pub(crate) game: Game,
+    pub(crate) report: Report,
+}
+
+/// The game in the file of that name, where reports on it are checked.
+fn checked_game<S: Shelf>(
+    alloc: Global,
+    shelf: &mut S,
+    name: &str,
+) -> Result<Game, Refusal>
+    ensures files { S.files shelf.new ≡ S.files shelf.old }
+    ensures count { S.faults shelf.old ≤ S.faults shelf.new }
+    ensures ok { IfOk result (HasChecked (S.files shelf.old) name.now) }
+    ensures err { IfErr result (λ e. (report : List ℕ) → Fails (S.files shelf.old) (S.faults shelf.old) (S.faults shelf.new) (commands.check name.now report) e) }
+{
+    let game = game_named(alloc, shelf, name)?;
+    if game.types() == 1 {
+        Ok(game)
+    } else {
+        Err(Refusal::NotYet)
+    }
+}
+
+/// Checks a report, where it is one that is checked.
+fn judge(alloc: Global, game: &Game, report: &Report) -> Result<(), Refusal>
+    requires { IsChecked game.now }
+    ensures ok { OnOk result (IsJudged game.now report.now) }
+    ensures err { IfErr result (JudgingFails game.now report.now) }
+{
+    if has_cover(report) {
+        return Err(Refusal::NotYet);
+    }
+    match check(alloc, game, report) {
+        Ok(Verdict::YesOptimal(_)) => Ok(()),
+        Ok(Verdict::YesGap(_, _)) => Ok(()),
+        Ok(Verdict::No { line, reason }) => Err(Refusal::ReportWrong { line, reason }),
+        Err(_) => Err(Refusal::Memory),
+    }
+}
+
+/// The game and the report in the files of these names, where the report is accepted for the game.
+pub(crate) fn accepted_named<S: Shelf>(
+    alloc: Global,
+    name: &str,
+    report: &str,
+    shelf: &mut S,
+) -> Result<Accepted, Refusal>
+    ensures files { S.files shelf.new ≡ S.files shelf.old }
+    ensures count { S.faults shelf.old ≤ S.faults shelf.new }
+    ensures ok { IfOk result (λ pair. Accepts (S.files shelf.old) name.now report.now pair.game pair.report) }
+    ensures err { IfErr result (Fails (S.files shelf.old) (S.faults shelf.old) (S.faults shelf.new) (commands.check name.now report.now)) }
+{
+    let game = checked_game(alloc, shelf, name)?;
+    let read = report_named(alloc, shelf, report)?;
+    match judge(alloc, &game, &read) {
+        Ok(()) => Ok(Accepted { game, report: read }),
+        Err(refusal) => Err(refusal),
+    }
+}

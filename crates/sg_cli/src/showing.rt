@@ -1,0 +1,75 @@
+//! What `show` does: reads a game and a report on it, and writes the report as a table for people where it is accepted.
+
+ghost use Rattle.std.specs.Prelude.{◌≡◌, ◌≢◌, ◌≤◌, IfOk, IfErr, Some};
+ghost use Rattle.sg_bounds.specs.Accepted.{IsAccepted};
+ghost use Rattle.sg_report.specs.Tables.{IsTable};
+ghost use Rattle.sg_words.specs.Commands as commands;
+ghost use Rattle.sg_cli.specs.Scenes.{scene};
+ghost use Rattle.sg_cli.specs.Causes.{ComesOf};
+ghost use Rattle.sg_cli.specs.Runs.{IsDone};
+
+use crate::judging::{Accepted, accepted_named};
+use crate::refusal::Refusal;
+use sg_commit::Commitment;
+use sg_game::Game;
+use sg_report::{ShowFault, show_text};
+use sg_shelf::{Shelf, Sink};
+use sg_tree::Report;
+use std::alloc::{AllocError, Global};
+
+/// The tickets of an accepted report.
+fn commitment_of(game: &Game, report: Report) -> Commitment
+    requires { IsAccepted game.now report }
+    ensures { result ≡ record { tickets = report.tickets.tickets; total = report.tickets.total } }
+{
+    match report.tickets.commit() {
+        Some(commitment) => commitment,
+        None => unreachable!(),
+    }
+}
+
+/// The table of an accepted report.
+fn table_of(alloc: Global, pair: Accepted) -> Result<Vec<u8>, AllocError>
+    requires { IsAccepted pair.game pair.report }
+    ensures { IfOk result (λ text. IsTable pair.game pair.report.tickets.tickets pair.report.upper text.items) }
+{
+    let Accepted { game, report } = pair;
+    let upper = report.upper;
+    let commitment = commitment_of(&game, report);
+    match show_text(alloc, &game, &commitment, upper) {
+        Ok(text) => Ok(text),
+        Err(ShowFault::Memory) => Err(AllocError),
+        Err(ShowFault::Wide(_)) => unreachable!(),
+    }
+}
+
+/// Shows the report in the one file on the game in the other.
+pub(crate) fn show_named<S: Shelf, O: Sink>(
+    alloc: Global,
+    name: &str,
+    report: &str,
+    shelf: &mut S,
+    out: &mut O,
+) -> Result<u8, Refusal>
+    ensures files { S.files shelf.new ≡ S.files shelf.old }
+    ensures reads { S.faults shelf.old ≤ S.faults shelf.new }
+    ensures writes { O.faults out.old ≤ O.faults out.new }
+    ensures kept { IfErr result (λ e. e ≢ Refusal.NotWritten → out.new ≡ out.old) }
+    ensures ok { IfOk result (IsDone (scene (Some (commands.show name.now report.now)) (S.files shelf.old) (S.faults shelf.old) (S.faults shelf.new)
+        (O.faults out.old) (O.faults out.new) (O.taken out.old) (O.taken out.new))) }
+    ensures err { IfErr result (ComesOf (scene (Some (commands.show name.now report.now)) (S.files shelf.old) (S.faults shelf.old) (S.faults shelf.new)
+        (O.faults out.old) (O.faults out.new) (O.taken out.old) (O.taken out.new))) }
+{
+    let pair = match accepted_named(alloc, name, report, shelf) {
+        Ok(pair) => pair,
+        Err(refusal) => return Err(refusal),
+    };
+    let text = match table_of(alloc, pair) {
+        Ok(text) => text,
+        Err(_) => return Err(Refusal::Memory),
+    };
+    match out.put(&text) {
+        Ok(()) => Ok(0),
+        Err(_) => Err(Refusal::NotWritten),
+    }
+}
