@@ -125,7 +125,8 @@ pub served_accepted : (g : Game) → IsGame g → is_scaled g ≡ true → (f : 
     → IsAccepted g (record { tickets = record { tickets = k; total = d }; value = value; caps = []; tree = Closed (Water f.level f.reason); upper = value; ending = Optimal })
 served_accepted g is sc f h k d s value is_v reduced =
     let total : d ≡ weight_total k = s.right.total in
-    let fit = small_totals_fit g is k s.right.commitment (small_base g is sc k (omega (arith, ints, total, s.right.few))) in
+    let few : d ≤ℤ pos (2 ^ 78) = s.right.few in
+    let fit = small_totals_fit g is k s.right.commitment (small_base g is sc k (omega (arith, ints, total, few))) in
     let a = level_accepted g is sc k s.right.commitment s.right.lowest value is_v reduced f.level f.reason h.water (level_tickets g f h k d s) fit.0 fit.1 in
     subst (λ (z : ℤ). IsAccepted g (record { tickets = record { tickets = k; total = z }; value = value; caps = []; tree = Closed (Water f.level f.reason); upper = value; ending = Optimal })) (sym total) a
 
