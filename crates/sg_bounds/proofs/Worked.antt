@@ -20,7 +20,7 @@ use Rattle.sg_model.specs.declared.level.Level.TheVariants.{Resources, Target}
 use Rattle.sg_bounds.specs.Trees.{Node, unproved, closed, split, node_of, parts_of}
 use Rattle.sg_bounds.specs.Accepted.{IsAccepted}
 use Rattle.sg_bounds.specs.Checking.{IsRefused}
-use Rattle.sg_bounds.specs.Examples.{WorkedReports, late_fact, row_report, shared_fact, shared_report, short_fact, cover_report, first_fact, level_tree, low_water, mark, nested_report, no_target, one_target, one_type_report, one_type_tree, open_report, open_tree, over, over_cover, over_plays, plain_cap, proved_cap, reported, row, second_fact, small_mark, spent_report, split_for_scaled, two_to_one, two_types_tree, water_report, wide_bound, with_caps, with_tickets, with_tree}
+use Rattle.sg_bounds.specs.Examples.{WorkedReports, based_report, dominated, dominated_report, empty_fact, half_dominated, half_dominated_report, open_below, sized_report, unbased_report, weighted_fact, weighted_players, weighted_report, late_fact, row_report, shared_fact, shared_report, short_fact, cover_report, first_fact, level_tree, low_water, mark, nested_report, no_target, one_target, one_type_report, one_type_tree, open_report, open_tree, over, over_cover, over_plays, plain_cap, proved_cap, reported, row, second_fact, small_mark, spent_report, split_for_scaled, two_to_one, two_types_tree, water_report, wide_bound, with_caps, with_tickets, with_tree}
 use Rattle.sg_bounds.proofs.Told.{Decides-le_z}
 use Rattle.sg_bounds.proofs.Nodes.{node_of-Closed, node_of-Split, node_of-Unproved}
 use Rattle.sg_bounds.proofs.Answering.{accepted_by, answer, refused_by, stops_at}
@@ -141,6 +141,34 @@ row_node middle = three_facts (over_plays 2 3 (mark 1 3 1 ∷ [])) middle (over_
 row_is : (middle : Fact) → node_of (row_report middle).tree ≡ row_node middle
 row_is middle = three_parts (over_plays 2 3 (mark 1 3 1 ∷ [])) middle (over_plays 2 3 (mark 1 1 1 ∷ []))
 
+open_pair : (l : ℕ) (base : Option Fact) → node_of (Split l base (Unproved ∷ Unproved ∷ [])) ≡ split l base (parts_of (unproved ∷ unproved ∷ []))
+open_pair l base =
+    split-nodes l base (Unproved ∷ Unproved ∷ []) (unproved ∷ unproved ∷ [])
+    (one_more Unproved unproved (Unproved ∷ []) (unproved ∷ []) node_of-Unproved (one_more Unproved unproved [] [] node_of-Unproved refl))
+
+abbrev below_node : Fact → ℕ → Option Fact → Node
+below_node f l base = split 1 None (parts_of (closed f ∷ split l base (parts_of (unproved ∷ unproved ∷ [])) ∷ []))
+
+below_is : (f : Fact) (l : ℕ) (base : Option Fact) → node_of (open_below f l base) ≡ below_node f l base
+below_is f l base =
+    let inner : Tree = Split l base (Unproved ∷ Unproved ∷ []) in
+    let node : Node = split l base (parts_of (unproved ∷ unproved ∷ [])) in
+    split-nodes 1 None (Closed f ∷ inner ∷ []) (closed f ∷ node ∷ [])
+    (one_more (Closed f) (closed f) (inner ∷ []) (node ∷ []) (node_of-Closed f) (one_more inner node [] [] (open_pair l base) refl))
+
+abbrev weighted_node : Node
+weighted_node =
+    split 1 None (parts_of (closed (over_plays 1 4 []) ∷ split 2 (Some weighted_fact) (parts_of (closed (over_plays 3 37 (mark 2 2 5 ∷ [])) ∷ closed (over_plays 3 55 (mark 1 1 5 ∷ [])) ∷ [])) ∷ []))
+
+weighted_is : (v : ℕ) → node_of (weighted_report v).tree ≡ weighted_node
+weighted_is v = nested_parts (over_plays 1 4 []) weighted_fact (over_plays 3 37 (mark 2 2 5 ∷ [])) (over_plays 3 55 (mark 1 1 5 ∷ []))
+
+abbrev sized_fact : ℕ → Fact
+sized_fact v = over_plays 1 (v + 2) (mark 1 2 v ∷ [])
+
+sized_is : (v : ℕ) → node_of (sized_report v).tree ≡ two_facts (sized_fact v) second_fact
+sized_is v = two_parts 1 None (sized_fact v) second_fact
+
 pub worked_reports : WorkedReports
 worked_reports = record {
   water = right two_targets water_report (closed (Water (over 4 3) Resources)) (node_of-Closed (Water (over 4 3) Resources)) refl refl refl refl;
@@ -184,4 +212,13 @@ worked_reports = record {
   late = wrong neighbours (shared_report late_fact) (three_facts late_fact late_fact late_fact) (three_parts late_fact late_fact late_fact) 9 6 refl refl;
   in_row = right in_a_row (row_report (over_plays 2 3 (mark 1 1 1 ∷ mark 1 3 1 ∷ []))) (row_node (over_plays 2 3 (mark 1 1 1 ∷ mark 1 3 1 ∷ []))) (row_is (over_plays 2 3 (mark 1 1 1 ∷ mark 1 3 1 ∷ []))) refl refl refl refl;
   one_mark = wrong in_a_row (row_report (over_plays 2 3 (mark 1 1 1 ∷ []))) (row_node (over_plays 2 3 (mark 1 1 1 ∷ []))) (row_is (over_plays 2 3 (mark 1 1 1 ∷ []))) 10 6 refl refl;
+  weighted = right weighted_players (weighted_report 3) weighted_node (weighted_is 3) refl refl refl refl;
+  weighted_low = wrong weighted_players (weighted_report 2) weighted_node (weighted_is 2) 6 4 refl refl;
+  based = right weighted_players based_report (below_node (over_plays 1 4 []) 2 (Some weighted_fact)) (below_is (over_plays 1 4 []) 2 (Some weighted_fact)) refl refl refl refl;
+  unbased = right two_players (unbased_report 2) (below_node (over_plays 1 2 []) 2 None) (below_is (over_plays 1 2 []) 2 None) refl refl refl refl;
+  other_split = wrong two_players (unbased_report 1) (below_node (over_plays 1 2 []) 1 None) (below_is (over_plays 1 2 []) 1 None) 9 5 refl refl;
+  empty = right dominated dominated_report (two_facts first_fact empty_fact) (two_parts 1 None first_fact empty_fact) refl refl refl refl;
+  empty_base = right half_dominated half_dominated_report (below_node (over_plays 1 2 []) 2 (Some empty_fact)) (below_is (over_plays 1 2 []) 2 (Some empty_fact)) refl refl refl refl;
+  size_fits = right one_player (sized_report (2 ^ 126 - 3)) (two_facts (sized_fact (2 ^ 126 - 3)) second_fact) (sized_is (2 ^ 126 - 3)) refl refl refl refl;
+  size_past = wrong one_player (sized_report (2 ^ 126 - 2)) (two_facts (sized_fact (2 ^ 126 - 2)) second_fact) (sized_is (2 ^ 126 - 2)) 8 9 refl refl;
 }

@@ -1,10 +1,10 @@
 -- Small reports whose tests can be worked out by hand.
-use Rattle.std.specs.Prelude.{ℕ, ◌+◌, ◌-◌, ◌^◌, List, [], ◌∷◌, pos, Some, None}
+use Rattle.std.specs.Prelude.{ℕ, ◌+◌, ◌-◌, ◌^◌, List, [], ◌∷◌, ℤ, pos, codes, Option, Some, None}
 use Rattle.sg_frac.specs.Fractions.{Fraction}
 use Rattle.sg_model.specs.declared.level.Level.TheVariants.{Resources, Target}
 use Rattle.sg_model.specs.declared.ticket.Ticket.{Ticket}
-use Rattle.sg_model.specs.Games.{Game}
-use Rattle.sg_model.specs.Examples.{in_a_row, minus, neighbour_tickets, neighbours, one_player, patrolled, pays, row_tickets, ticket, two_players, two_targets}
+use Rattle.sg_model.specs.Games.{Attacker, Game}
+use Rattle.sg_model.specs.Examples.{in_a_row, leads, minus, neighbour_tickets, neighbours, one_player, patrolled, pays, player, row_tickets, tabled, ticket, two_players, two_targets}
 use Rattle.sg_tree.specs.declared.fact.Mark.{Mark}
 use Rattle.sg_tree.specs.declared.fact.Line.{Line}
 use Rattle.sg_tree.specs.declared.fact.Fact.{Fact}
@@ -193,6 +193,81 @@ late_fact = over_cover 3 5 (row 1 1 ∷ row 2 1 ∷ row 3 1 ∷ row 4 1 ∷ row 
 abbrev pub row_report : Fact → Report
 row_report middle = reported row_tickets 2 (under 1 2) [] (Split 1 None (Closed (over_plays 2 3 (mark 1 3 1 ∷ [])) ∷ Closed middle ∷ Closed (over_plays 2 3 (mark 1 1 1 ∷ [])) ∷ [])) (under 1 2) Optimal
 
+-- ---- priors, shifts and bases
+
+-- a type that comes this often
+abbrev pub weighing : ℕ → Attacker → Attacker
+weighing often x = record x { prior = pos often }
+
+-- what the defender gets in the tables, at least 0, so that the shift is 1
+abbrev pub low_leads : List (List ℤ)
+low_leads = (pos 1 ∷ pos 3 ∷ []) ∷ (pos 0 ∷ pos 2 ∷ []) ∷ []
+
+-- the first type comes on two of five days, and the second, which answers the other way round, on three
+abbrev pub weighted_players : Game
+weighted_players =
+    tabled (weighing 2 (player (codes "first") low_leads ((pos 1 ∷ pos 0 ∷ []) ∷ (pos 0 ∷ pos 2 ∷ []) ∷ []))
+    ∷ weighing 3 (player (codes "second") low_leads ((pos 0 ∷ pos 1 ∷ []) ∷ (pos 2 ∷ pos 0 ∷ []) ∷ [])) ∷ [])
+
+-- where the first type takes its second action
+abbrev pub weighted_fact : Fact
+weighted_fact = over_plays 3 22 (mark 1 1 2 ∷ [])
+
+-- a cap of the second type with a fact for each of its actions, the second of which is within 3
+abbrev pub weighted_caps : ℕ → List Cap
+weighted_caps v = proved_cap v (over_plays 1 5 (mark 2 2 1 ∷ [])) (over_plays 1 12 [])
+
+-- the first choice on two tickets of three, worth 8 / 3, under bounds of 11 / 5, 22 / 15 and 8 / 3
+abbrev pub weighted_report : ℕ → Report
+weighted_report v =
+    reported two_to_one 3 (over 8 3) (weighted_caps v)
+    (Split 1 None (Closed (over_plays 1 4 []) ∷ Split 2 (Some weighted_fact) (Closed (over_plays 3 37 (mark 2 2 5 ∷ [])) ∷ Closed (over_plays 3 55 (mark 1 1 5 ∷ [])) ∷ []) ∷ []))
+    (over 8 3) Optimal
+
+-- the first action of the first type has this fact, the second is split by type l, with this base and nothing proved below it
+abbrev pub open_below : Fact → ℕ → Option Fact → Tree
+open_below f l base = Split 1 None (Closed f ∷ Split l base (Unproved ∷ Unproved ∷ []) ∷ [])
+
+-- the first choice alone, worth 11 / 5: what is open has the bound of its split's base, 43 / 15
+abbrev pub based_report : Report
+based_report = reported one_alone 1 (over 11 5) (plain_cap 2 3) (open_below (over_plays 1 4 []) 2 (Some weighted_fact)) (over 43 15) (Gap (Nodes 2))
+
+-- the first choice alone, worth 3: what is open below an open base has the bound of the base above, here the root's, 4
+abbrev pub unbased_report : ℕ → Report
+unbased_report l = reported one_alone 1 (over 3 1) (plain_cap 2 4) (open_below (over_plays 1 2 []) l None) (over 4 1) (Gap (Nodes 1))
+
+-- ---- empty regions
+
+-- what a type gets whose second action is never best
+abbrev pub one_sided : List (List ℤ)
+one_sided = (pos 1 ∷ pos 0 ∷ []) ∷ (pos 1 ∷ pos 0 ∷ []) ∷ []
+
+-- such a type alone
+abbrev pub dominated : Game
+dominated = tabled (player (codes "first") leads one_sided ∷ [])
+
+-- and with a second type
+abbrev pub half_dominated : Game
+half_dominated = tabled (player (codes "first") leads one_sided ∷ player (codes "second") leads ((pos 0 ∷ pos 1 ∷ []) ∷ (pos 2 ∷ pos 0 ∷ []) ∷ []) ∷ [])
+
+-- no commitment lies where it takes its second action
+abbrev pub empty_fact : Fact
+empty_fact = over_plays 1 0 (mark 1 1 4 ∷ [])
+
+-- the first choice alone, worth 2: the second part bounds nothing
+abbrev pub dominated_report : Report
+dominated_report = reported one_alone 1 (over 2 1) [] (one_type_tree first_fact empty_fact) (over 2 1) Optimal
+
+-- the first choice alone, worth 3: what is open below an empty base is left out
+abbrev pub half_dominated_report : Report
+half_dominated_report = reported one_alone 1 (over 3 1) (plain_cap 2 4) (open_below (over_plays 1 2 []) 2 (Some empty_fact)) (over 3 1) Optimal
+
+-- ---- sizes
+
+-- a first fact whose size sum is 4 and twice its multiplier v, with a bound of v + 2
+abbrev pub sized_report : ℕ → Report
+sized_report v = reported two_to_one 3 (over 11 3) [] (one_type_tree (over_plays 1 (v + 2) (mark 1 2 v ∷ [])) second_fact) (over (v + 2) 1) (Gap (Nodes 2))
+
 -- the answers, as worked out by hand
 pub record WorkedReports : Type 0 where
   pub water : IsAccepted two_targets water_report
@@ -236,3 +311,12 @@ pub record WorkedReports : Type 0 where
   pub late : IsRefused neighbours (shared_report late_fact) 9 6
   pub in_row : IsAccepted in_a_row (row_report (over_plays 2 3 (mark 1 1 1 ∷ mark 1 3 1 ∷ [])))
   pub one_mark : IsRefused in_a_row (row_report (over_plays 2 3 (mark 1 1 1 ∷ []))) 10 6
+  pub weighted : IsAccepted weighted_players (weighted_report 3)
+  pub weighted_low : IsRefused weighted_players (weighted_report 2) 6 4
+  pub based : IsAccepted weighted_players based_report
+  pub unbased : IsAccepted two_players (unbased_report 2)
+  pub other_split : IsRefused two_players (unbased_report 1) 9 5
+  pub empty : IsAccepted dominated dominated_report
+  pub empty_base : IsAccepted half_dominated half_dominated_report
+  pub size_fits : IsAccepted one_player (sized_report (2 ^ 126 - 3))
+  pub size_past : IsRefused one_player (sized_report (2 ^ 126 - 2)) 8 9

@@ -5,6 +5,7 @@ pub mod Gaps
 pub mod Joined
 pub mod Leaved
 pub mod OneType
+pub mod Proved
 pub mod Regrets
 pub mod Running
 pub mod Sizing

@@ -5,7 +5,7 @@ ghost use Rattle.sg_bounds.specs.Checking.{IsFormed, IsRefused, stops_of, value_
 ghost use Rattle.sg_check.specs.Answering.{Answers, held};
 ghost use Rattle.sg_check.specs.Covered.{has_cover};
 ghost use Rattle.sg_check.specs.Parts.{closing_stops, opening_stops};
-ghost use Rattle.sg_check.specs.Verdicts.{IsAcceptedGap, IsAcceptedOptimal, IsYes, Judges};
+ghost use Rattle.sg_check.specs.Verdicts.{IsAcceptedGap, IsAcceptedOptimal, IsYes, Judges, Proves};
 
 use crate::caps::test_caps;
 use crate::ending::{is_optimal, test_ending};
@@ -15,7 +15,7 @@ use crate::root::test_root;
 use crate::tickets::{test_plays, test_total};
 use crate::value::test_value;
 use crate::verdict::Verdict;
-use sg_bounds::{passing_is_acceptance, refusal_is_one};
+use sg_bounds::{accepted_means, passing_is_acceptance, refusal_is_one};
 use sg_game::Game;
 use sg_tree::Report;
 use std::alloc::{AllocError, Global};
@@ -102,7 +102,13 @@ pub fn check(_alloc: Global, game: &Game, report: &Report) -> Result<Verdict, Al
     ensures gap { IsAcceptedGap game.now report.now → result ≡ Ok (Verdict.YesGap report.now.value report.now.upper) }
     ensures refused { (line reason : ℕ) → IsRefused game.now report.now line reason → result ≡ Ok (Verdict.No line reason) }
     ensures answered { IsOk result }
+
+    // A yes alone, whoever wrote the report, means that the tickets are legal and have exactly this value, and that no
+    // commitment has more than the upper bound, or than the tickets.
+    ensures means { IfOk result (Proves game.now report.now) }
 {
+    game.promises();
+    accepted_means();
     passing_is_acceptance();
     refusal_is_one();
     keeps_form(report);

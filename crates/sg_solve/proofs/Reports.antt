@@ -1,5 +1,5 @@
 -- Tickets that cover each target as a filling counts make a right report.
-use Rattle.std.proofs.Common.{◌≡◌, ◌≢◌, ℕ, zero, suc, ◌≤◌, ◌<◌, ◌^◌, ◌-◌, ◌+◌, true, List, [], ◌∷◌, length, ℤ, pos, negsuc, ◌+ℤ◌, ◌*ℤ◌, ◌≤ℤ◌, Some, sym, ◌∙◌, ap, subst, refl, arith}
+use Rattle.std.proofs.Common.{◌≡◌, ◌≢◌, ℕ, zero, suc, ◌≤◌, ◌<◌, ◌^◌, ◌-◌, ◌+◌, true, List, [], ◌∷◌, length, ℤ, pos, negsuc, ◌+ℤ◌, ◌*ℤ◌, ◌≤ℤ◌, ◌<ℤ◌, Some, sym, ◌∙◌, ap, subst, refl, arith}
 use Rattle.std.specs.List.{All}
 use Rattle.std.proofs.lemmas.List.Elements.{All-weaker}
 use Rattle.std.specs.Int.{◌∣◌}
@@ -32,6 +32,9 @@ use Rattle.sg_tree.proofs.Committing.{claim_of}
 use Rattle.sg_tree.specs.declared.fact.Fact.TheVariants.{Water}
 use Rattle.sg_tree.specs.declared.tree.Tree.TheVariants.{Closed}
 use Rattle.sg_tree.specs.declared.report.Ending.TheVariants.{Optimal}
+use Rattle.sg_bounds.specs.Accepted.{IsAccepted}
+use Rattle.sg_bounds.proofs.Small.{small_totals_fit}
+use Rattle.sg_bounds.proofs.Waters.{level_accepted}
 use Rattle.sg_solve.specs.Solutions.{AreRightTickets, IsOptimalReport, IsRightLevel}
 
 -- tickets of this total that cover each target as often, out of it, as the filling counts
@@ -86,6 +89,12 @@ one_length g is sc k h = (resource_count g, All-weaker (λ (x : Ticket). IsLegal
     each : (x : Ticket) → IsLegal g x.play.code → length x.play.code ≡ resource_count g
     each x legal = let joint : IsLegalJoint g x.play.code = rw (no_matrix g (is_origami g is sc).security) at legal in joint.one_each
 
+-- a number that divides another is no more
+pub small_total : (a t : ℤ) → unsigned_abs a ∣ unsigned_abs t → pos 1 ≤ℤ t → t ≤ℤ pos (2 ^ 78) → a ≤ℤ pos (2 ^ 78)
+small_total (pos a) (pos t) d low high = let le : a ≤ t = le_of_dvd (omega (arith, ints, low)) d in omega (arith, ints, high, le)
+small_total (pos a) (negsuc t) d low high = absurd (omega (arith, ints, low))
+small_total (negsuc a) t d low high = omega (arith, ints)
+
 -- a commitment that covers each target in its count is served
 pub served : (g : Game) → IsGame g → is_scaled g ≡ true → (f : Filling) → IsFilling g f → (k : Committed) → IsCommitted k → IsWrap g f.counts f.total k → AreServed g f k.tickets k.total
 served g is sc f h k committed w = record {
@@ -94,20 +103,32 @@ served g is sc f h k committed w = record {
     rising = claim_of k committed (one_length g is sc k.tickets w.commitment.legal);
     total = committed.sum;
     lowest = committed.lowest;
+    few = small_total k.total f.total w.divides h.coverage.ticket_range.at_least h.coverage.ticket_range.at_most;
   };
   counts = w.covered;
 }
-
--- the total of such a commitment divides that of the filling, so it is no more
-pub small_total : (a t : ℤ) → unsigned_abs a ∣ unsigned_abs t → pos 1 ≤ℤ t → t ≤ℤ pos (2 ^ 78) → a ≤ℤ pos (2 ^ 78)
-small_total (pos a) (pos t) d low high = let le : a ≤ t = le_of_dvd (omega (arith, ints, low)) d in omega (arith, ints, high, le)
-small_total (pos a) (negsuc t) d low high = absurd (omega (arith, ints, low))
-small_total (negsuc a) t d low high = omega (arith, ints)
 
 -- no operation under its value leaves 128 bits
 pub never_wide : (g : Game) → IsGame g → is_scaled g ≡ true → (k : Committed) → IsCommitted k → k.total ≤ℤ pos (2 ^ 78) → (wide : Wide) → exact_base g k.tickets ≡ Err wide → ⊥
 never_wide g is sc k h small wide =
     small-value g is k.tickets h.positive (scaled-small g is (is_origami g is sc).scaled k.tickets (omega (arith, ints, h.sum, small))) wide
+
+-- the sums under the value of so few tickets are small
+small_base : (g : Game) → IsGame g → is_scaled g ≡ true → (k : List Ticket) → weight_total k ≤ℤ pos (2 ^ 78) → ((weight_total k *ℤ prior_total g) *ℤ pos (2 ^ 30)) <ℤ pos (2 ^ 127)
+small_base g is sc k few =
+    let small : (weight_total k *ℤ prior_total g) ≤ℤ pos (2 ^ 96) = scaled-small g is (is_origami g is sc).scaled k (omega (arith, ints, few)) in
+    omega (arith, ints, small)
+
+-- the report of tickets that are served is accepted
+pub served_accepted : (g : Game) → IsGame g → is_scaled g ≡ true → (f : Filling) → IsFilling g f → (k : List Ticket) (d : ℤ) → AreServed g f k d
+    → (value : Fraction) → IsValue g k value.num value.den → IsReduced value
+    → IsAccepted g (record { tickets = record { tickets = k; total = d }; value = value; caps = []; tree = Closed (Water f.level f.reason); upper = value; ending = Optimal })
+served_accepted g is sc f h k d s value is_v reduced =
+    let total : d ≡ weight_total k = s.right.total in
+    let few : d ≤ℤ pos (2 ^ 78) = s.right.few in
+    let fit = small_totals_fit g is k s.right.commitment (small_base g is sc k (omega (arith, ints, total, few))) in
+    let a = level_accepted g is sc k s.right.commitment s.right.lowest value is_v reduced f.level f.reason h.water (level_tickets g f h k d s) fit.0 fit.1 in
+    subst (λ (z : ℤ). IsAccepted g (record { tickets = record { tickets = k; total = z }; value = value; caps = []; tree = Closed (Water f.level f.reason); upper = value; ending = Optimal })) (sym total) a
 
 pub right_report : (g : Game) → IsGame g → is_scaled g ≡ true → (f : Filling) → IsFilling g f → (k : Committed) → IsCommitted k → IsWrap g f.counts f.total k
     → (value : Fraction) → IsValue g k.tickets value.num value.den → IsReduced value
@@ -123,7 +144,9 @@ right_report g is sc f h k committed w value is_v reduced =
       why = f.reason;
       tree = refl;
       right_level = right_level g f h k.tickets k.total s;
+      laid = record { counts = f.counts; moments = f.total; coverage = h.coverage; plays = w.moments };
       caps = refl;
       upper = refl;
       ending = refl;
+      accepted = served_accepted g is sc f h k.tickets k.total s value is_v reduced;
     }

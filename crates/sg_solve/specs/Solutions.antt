@@ -1,5 +1,5 @@
 -- What a right report on a game of identical patrols says.
-use Rattle.std.specs.Prelude.{◌≡◌, ℕ, true, List, [], All, unsigned_abs}
+use Rattle.std.specs.Prelude.{◌≡◌, ℕ, ◌^◌, true, List, [], ℤ, pos, ◌≤ℤ◌, All, unsigned_abs}
 use Rattle.std.specs.Int.{◌∣◌}
 use Rattle.sg_model.specs.declared.level.Level.{Level}
 use Rattle.sg_model.specs.declared.ticket.Ticket.{Ticket}
@@ -8,7 +8,10 @@ use Rattle.sg_model.specs.Commitments.{IsCommitment, IsValue, weight_total}
 use Rattle.sg_model.specs.Optimality.{IsOptimal}
 use Rattle.sg_model.specs.Origami.{IsWater, AreLevelTickets}
 use Rattle.sg_frac.specs.Fractions.{Fraction, IsReduced}
-use Rattle.sg_origami.specs.Fillings.{IsReasonOf}
+use Rattle.sg_origami.specs.Fillings.{IsCoverage, IsReasonOf}
+use Rattle.sg_commit.specs.Parts.{AreMultiple}
+use Rattle.sg_split.specs.Laying.{moment_tickets}
+use Rattle.sg_bounds.specs.Accepted.{IsAccepted}
 use Rattle.sg_tree.specs.Claims.{Claimed, is_claim}
 use Rattle.sg_tree.specs.declared.fact.Fact.TheVariants.{Water}
 use Rattle.sg_tree.specs.declared.tree.Tree.{Tree}
@@ -29,6 +32,8 @@ pub record AreRightTickets (g : Game) (c : Claimed) : Type 0 where
   -- the total is the sum of their weights, which are in lowest terms
   pub total : c.total ≡ weight_total c.tickets
   pub lowest : AreLowest c.tickets
+  -- there are at most 2^78
+  pub few : c.total ≤ℤ pos (2 ^ 78)
 
 -- one water-level fact, which holds, and which the tickets reach
 pub record IsRightLevel (g : Game) (k : List Ticket) (level : Fraction) (why : Level) : Type 0 where
@@ -40,6 +45,15 @@ pub record IsRightLevel (g : Game) (k : List Ticket) (level : Fraction) (why : L
   pub reason : IsReasonOf g level.num level.den why
   -- the tickets cover each target just as the level asks
   pub coverage : AreLevelTickets g level.num level.den k
+
+-- the tickets are the plays of all moments, where the counts that the level asks lie end to end along the patrols
+pub record AreLaid (g : Game) (k : List Ticket) (level : Fraction) : Type 0 where
+  pub counts : List ℤ
+  pub moments : ℤ
+  -- the counts are the coverage that reaches the level, in lowest terms
+  pub coverage : IsCoverage g (resource_count g) level.num level.den counts moments
+  -- each play has as many tickets as it stands moments, in lowest terms
+  pub plays : AreMultiple (moment_tickets counts (resource_count g) moments) k
 
 -- a report that says what is true of the game, and leaves nothing open
 pub record IsOptimalReport (g : Game) (r : Report) : Type 0 where
@@ -54,7 +68,10 @@ pub record IsOptimalReport (g : Game) (r : Report) : Type 0 where
   pub why : Level
   pub tree : r.tree ≡ Closed (Water level why)
   pub right_level : IsRightLevel g r.tickets.tickets level why
+  pub laid : AreLaid g r.tickets.tickets level
   pub caps : r.caps ≡ []
   -- the upper bound is the value, and the verdict says so
   pub upper : r.upper ≡ r.value
   pub ending : r.ending ≡ Optimal
+  -- so a checker accepts it
+  pub accepted : IsAccepted g r

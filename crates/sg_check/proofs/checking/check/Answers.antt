@@ -1,4 +1,5 @@
 use Rattle.std.proofs.Common.{refl}
+use Rattle.sg_check.proofs.Proved.{yes_proves}
 use Rattle.sg_check.proofs.checking.check.Goals as goal
 
 pub returns-in-Ok-clause-refused : goal.returns-in-Ok-clause-refused
@@ -18,3 +19,10 @@ pub returns-in-Err-clause-refused : goal.returns-in-Err-clause-refused
 returns-in-Err-clause-refused c = λ line reason h.
     let e = (c.refusal_is_one.ensures c.args.game.now c.args.report.now).1 c.in-Err.refusal.line c.in-Err.refusal.reason line reason c.in-Err.ensures h in
     rw (e.0, e.1) refl
+
+pub returns-in-Ok-clause-means : goal.returns-in-Ok-clause-means
+returns-in-Ok-clause-means c =
+    let g = c.args.game.now in
+    let r = c.args.report.now in
+    let accepted = (c.passing_is_acceptance.ensures g r c.keeps_form.ensures).0 c.in-Ok.ensures in
+    yes_proves c.accepted_means.ensures g c.promises.ensures r accepted c.yes.result c.yes.ensures
