@@ -4,6 +4,7 @@ use Rattle.sg_model.specs.Games.{Game}
 use Rattle.sg_tree.specs.declared.report.Report.{Report}
 use Rattle.sg_cert.specs.Text.{report_text}
 use Rattle.sg_bounds.specs.Accepted.{IsAccepted}
+use Rattle.sg_bounds.specs.ReportLaws.{Means}
 use Rattle.sg_report.specs.Tables.{IsTable}
 use Rattle.sg_shelf.specs.Files.{Files}
 use Rattle.sg_words.specs.Commands.{Asked, solve, check, show}
@@ -27,6 +28,9 @@ pub record Accepts (files : Option Files) (name report : List ℕ) (g : Game) (r
   pub says_report : SaysReport files report (Ok r)
   pub is_checkable : IsCheckable r
   pub accepted : IsAccepted g r
+  -- which alone means that its tickets are legal and have exactly the printed value, that no commitment has more than its
+  -- upper bound, and that the tickets are optimal where it says that its bounds meet
+  pub means : Means g r
 
 -- the text is the yes to such a report, and the status tells whether its bounds meet
 pub record Checks (files : Option Files) (name report : List ℕ) (status : ℕ) (text : List ℕ) : Type 0 where

@@ -5,6 +5,7 @@ use Rattle.sg_model.specs.Games.{Game}
 use Rattle.sg_tree.specs.declared.report.Report.{Report}
 use Rattle.sg_cert.specs.declared.fault.ReportFault.{ReportFault}
 use Rattle.sg_bounds.specs.Accepted.{IsAccepted}
+use Rattle.sg_bounds.specs.ReportLaws.{Means}
 use Rattle.sg_shelf.specs.Files.{Files}
 use Rattle.sg_cli.specs.Scenes.{SaysGame, SaysReport}
 use Rattle.sg_cli.specs.Solutions.{IsSolved, IsAnswer, IsChecked, IsCheckable}
@@ -76,6 +77,7 @@ pub record IsSolution (g : Game) (r : Report) : Type 0 where
 pub record IsJudged (g : Game) (r : Report) : Type 0 where
   pub is_checkable : IsCheckable r
   pub accepted : IsAccepted g r
+  pub means : Means g r
 
 -- the file is that of a game for which this is a right report
 pub record HasSolution (files : Option Files) (name : List ℕ) (r : Report) : Type 0 where

@@ -8,6 +8,7 @@
 mod call;
 mod checking;
 mod judging;
+mod laws;
 mod ranges;
 mod reading;
 mod refusal;
@@ -16,6 +17,7 @@ mod solving;
 mod telling;
 
 pub use call::run;
+pub use laws::solved_is_checked;
 pub use refusal::Refusal;
 
 #[cfg(test)]
