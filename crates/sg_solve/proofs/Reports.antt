@@ -1,27 +1,26 @@
 -- Tickets that cover each target as a filling counts make a right report.
-use Rattle.std.proofs.Common.{◌≡◌, ◌≢◌, ℕ, zero, suc, ◌≤◌, ◌<◌, ◌^◌, ◌-◌, ◌+◌, true, List, [], ◌∷◌, length, ℤ, pos, negsuc, ◌+ℤ◌, ◌*ℤ◌, ◌≤ℤ◌, ◌<ℤ◌, Some, sym, ◌∙◌, ap, subst, refl, arith}
-use Rattle.std.specs.List.{All}
+use Rattle.std.proofs.Common.{◌≡◌, ℕ, ◌≤◌, ◌^◌, true, List, [], length, ℤ, pos, negsuc, ◌*ℤ◌, ◌≤ℤ◌, ◌<ℤ◌, Some, sym, ◌∙◌, ap, subst, refl, arith}
 use Rattle.std.proofs.lemmas.List.Elements.{All-weaker}
 use Rattle.std.specs.Int.{◌∣◌}
 use Rattle.std.specs.Prelude.{Err, unsigned_abs}
 use Rattle.std.proofs.lemmas.Int.{ints}
 use Rattle.std.proofs.lemmas.Nat.Gcd.{le_of_dvd}
 use Rattle.sg_model.specs.declared.ticket.Ticket.{Ticket}
-use Rattle.sg_model.specs.Sums.{nth, total}
+use Rattle.sg_model.specs.Sums.{nth}
 use Rattle.sg_model.specs.Games.{Game, resource_count, prior_total}
 use Rattle.sg_model.specs.Limits.{IsGame, is_scaled}
 use Rattle.sg_model.specs.Plays.{IsLegal, IsLegalJoint}
-use Rattle.sg_model.specs.Commitments.{IsCommitment, IsValue, cover_count, weight_total, worth}
+use Rattle.sg_model.specs.Commitments.{IsValue, cover_count, weight_total}
 use Rattle.sg_model.specs.Optimality.{IsOptimal}
-use Rattle.sg_model.specs.Origami.{IsOrigami, IsWater, AreLevelTickets, count_at}
-use Rattle.sg_model.proofs.Ints.{v, times, same_by, mul-le, product_nonneg, cancel}
+use Rattle.sg_model.specs.Origami.{IsOrigami, AreLevelTickets, count_at}
+use Rattle.sg_model.proofs.Ints.{v, times, same_by, cancel}
 use Rattle.sg_model.proofs.Forms.{no_matrix}
 use Rattle.sg_model.proofs.Promises.{origami}
 use Rattle.sg_model.proofs.Tickets.{tickets-optimal}
 use Rattle.sg_num.specs.declared.step.Wide.{Wide}
-use Rattle.sg_frac.specs.Fractions.{Fraction, IsReduced, IsReducedForm}
+use Rattle.sg_frac.specs.Fractions.{Fraction, IsReduced}
 use Rattle.sg_origami.specs.declared.filling.Filling.{Filling}
-use Rattle.sg_origami.specs.Fillings.{IsFilling, IsCoverage}
+use Rattle.sg_origami.specs.Fillings.{IsFilling}
 use Rattle.sg_commit.specs.Committed.{AreLegal, Committed, IsCommitted}
 use Rattle.sg_commit.specs.ExactSums.{exact_base}
 use Rattle.sg_commit.proofs.Small.{scaled-small, small-value}

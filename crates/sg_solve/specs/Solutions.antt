@@ -14,7 +14,6 @@ use Rattle.sg_split.specs.Laying.{moment_tickets}
 use Rattle.sg_bounds.specs.Accepted.{IsAccepted}
 use Rattle.sg_tree.specs.Claims.{Claimed, is_claim}
 use Rattle.sg_tree.specs.declared.fact.Fact.TheVariants.{Water}
-use Rattle.sg_tree.specs.declared.tree.Tree.{Tree}
 use Rattle.sg_tree.specs.declared.tree.Tree.TheVariants.{Closed}
 use Rattle.sg_tree.specs.declared.report.Ending.TheVariants.{Optimal}
 use Rattle.sg_tree.specs.declared.report.Report.{Report}

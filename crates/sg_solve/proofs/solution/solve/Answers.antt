@@ -1,7 +1,3 @@
-use Rattle.std.proofs.Common.{◌≡◌, List, [], refl, sym, subst}
-use Rattle.sg_model.specs.declared.ticket.Ticket.{Ticket}
-use Rattle.sg_tree.specs.declared.report.Report.{Report}
-use Rattle.sg_solve.specs.Solutions.{IsOptimalReport}
 use Rattle.sg_solve.proofs.Reports.{one_length, right_report, small_total}
 use Rattle.sg_solve.proofs.solution.solve.Goals as goal
 

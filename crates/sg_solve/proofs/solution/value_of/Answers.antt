@@ -1,4 +1,4 @@
-use Rattle.std.proofs.Common.{◌≡◌, sym, subst}
+use Rattle.std.proofs.Common.{subst}
 use Rattle.std.specs.Prelude.{Result, Err}
 use Rattle.sg_num.specs.declared.step.Wide.{Wide}
 use Rattle.sg_frac.specs.Fractions.{Fraction}
