@@ -1,5 +1,5 @@
 -- A run that answers by what it did, or by one refusal, never gives up but for want of memory: told files decide the status.
-use Rattle.std.proofs.Common.{◌≡◌, ◌⊎◌, ℕ, ◌<◌, ◌≤◌, ◌+◌, ◌-◌, ◌^◌, Bool, true, false, MatchBool, ◌==◌, nat_lt, List, length, Option, Some, None, IsSomeAnd, Result, Ok, Err, refl, sym, ◌∙◌, ap, subst, arith, inl, inr}
+use Rattle.std.proofs.Common.{◌≡◌, ◌≢◌, ◌⊎◌, ℕ, ◌<◌, ◌≤◌, Bool, true, false, MatchBool, ◌==◌, nat_lt, List, length, Option, Some, None, IsSomeAnd, Result, Ok, Err, refl, sym, ◌∙◌, ap, subst, inl, inr}
 use Rattle.std.proofs.lemmas.Bool.{lt-ltb, le-ltb, false_from_ne_true, true_from_ne_false, eqb-true}
 use Rattle.sg_model.specs.declared.fault.GameFault.{GameFault}
 use Rattle.sg_model.specs.Games.{Game}
@@ -9,15 +9,13 @@ use Rattle.sg_tree.specs.declared.report.Report.{Report}
 use Rattle.sg_cert.specs.declared.fault.ReportFault.{ReportFault}
 use Rattle.sg_cert.specs.Reading.{report_of}
 use Rattle.sg_bounds.specs.Accepted.{IsAccepted, is_optimal}
-use Rattle.sg_bounds.specs.Checking.{IsRefused}
 use Rattle.sg_check.specs.Covered.{has_cover}
-use Rattle.sg_shelf.specs.Faults.{HasRisen, HasNotRisen}
 use Rattle.sg_shelf.specs.Files.{Files, IsLong, held}
 use Rattle.sg_words.specs.Commands.{Asked, solve, check, show}
 use Rattle.sg_cli.specs.Scenes.{Scene, SaysGame, SaysReport, game_limit, game_name, report_limit, report_name}
-use Rattle.sg_cli.specs.Solutions.{IsCheckable, yes_status}
+use Rattle.sg_cli.specs.Solutions.{yes_status}
 use Rattle.sg_cli.specs.Deeds.{Accepts, Does}
-use Rattle.sg_cli.specs.Causes.{ComesOf, Fails, IsNotRead, IsGameLong, IsReportLong, IsTaken, IsWrong, IsGameNotYet, OfReport, ReadsReport, Stops, TakesGame}
+use Rattle.sg_cli.specs.Causes.{ComesOf, Fails, IsTaken, IsWrong, OfReport, Stops}
 use Rattle.sg_cli.specs.Decisions.{ByChecking, ByFile, ByGame, ByGameFile, ByPair, ByReport, ByShowing, BySolving, Decides}
 use Rattle.sg_cli.specs.Refusals.{status_of}
 use Rattle.sg_cli.specs.Runs.{Answers, IsComplete, IsDone, IsOfFault}
@@ -65,7 +63,7 @@ by_report_fault P says f status e h = subst (λ (s : Result Report ReportFault).
 -- ---- by the game's file
 
 -- what decides once the game is known
-after_game : Files → Asked → Game → ℕ → Type 0
+abbrev after_game : Files → Asked → Game → ℕ → Type 0
 after_game files (solve game) = BySolving
 after_game files (check game report) = ByPair ByChecking (held files report)
 after_game files (show game report) = ByPair ByShowing (held files report)
@@ -107,7 +105,7 @@ not_taken files (show game report) g status other is = at_false (length g.types 
 -- ---- by the report's file
 
 -- what decides once both are known
-after_both : Asked → Game → Report → ℕ → Type 0
+abbrev after_both : Asked → Game → Report → ℕ → Type 0
 after_both (solve game) g r status = status ≡ 0
 after_both (check game report) g r status = ByChecking g r status
 after_both (show game report) g r status = ByShowing g r status
@@ -160,8 +158,8 @@ fails_decides s status asked files (GameRefused fault) c e = inr (inr (refused_g
 fails_decides s status asked files NotYet (inl c) e = inr (inr (read_game files asked status c.game c.says (not_taken files asked c.game status c.not_taken e)))
 fails_decides s status asked files NotYet (inr c) e =
     inr (inr (of_report files asked status _ c (λ g report h.
-      read_report files asked g report status h.read h.says
-      (at_true (has_cover h.read) (status ≡ 3) _ (true_from_ne_false (has_cover h.read) h.holds) e))))
+    read_report files asked g report status h.read h.says
+    (at_true (has_cover h.read) (status ≡ 3) _ (true_from_ne_false (has_cover h.read) h.holds) e))))
 fails_decides s status asked files ReportNotRead c e =
     elim c.holds [
       | inl risen ↦ inr (inl (inl (e, risen)))
@@ -172,11 +170,11 @@ fails_decides s status asked files ReportTooLong c e =
     inr (inr (of_report files asked status _ c (λ g report h. by_long report_limit _ (held files report) status h e)))
 fails_decides s status asked files (ReportRefused fault) c e =
     inr (inr (of_report files asked status _ c (λ g report h.
-      by_bytes report_limit (λ bytes. ByReport (after_both asked g) (report_of bytes)) (held files report) h.bytes status h.reads.may_hold h.reads.within
-      (by_report_fault (after_both asked g) (report_of h.bytes) fault status h.report e))))
+    by_bytes report_limit (λ bytes. ByReport (after_both asked g) (report_of bytes)) (held files report) h.bytes status h.reads.may_hold h.reads.within
+    (by_report_fault (after_both asked g) (report_of h.bytes) fault status h.report e))))
 fails_decides s status asked files (ReportWrong line reason) c e =
     inr (inr (of_report files asked status _ c (λ g report h.
-      read_report files asked g report status h.read h.says (wrong asked g h.read line reason status (not_none asked c.report c.names) h.holds e))))
+    read_report files asked g report status h.read h.says (wrong asked g h.read line reason status (not_none asked c.report c.names) h.holds e))))
 
 -- ---- what was done
 

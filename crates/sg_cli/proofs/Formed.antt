@@ -1,10 +1,9 @@
 -- The value of accepted tickets is formed within 128 bits, in the order of a commitment's sums too.
-use Rattle.std.proofs.Common.{◌≡◌, ℕ, Bool, true, false, cond, List, [], ◌∷◌, ◌++◌, length, ℤ, pos, ◌+ℤ◌, ◌*ℤ◌, Option, None, Result, Ok, Err, IsOk, is_ok, sym, ◌∙◌, ap, subst, refl, arith}
+use Rattle.std.proofs.Common.{◌≡◌, ℕ, Bool, true, false, cond, List, [], ◌∷◌, ◌++◌, length, ℤ, pos, ◌+ℤ◌, ◌*ℤ◌, None, Result, Ok, Err, IsOk, is_ok, sym, ◌∙◌, ap, refl}
 use Rattle.std.specs.List.{All, filter, flat_map}
-use Rattle.std.proofs.lemmas.Int.{ints}
 use Rattle.std.proofs.lemmas.List.Elements.{All-head, All-tail}
 use Rattle.sg_model.specs.declared.ticket.Ticket.{Ticket}
-use Rattle.sg_model.specs.Sums.{numbers, total}
+use Rattle.sg_model.specs.Sums.{numbers}
 use Rattle.sg_model.specs.Games.{Game, action_count, attacker, prior_total}
 use Rattle.sg_model.specs.Plays.{pay_a, pay_d}
 use Rattle.sg_model.specs.Commitments.{is_best, take_of, weight_total}
@@ -14,8 +13,10 @@ use Rattle.sg_num.specs.declared.step.Wide.{Wide}
 use Rattle.sg_num.specs.Exact.{and_then, exact, exact_dot_step, exact_sum, exact_times, fits, result_of}
 use Rattle.sg_commit.specs.ExactSums.{compared, exact_base, exact_dot, exact_sum_a, exact_sum_d, exact_take, first_wide, refusal_or, unless, worth_from, worth_step}
 use Rattle.sg_commit.proofs.Standing.{All-back, All-front}
-use Rattle.sg_bounds.specs.Accepted.{Fits}
-use Rattle.sg_bounds.specs.Sizes.{pay_sums, take_sums, value_sums, worth_sums}
+use Rattle.sg_tree.specs.declared.report.Report.{Report}
+use Rattle.sg_bounds.specs.Accepted.{Fits, IsAccepted, cap_sums, tree_sums}
+use Rattle.sg_bounds.specs.Trees.{node_of}
+use Rattle.sg_bounds.specs.Sizes.{pay_sums, take_sums, value_sums, weight_sums, worth_sums}
 
 -- a result that is formed
 abbrev Formed : Result ℤ Wide → Type 0
@@ -85,3 +86,12 @@ module _ (g : Game) (k : List Ticket) where
       exact_formed Times (weight_total k) (prior_total g) (All-head Fits (weight_total k *ℤ prior_total g) [] (All-back Fits sums last h)) in
       let base : exact_base g k ≡ Ok (weight_total k *ℤ prior_total g) = ap (λ r. and_then r (λ worth. exact_times (weight_total k) (prior_total g))) worth.1 ∙ over in
       ap is_ok base
+
+-- where a report is accepted, no operation under its value leaves 128 bits
+pub never_wide : (g : Game) (r : Report) → IsAccepted g r → (k : List Ticket) → k ≡ r.tickets.tickets → (w : Wide) → exact_base g k ≡ Err w → ⊥
+never_wide g r a k same w e =
+    let later : List ℤ = value_sums g r.tickets.tickets ++ (cap_sums g 2 r.caps ++ tree_sums g r.caps [] (node_of r.tree)) in
+    let fit = All-front Fits (value_sums g r.tickets.tickets) (cap_sums g 2 r.caps ++ tree_sums g r.caps [] (node_of r.tree)) (All-back Fits (weight_sums r.tickets.tickets) later a.sums) in
+    let formed : is_ok (exact_base g r.tickets.tickets) ≡ true = base_formed g r.tickets.tickets fit in
+    let wide : is_ok (exact_base g r.tickets.tickets) ≡ false = ap is_ok (ap (exact_base g) (sym same) ∙ e) in
+    let both : ◌≡◌ {A = Bool} true false = sym formed ∙ wide in cc

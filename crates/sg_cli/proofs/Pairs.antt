@@ -1,27 +1,22 @@
 -- What `solve` writes, `check` accepts.
-use Rattle.std.proofs.Common.{◌≡◌, ◌⊎◌, ℕ, ◌≤◌, Bool, true, false, MatchBool, ◌==◌, nat_lt, List, length, Option, Some, Result, Ok, refl, sym, ◌∙◌, ap, subst, inl, inr}
+use Rattle.std.proofs.Common.{◌≡◌, ℕ, ◌≤◌, Bool, true, false, ◌==◌, List, length, Option, Some, Result, Ok, sym, ◌∙◌, ap, subst, inl, inr}
 use Rattle.std.proofs.lemmas.Bool.{le-ltb, MatchBool-at_true, MatchBool-at_false}
 use Rattle.sg_model.specs.declared.fault.GameFault.{GameFault}
 use Rattle.sg_model.specs.Games.{Game}
-use Rattle.sg_model.specs.Limits.{IsGame}
 use Rattle.sg_model.proofs.Promises.{origami}
 use Rattle.sg_format.specs.GameFiles.{game_of_bytes}
 use Rattle.sg_format.proofs.Accepted.{accepted}
 use Rattle.sg_tree.specs.declared.fact.Fact.TheVariants.{Water}
-use Rattle.sg_tree.specs.declared.tree.Tree.TheVariants.{Closed}
 use Rattle.sg_tree.specs.declared.report.Report.{Report}
 use Rattle.sg_cert.specs.declared.fault.ReportFault.{ReportFault}
 use Rattle.sg_cert.specs.Reading.{report_of}
-use Rattle.sg_cert.specs.Text.{report_text}
 use Rattle.sg_cert.proofs.WholeAgain.{whole_again}
-use Rattle.sg_bounds.specs.Accepted.{IsAccepted, is_optimal}
-use Rattle.sg_bounds.specs.Checking.{IsRefused}
-use Rattle.sg_bounds.specs.Trees.{closed, node_of}
+use Rattle.sg_bounds.specs.Accepted.{is_optimal}
+use Rattle.sg_bounds.specs.Trees.{node_of}
 use Rattle.sg_bounds.proofs.Nodes.{node_of-Closed}
 use Rattle.sg_bounds.proofs.Verdicts.{refusal_is_one}
 use Rattle.sg_check.specs.Covered.{has_cover, node_has_cover}
 use Rattle.sg_shelf.specs.Files.{Files, held}
-use Rattle.sg_words.specs.Commands.{Asked, check, show}
 use Rattle.sg_cli.specs.Scenes.{game_limit, report_limit}
 use Rattle.sg_cli.specs.Solutions.{IsAnswer}
 use Rattle.sg_cli.specs.Deeds.{Solves}
@@ -53,31 +48,31 @@ no_cover g r a =
     rw a.is_right.caps tree
 
 checked : (g : Game) (r : Report) (status : ℕ) → IsAnswer g r → ByChecking g r status → status ≡ 0
-checked g r status a (inl yes) = yes.1
+checked g r status a (inl met) = met.1
 checked g r status a (inr (inl gap)) =
-    let met : is_optimal r.ending ≡ true = ap is_optimal a.is_right.ending in
-    let both : ◌≡◌ {A = Bool} true false = sym met ∙ gap.0.ending in cc
-checked g r status a (inr (inr no)) = absurd ((refusal_is_one g r).0 a.is_right.accepted no.0 no.1 no.2)
+    let is_met : is_optimal r.ending ≡ true = ap is_optimal a.is_right.ending in
+    let both : ◌≡◌ {A = Bool} true false = sym is_met ∙ gap.0.ending in cc
+checked g r status a (inr (inr wrong)) = absurd ((refusal_is_one g r).0 a.is_right.accepted wrong.0 wrong.1 wrong.2)
 
 shown : (g : Game) (r : Report) (status : ℕ) → IsAnswer g r → ByShowing g r status → status ≡ 0
-shown g r status a (inl yes) = yes.1
+shown g r status a (inl met) = met.1
 shown g r status a (inr (inl gap)) = gap.1
-shown g r status a (inr (inr no)) = absurd ((refusal_is_one g r).0 a.is_right.accepted no.0 no.1 no.2)
+shown g r status a (inr (inr wrong)) = absurd ((refusal_is_one g r).0 a.is_right.accepted wrong.0 wrong.1 wrong.2)
 
 -- what is decided by both files, once the game's is read
 by_both : (files : Files) (name report : List ℕ) (status : ℕ) (text : List ℕ) (s : Solves (Some files) name status text) → held files report ≡ Some text → length text ≤ report_limit
-    → (by_both : Game → Report → ℕ → Type 0) (due : ℕ) → ByGameFile (ByPair by_both (held files report)) (held files name) due → by_both s.game s.report due
-by_both files name report status text s stands le by_both due h =
+    → (Next : Game → Report → ℕ → Type 0) (due : ℕ) → ByGameFile (ByPair Next (held files report)) (held files name) due → Next s.game s.report due
+by_both files name report status text s stands le Next due h =
     let g = s.game in
     let r = s.report in
-    let game = of_game (ByPair by_both (held files report)) (game_of_bytes s.says.bytes) g due s.says.game
-    (of_bytes game_limit (λ bytes. ByGame (ByPair by_both (held files report)) (game_of_bytes bytes)) (held files name) s.says.bytes due s.says.reads.may_hold s.says.reads.within h) in
+    let game = of_game (ByPair Next (held files report)) (game_of_bytes s.says.bytes) g due s.says.game
+    (of_bytes game_limit (λ bytes. ByGame (ByPair Next (held files report)) (game_of_bytes bytes)) (held files name) s.says.bytes due s.says.reads.may_hold s.says.reads.within h) in
     let one : length g.types ≡ 1 = (origami g (accepted s.says.bytes g s.says.game) s.is_solved).1.one_type in
-    let file : ByFile report_limit (λ bytes. ByReport (by_both g) (report_of bytes)) (held files report) due =
-    MatchBool-at_true (ByFile report_limit (λ bytes. ByReport (by_both g) (report_of bytes)) (held files report) due) (due ≡ 3) (ap (λ (n : ℕ). n == 1) one) game in
+    let file : ByFile report_limit (λ bytes. ByReport (Next g) (report_of bytes)) (held files report) due =
+    MatchBool-at_true (ByFile report_limit (λ bytes. ByReport (Next g) (report_of bytes)) (held files report) due) (due ≡ 3) (ap (λ (n : ℕ). n == 1) one) game in
     let reads : report_of text ≡ Ok r = ap report_of s.written ∙ whole_again r s.answer.in_ranges in
-    of_report (by_both g) (report_of text) r due reads (no_cover g r s.answer)
-    (of_bytes report_limit (λ bytes. ByReport (by_both g) (report_of bytes)) (held files report) text due stands le file)
+    of_report (Next g) (report_of text) r due reads (no_cover g r s.answer)
+    (of_bytes report_limit (λ bytes. ByReport (Next g) (report_of bytes)) (held files report) text due stands le file)
 
 pub solved_is_checked : SolvedIsChecked
 solved_is_checked files name report status text s stands le = (

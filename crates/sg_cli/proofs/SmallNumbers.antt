@@ -1,5 +1,5 @@
 -- The numbers of a right report lie in the ranges of a report's text.
-use Rattle.std.proofs.Common.{◌≡◌, ℕ, ◌+◌, ◌≤◌, ◌<◌, ◌^◌, Bool, true, false, List, [], ◌∷◌, length, ℤ, pos, negsuc, ◌+ℤ◌, ◌≤ℤ◌, Option, Some, None, inl, inr, if◌then◌else◌, sym, ◌∙◌, ap, subst, refl, arith}
+use Rattle.std.proofs.Common.{◌≡◌, ℕ, ◌+◌, ◌≤◌, ◌<◌, ◌^◌, Bool, true, List, [], ◌∷◌, length, ℤ, pos, negsuc, ◌≤ℤ◌, Option, Some, None, inl, inr, if◌then◌else◌, sym, ◌∙◌, ap, subst, refl, arith}
 use Rattle.std.specs.List.{All, AllByRecursion}
 use Rattle.std.proofs.lemmas.Int.{ints}
 use Rattle.std.proofs.lemmas.Bool.{lt-ltb, ltb-true}
@@ -12,7 +12,7 @@ use Rattle.sg_model.specs.declared.kind.Kind.TheVariants.{Security}
 use Rattle.sg_model.specs.Sums.{numbers}
 use Rattle.sg_model.specs.Games.{Game, resource_count, resource_schedules}
 use Rattle.sg_model.specs.Plays.{IsLegal, IsLegalJoint}
-use Rattle.sg_model.specs.Commitments.{IsCommitment, weight_total}
+use Rattle.sg_model.specs.Commitments.{weight_total}
 use Rattle.sg_model.specs.Limits.{ArePatrols, IsDefended, IsGame, is_scaled}
 use Rattle.sg_model.proofs.Promises.{game_cases, origami}
 use Rattle.sg_model.proofs.Forms.{no_matrix}

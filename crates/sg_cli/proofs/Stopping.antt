@@ -1,12 +1,12 @@
 -- What the refusals of a run's steps come of in the whole run.
-use Rattle.std.proofs.Common.{◌≡◌, ◌≢◌, ◌⊎◌, ℕ, ◌≤◌, ◌<◌, ◌+◌, ◌-◌, ◌^◌, List, length, Option, Some, None, Ok, refl, subst, arith, inl, inr}
+use Rattle.std.proofs.Common.{◌≡◌, ◌≢◌, ℕ, ◌≤◌, List, length, Option, Some, Ok, refl, subst, arith, inl, inr}
 use Rattle.sg_model.specs.Games.{Game}
 use Rattle.sg_tree.specs.declared.report.Report.{Report}
 use Rattle.sg_shelf.specs.Faults.{HasRisen}
 use Rattle.sg_shelf.specs.Files.{Files}
 use Rattle.sg_words.specs.Commands.{Asked, solve, check, show}
-use Rattle.sg_cli.specs.Scenes.{SaysGame, SaysReport, game_name, report_name, scene}
-use Rattle.sg_cli.specs.Causes.{ComesOf, Fails, IsNotRead, OfReport, TakesGame}
+use Rattle.sg_cli.specs.Scenes.{SaysGame, SaysReport, game_name, scene}
+use Rattle.sg_cli.specs.Causes.{ComesOf, Fails, OfReport}
 use Rattle.sg_cli.specs.Readings.{GameFileFails, HasChecked, JudgingFails, ReportFileFails, SolvingFails}
 use Rattle.sg_cli.specs.declared.refusal.Refusal.{Refusal}
 use Rattle.sg_cli.specs.declared.refusal.Refusal.TheVariants.{Words, GameNotRead, GameTooLong, GameRefused, NotYet, ReportNotRead, ReportTooLong, ReportRefused, ReportWrong, NotWritten, Memory}

@@ -5,7 +5,7 @@ use Rattle.sg_tree.specs.declared.report.Report.{Report}
 use Rattle.sg_bounds.specs.Checking.{IsRefused}
 use Rattle.sg_shelf.specs.Faults.{HasRisen, HasNotRisen}
 use Rattle.sg_shelf.specs.Files.{Files, IsMissing, IsLong}
-use Rattle.sg_shelf.specs.Taken.{Takes, TakesFront}
+use Rattle.sg_shelf.specs.Taken.{TakesFront}
 use Rattle.sg_words.specs.Commands.{Asked, solve, check, show}
 use Rattle.sg_cli.specs.Scenes.{Scene, SaysGame, SaysReport, game_limit, game_name, report_limit, report_name}
 use Rattle.sg_cli.specs.Solutions.{IsSolved, IsChecked, IsCheckable}

@@ -1,5 +1,5 @@
 -- The status that files decide, where they are told: the one that is due for a command, whatever its answer would be.
-use Rattle.std.specs.Prelude.{◌≡◌, ◌⊎◌, ◌<◌, ℕ, List, length, MatchBool, nat_lt, ◌==◌, Option, Some, None, Result, Ok, Err}
+use Rattle.std.specs.Prelude.{◌≡◌, ◌⊎◌, ℕ, List, length, MatchBool, nat_lt, ◌==◌, Option, Some, None, Result, Ok, Err}
 use Rattle.sg_model.specs.declared.fault.GameFault.{GameFault}
 use Rattle.sg_model.specs.Games.{Game}
 use Rattle.sg_model.specs.Limits.{is_scaled}

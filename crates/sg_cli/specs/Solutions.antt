@@ -1,5 +1,5 @@
 -- Which games and reports the commands serve so far, and what they say of them.
-use Rattle.std.specs.Prelude.{◌≡◌, ◌++◌, ℕ, Bool, List, true, false, codes, length, if◌then◌else◌}
+use Rattle.std.specs.Prelude.{◌≡◌, ◌++◌, ℕ, List, true, false, codes, length, if◌then◌else◌}
 use Rattle.std.specs.Fmt.{signed_decimal}
 use Rattle.sg_model.specs.Games.{Game}
 use Rattle.sg_model.specs.Limits.{is_scaled}
@@ -27,15 +27,21 @@ IsChecked g = length g.types ≡ 1
 abbrev pub IsCheckable : Report → Type 0
 IsCheckable r = has_cover r ≡ false
 
--- a fraction as two numbers
-abbrev pub parts_text : Fraction → List ℕ
-parts_text f = signed_decimal f.num ++ (codes " " ++ signed_decimal f.den)
+-- a fraction as two numbers, and what follows them
+abbrev pub parts_text : Fraction → List ℕ → List ℕ
+parts_text f rest = signed_decimal f.num ++ (codes " " ++ (signed_decimal f.den ++ rest))
 
--- the line that accepts a report: its value, and its upper bound where it says that its bounds don't meet
+-- the line that accepts a report whose bounds meet: its value
+abbrev pub optimal_text : Fraction → List ℕ
+optimal_text value = codes "yes optimal " ++ parts_text value (codes "\n")
+
+-- the line that accepts one whose bounds don't: its value and its upper bound
+abbrev pub gap_text : Fraction → Fraction → List ℕ
+gap_text value upper = codes "yes gap " ++ parts_text value (codes " " ++ parts_text upper (codes "\n"))
+
+-- the line that accepts a report
 abbrev pub yes_text : Report → List ℕ
-yes_text r =
-    if is_optimal r.ending then codes "yes optimal " ++ (parts_text r.value ++ codes "\n")
-    else codes "yes gap " ++ (parts_text r.value ++ (codes " " ++ (parts_text r.upper ++ codes "\n")))
+yes_text r = if is_optimal r.ending then optimal_text r.value else gap_text r.value r.upper
 
 -- the status that accepts it
 abbrev pub yes_status : Report → ℕ

@@ -5,11 +5,12 @@ ghost use Rattle.sg_bounds.specs.Accepted.{is_optimal};
 ghost use Rattle.sg_words.specs.Commands as commands;
 ghost use Rattle.sg_cli.specs.Scenes.{scene};
 ghost use Rattle.sg_cli.specs.Causes.{ComesOf};
-ghost use Rattle.sg_cli.specs.Solutions.{yes_status, yes_text};
+ghost use Rattle.sg_cli.specs.Solutions.{gap_text, optimal_text, yes_status, yes_text};
 ghost use Rattle.sg_cli.specs.Runs.{IsDone};
 
 use crate::judging::accepted_named;
 use crate::refusal::Refusal;
+use sg_frac::Frac;
 use sg_shelf::{Shelf, Sink};
 use sg_tree::{Ending, Report};
 use std::alloc::{AllocError, Global};
@@ -24,16 +25,34 @@ fn is_optimal(report: &Report) -> bool
     }
 }
 
+/// The line that accepts a report of this value, whose bounds meet.
+fn optimal_line(alloc: Global, value: Frac) -> Result<String, AllocError>
+    ensures { IfOk result (λ text. string_bytes text ≡ optimal_text value) }
+{
+    format!(in alloc; "yes optimal {} {}\n", value.num(), value.den())
+}
+
+/// The line that accepts a report with this value and this upper bound.
+fn gap_line(alloc: Global, value: Frac, upper: Frac) -> Result<String, AllocError>
+    ensures { IfOk result (λ text. string_bytes text ≡ gap_text value upper) }
+{
+    format!(in alloc;
+        "yes gap {} {} {} {}\n",
+        value.num(),
+        value.den(),
+        upper.num(),
+        upper.den()
+    )
+}
+
 /// The line that accepts the report.
 fn yes_line(alloc: Global, report: &Report) -> Result<String, AllocError>
     ensures { IfOk result (λ text. string_bytes text ≡ yes_text report.now) }
 {
-    let value = report.value;
-    let upper = report.upper;
     if is_optimal(report) {
-        format!(in alloc; "yes optimal {} {}\n", value.num(), value.den())
+        optimal_line(alloc, report.value)
     } else {
-        format!(in alloc; "yes gap {} {} {} {}\n", value.num(), value.den(), upper.num(), upper.den())
+        gap_line(alloc, report.value, report.upper)
     }
 }
 

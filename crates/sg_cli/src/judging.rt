@@ -24,11 +24,7 @@ pub(crate) struct Accepted {
 }
 
 /// The game in the file of that name, where reports on it are checked.
-fn checked_game<S: Shelf>(
-    alloc: Global,
-    shelf: &mut S,
-    name: &str,
-) -> Result<Game, Refusal>
+fn checked_game<S: Shelf>(alloc: Global, shelf: &mut S, name: &str) -> Result<Game, Refusal>
     ensures files { S.files shelf.new ≡ S.files shelf.old }
     ensures count { S.faults shelf.old ≤ S.faults shelf.new }
     ensures ok { IfOk result (HasChecked (S.files shelf.old) name.now) }
@@ -71,8 +67,14 @@ pub(crate) fn accepted_named<S: Shelf>(
     ensures ok { IfOk result (λ pair. Accepts (S.files shelf.old) name.now report.now pair.game pair.report) }
     ensures err { IfErr result (Fails (S.files shelf.old) (S.faults shelf.old) (S.faults shelf.new) (commands.check name.now report.now)) }
 {
-    let game = checked_game(alloc, shelf, name)?;
-    let read = report_named(alloc, shelf, report)?;
+    let game = match checked_game(alloc, shelf, name) {
+        Ok(game) => game,
+        Err(refusal) => return Err(refusal),
+    };
+    let read = match report_named(alloc, shelf, report) {
+        Ok(read) => read,
+        Err(refusal) => return Err(refusal),
+    };
     match judge(alloc, &game, &read) {
         Ok(()) => Ok(Accepted { game, report: read }),
         Err(refusal) => Err(refusal),

@@ -16,6 +16,7 @@ use sg_tree::Report;
 use std::alloc::Global;
 
 const GAME_LIMIT: usize = 4_194_304;
+
 const REPORT_LIMIT: usize = 536_870_912;
 
 /// The bytes of a file that is at most as long as a game file may be.

@@ -9,10 +9,12 @@ use std::alloc::{AllocError, Global};
 use std::test::*;
 
 /// Two rows, two actions. The best commitment plays the first row twice and the second once.
-const TWO_ROWS: &str = "version = 1\nform = \"matrix\"\nrows = [\"A\", \"B\"]\n\n[[type]]\nname = \"thief\"\nprior = 1\nactions = [\"x\", \"y\"]\nleader = [[2, 4], [1, 3]]\nfollower = [[1, 0], [0, 2]]\n";
+const TWO_ROWS: &str =
+    "version = 1\nform = \"matrix\"\nrows = [\"A\", \"B\"]\n\n[[type]]\nname = \"thief\"\nprior = 1\nactions = [\"x\", \"y\"]\nleader = [[2, 4], [1, 3]]\nfollower = [[1, 0], [0, 2]]\n";
 
 /// The same with a second type.
-const TWO_TYPES: &str = "version = 1\nform = \"matrix\"\nrows = [\"A\", \"B\"]\n\n[[type]]\nname = \"thief\"\nprior = 1\nactions = [\"x\", \"y\"]\nleader = [[2, 4], [1, 3]]\nfollower = [[1, 0], [0, 2]]\n\n[[type]]\nname = \"spy\"\nprior = 1\nactions = [\"x\", \"y\"]\nleader = [[2, 4], [1, 3]]\nfollower = [[0, 1], [2, 0]]\n";
+const TWO_TYPES: &str =
+    "version = 1\nform = \"matrix\"\nrows = [\"A\", \"B\"]\n\n[[type]]\nname = \"thief\"\nprior = 1\nactions = [\"x\", \"y\"]\nleader = [[2, 4], [1, 3]]\nfollower = [[1, 0], [0, 2]]\n\n[[type]]\nname = \"spy\"\nprior = 1\nactions = [\"x\", \"y\"]\nleader = [[2, 4], [1, 3]]\nfollower = [[0, 1], [2, 0]]\n";
 
 /// The lines of a report on two rows, whose bounds meet.
 const MET: [&str; 13] = [
@@ -32,7 +34,8 @@ const MET: [&str; 13] = [
 ];
 
 /// A report on two rows whose bounds don't meet.
-const GAP: &str = "patrol-report 1\ntickets 1 1\nt 1 1\nvalue 2 1\nsplit 1 2\nopen\nplays 1 2 0\nopen\nupper 4 1\nverdict gap pivots 1 1 1 2\nend\n";
+const GAP: &str =
+    "patrol-report 1\ntickets 1 1\nt 1 1\nvalue 2 1\nsplit 1 2\nopen\nplays 1 2 0\nopen\nupper 4 1\nverdict gap pivots 1 1 1 2\nend\n";
 
 /// A line by its number from 1, and what stands there instead.
 type Edit = (usize, &'static str);
@@ -103,9 +106,11 @@ fn answers(
     let mut out = MemSink::new(alloc, Vec::new(alloc), 0)?;
     let mut err = MemSink::new(alloc, Vec::new(alloc), 0)?;
     let status = run(alloc, &words, &mut shelf, &mut out, &mut err);
-    Ok(status == expected.status
-        && out.bytes() == expected.out.as_bytes()
-        && err.bytes() == expected.err.as_bytes())
+    Ok(
+        status == expected.status
+            && out.bytes() == expected.out.as_bytes()
+            && err.bytes() == expected.err.as_bytes(),
+    )
 }
 
 /// Edits of the report whose bounds meet: the status, and what the two outputs take.
@@ -117,25 +122,91 @@ const EDITS: [(Edit, Edit, u8, &str, &str); 23] = [
     ((4, "t 1 3\n"), NONE, 7, "", "no 1 at line 4\n"),
     ((2, "tickets 2 4\n"), NONE, 7, "", "no 2 at line 2\n"),
     ((5, "value 4 1\n"), NONE, 7, "", "no 3 at line 5\n"),
-    ((9, "plays 170141183460469231731687303715884105727 11 1\n"), NONE, 7, "", "no 9 at line 9\n"),
+    (
+        (9, "plays 170141183460469231731687303715884105727 11 1\n"),
+        NONE,
+        7,
+        "",
+        "no 9 at line 9\n",
+    ),
     ((10, "m 1 2 1\n"), NONE, 7, "", "no 6 at line 9\n"),
     ((9, "plays 3 10 1\n"), NONE, 7, "", "no 6 at line 9\n"),
-    ((8, "water 4 3 resources\n"), NONE, 7, "", "no 6 at line 8\n"),
+    (
+        (8, "water 4 3 resources\n"),
+        NONE,
+        7,
+        "",
+        "no 6 at line 8\n",
+    ),
     ((11, "upper 4 1\n"), NONE, 7, "", "no 7 at line 11\n"),
-    ((12, "verdict gap nodes 5\n"), NONE, 7, "", "no 8 at line 12\n"),
+    (
+        (12, "verdict gap nodes 5\n"),
+        NONE,
+        7,
+        "",
+        "no 8 at line 12\n",
+    ),
     // A fact of the coverage table.
     ((8, "cover 1 2 0\n"), NONE, 3, "", "not yet\n"),
     // Texts that are no report.
     ((8, ""), NONE, 7, "", "report refused 3 at line 10\n"),
-    ((1, "patrol-report 9\n"), NONE, 7, "", "report refused 1 at line 1\n"),
+    (
+        (1, "patrol-report 9\n"),
+        NONE,
+        7,
+        "",
+        "report refused 1 at line 1\n",
+    ),
     ((13, "end"), NONE, 7, "", "report refused 2 at line 13\n"),
-    ((10, "m 1 1 -1\n"), NONE, 7, "", "report refused 6 at line 10\n"),
-    ((10, "m 1 1 01\n"), NONE, 7, "", "report refused 5 at line 10\n"),
-    ((10, "m 1 1\n"), NONE, 7, "", "report refused 4 at line 10\n"),
-    ((5, "value 22 6\n"), NONE, 7, "", "report refused 6 at line 5\n"),
-    ((3, "t 1 2\n"), (4, "t 2 1\n"), 7, "", "report refused 7 at line 4\n"),
-    ((3, "t 170141183460469231731687303715884105728 1\n"), NONE, 7, "", "report refused 6 at line 3\n"),
-    ((13, "end\nx\n"), NONE, 7, "", "report refused 9 at line 14\n"),
+    (
+        (10, "m 1 1 -1\n"),
+        NONE,
+        7,
+        "",
+        "report refused 6 at line 10\n",
+    ),
+    (
+        (10, "m 1 1 01\n"),
+        NONE,
+        7,
+        "",
+        "report refused 5 at line 10\n",
+    ),
+    (
+        (10, "m 1 1\n"),
+        NONE,
+        7,
+        "",
+        "report refused 4 at line 10\n",
+    ),
+    (
+        (5, "value 22 6\n"),
+        NONE,
+        7,
+        "",
+        "report refused 6 at line 5\n",
+    ),
+    (
+        (3, "t 1 2\n"),
+        (4, "t 2 1\n"),
+        7,
+        "",
+        "report refused 7 at line 4\n",
+    ),
+    (
+        (3, "t 170141183460469231731687303715884105728 1\n"),
+        NONE,
+        7,
+        "",
+        "report refused 6 at line 3\n",
+    ),
+    (
+        (13, "end\nx\n"),
+        NONE,
+        7,
+        "",
+        "report refused 9 at line 14\n",
+    ),
 ];
 
 #[test]
@@ -236,7 +307,8 @@ fn shows_a_game_of_targets(rt: HostRuntime) -> Result<(), AllocError> {
         "scale = 4\npatrols = 1\ntargets = [\"gate\", \"hall\"]",
         "[[2, -2, 0, 4], [1, -1, 0, 2]]",
     )?;
-    let report = "patrol-report 1\ntickets 2 3\nt 2 1\nt 1 2\nvalue 2 3\nwater 4 3 resources\nupper 2 3\nverdict optimal\nend\n";
+    let report =
+        "patrol-report 1\ntickets 2 3\nt 2 1\nt 1 2\nvalue 2 3\nwater 4 3 resources\nupper 2 3\nverdict optimal\nend\n";
     let table = Answer {
         status: 0,
         out: "value 2/3\nupper 2/3\ntickets 3\ntarget gate 2\ntarget hall 1\ntype thief attacks gate\n",

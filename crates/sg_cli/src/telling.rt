@@ -20,11 +20,7 @@ fn tell_plain<E: Sink>(refusal: Refusal, err: &mut E) -> Refusal
 }
 
 /// Tells a refusal by this line, where there was memory for it.
-fn tell_line<E: Sink>(
-    refusal: Refusal,
-    line: Result<String, AllocError>,
-    err: &mut E,
-) -> Refusal
+fn tell_line<E: Sink>(refusal: Refusal, line: Result<String, AllocError>, err: &mut E) -> Refusal
     requires line { IfOk line (λ text. string_bytes text ≡ line_of refusal) }
     ensures count { E.faults err.old ≤ E.faults err.new }
     ensures same { (result ≡ refusal) ⊎ (result ≡ Refusal.Memory) }
