@@ -835,7 +835,10 @@ SMALL_CASES = [
     ("line 10 is `m 2 1 1`", "no 6 at line 9"),
     ("line 8 is `plays 1 0 0`", "no 6 at line 8"),
     ("line 8 is `open`; line 11 is `upper 4 1`; line 12 is `verdict gap nodes 1`", "yes gap 11 3 4 1"),
+    # the size sum is 12 + 2 * v
     (f"line 10 is `m 1 1 {MOST}`", "no 9 at line 9"),
+    (f"line 10 is `m 1 1 {2**126 - 6}`", "no 9 at line 9"),
+    (f"line 10 is `m 1 1 {2**126 - 7}`", "no 6 at line 9"),
 ]
 SPENT_CASES = [
     ("as it is", "yes gap 2 1 4 1"),
@@ -1069,7 +1072,7 @@ def made_up_game(draw):
 
 def size(draw):
     """A number of at least 1, now and then one of more than a hundred bits."""
-    return draw.randrange(1, 2 ** draw.choice([1, 1, 2, 2, 3, 4, 8, 30, 60, 97, 118, 122, 124, 125, 126, 127]))
+    return draw.randrange(1, 2 ** draw.choice([1, 1, 1, 2, 2, 2, 3, 3, 4, 4, 6, 8, 30, 60, 97, 110, 118, 121]))
 
 
 def made_up_tickets(draw, game):
@@ -1166,9 +1169,75 @@ def with_other_lines(draw, text):
     return b"\n".join(lines)
 
 
+def other_size(draw, text):
+    """Another number of at least 1, as a rule a near one."""
+    number, edge = int(text), MOST // draw.randrange(1, 13) + draw.choice([-1, 0, 1])
+    return b"%d" % max(1, draw.choice([number - 1, number - 1, number + 1, number + 1, 2 * number, size(draw), edge]))
+
+
+def near_fraction(draw, num, den):
+    """A fraction in lowest terms with the same denominator."""
+    return b"%d" % (int(num) + draw.choice([-1, 1, draw.randrange(-9, 10)]) * int(den))
+
+
+def without_mark(lines, i):
+    """The lines without the mark at this place, with its fact's count of marks lowered."""
+    head = max(at for at in range(i) if not lines[at].startswith(b"m "))
+    fields = lines[head].split(b" ")
+    if len(fields) == 4 and fields[3].isdigit():
+        lines[head] = b" ".join(fields[:3] + [b"%d" % (int(fields[3]) - 1)])
+    del lines[i]
+
+
+def without_fact(lines, i):
+    """The lines with `open` in the place of a fact."""
+    end = i + 1
+    while end < len(lines) and lines[end].startswith(b"m "):
+        end += 1
+    lines[i:end] = [b"open"]
+
+
+def with_weight_and_total(draw, lines, i):
+    """The lines with another weight of one ticket, and with the total that it gives."""
+    fields, head = lines[i].split(b" "), lines[1].split(b" ")
+    weight = other_size(draw, fields[1])
+    if len(head) == 3 and NUMBER.fullmatch(head[2]):
+        lines[1] = b" ".join(head[:2] + [b"%d" % (int(head[2]) - int(fields[1]) + int(weight))])
+    lines[i] = b" ".join([fields[0], weight] + fields[2:])
+
+
+def kept_in_form(draw, text):
+    """The text after one change that as a rule leaves it a report text, so that the tests behind the reading are met."""
+    lines = text.split(b"\n")
+    i = draw.choice([at for at, line in enumerate(lines) if re.fullmatch(rb"(t|value|upper|water|plays|m|open|verdict|tickets)( .*)?", line)] or [0])
+    fields = lines[i].split(b" ")
+    word, numbers = fields[0], [at for at, field in enumerate(fields) if NUMBER.fullmatch(field)]
+    kind = draw.randrange(4)
+    if word in (b"value", b"upper", b"water") and numbers[:2] == [1, 2]:
+        fields[1] = near_fraction(draw, fields[1], fields[2])
+    elif word == b"open":
+        fields = [b"plays %d %d 0" % (draw.randrange(1, 4), draw.randrange(0, 9))]
+    elif word == b"verdict":
+        fields = [draw.choice([b"verdict optimal", b"verdict gap nodes 3", b"verdict gap wide 4 sum 1 1 0 1 1 1"])]
+    elif word == b"m" and kind == 0:
+        without_mark(lines, i)
+        return b"\n".join(lines)
+    elif word == b"plays" and kind == 0:
+        without_fact(lines, i)
+        return b"\n".join(lines)
+    elif word == b"t" and kind < 2 and 1 in numbers:
+        with_weight_and_total(draw, lines, i)
+        return b"\n".join(lines)
+    elif numbers:
+        at = draw.choice(numbers[:2] if word in (b"plays", b"t") else numbers[-1:])
+        fields[at] = other_size(draw, fields[at])
+    lines[i] = b" ".join(fields)
+    return b"\n".join(lines)
+
+
 def mutated(draw, text):
     """The text after one change."""
-    kind = draw.randrange(20)
+    kind = draw.randrange(40)
     if kind == 0:
         at = draw.randrange(len(text) + 1)
         return text[:at] + bytes([draw.choice([draw.randrange(256), draw.randrange(32, 127), 10, 32])]) + text[at + 1 :]
@@ -1176,7 +1245,9 @@ def mutated(draw, text):
         return text[: draw.randrange(len(text) + 1)]
     if kind < 6:
         return with_other_lines(draw, text)
-    if kind < 8:
+    if kind < 26:
+        return kept_in_form(draw, text)
+    if kind < 28:
         found = list(re.finditer(rb"[^ \n]+", text))
         new = lambda old: draw.choice(WORDS)
     else:
