@@ -801,7 +801,7 @@ SMALL_CASES = [
     ("line 5 is `value -0 1`", "report refused 5 at line 5"),
     ("line 5 is `value 11  3`", "report refused 4 at line 5"),
     ("line 5 is `value 11 `", "report refused 5 at line 5"),
-    ("line 7 is ``", "report refused 3 at line 7"),
+    ("line 7 is empty", "report refused 3 at line 7"),
     ("line 13 is `end of it`", "report refused 4 at line 13"),
     ("after line 13 comes ``", "report refused 9 at line 14"),
     ("line 3 is `t 2 1 1`", "report refused 7 at line 4"),
@@ -887,6 +887,11 @@ LEVEL_CASES = [
     ("line 6 is `open`", "no 5 at line 6"),
     ("line 4 is `t 1 3`", "no 1 at line 4"),
 ]
+SHOWN = [
+    (LEVELS, LEVEL, "value 2/3\nupper 2/3\ntickets 3\ntarget gate 2\ntarget hall 1\ntype thief attacks gate\n"),
+    (INSPECTION, SMALL, "value 11/3\nupper 11/3\ntickets 3\nrow A 2\nrow B 1\ntype first attacks y\n"),
+    (INSPECTION, SPENT, "value 2/1\nupper 4/1\ntickets 1\nrow A 1\nrow B 0\ntype first attacks x\n"),
+]
 WORKED = [
     (INSPECTION, SMALL, SMALL_CASES, False),
     (INSPECTION, SMALL, [("line 8 is `cover 1 2 0`", "no 6 at line 8")], True),
@@ -936,6 +941,7 @@ EDITS = {
     r"as it is|the last newline is missing": lambda lines: None,
     r"no bytes": list.clear,
     r"cut after line (\d+)": cut_after,
+    r"line (\d+) is empty": lambda lines, n: put(lines, n, "``"),
     r"line (\d+) is left out": lambda lines, n: leave_out(lines, n, n),
     r"lines (\d+) to (\d+) are left out": leave_out,
     r"lines (\d+) and (\d+) are exchanged": lambda lines, n, m: exchange(lines, int(n) - 1, int(m) - 1),
@@ -984,9 +990,10 @@ def self_test():
         reports, examples = blocks_of(file.read())
     cases += [(*reports[name], how, expected, expected != "not yet") for name, how, expected in examples]
     faults = [it for it in (fault_of_case(*case) for case in cases) if it]
+    faults += [f"failed: show: {report}" for game, report, shown in SHOWN if answer(Game(game), report.encode(), "show") != (0, shown, "")]
     for fault in faults:
         print(fault)
-    print(f"{len(cases)} worked cases, {len(examples)} of them in docs/FORMATS.md, {len(faults)} failed")
+    print(f"{len(cases) + len(SHOWN)} worked cases, {len(examples)} of them in docs/FORMATS.md, {len(faults)} failed")
     return 1 if faults else 0
 
 
