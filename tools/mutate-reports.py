@@ -20,7 +20,7 @@ from fractions import Fraction
 from math import gcd
 
 sys.dont_write_bytecode = True
-from report_cases import COVERED, INSPECTION, NESTED, ONE_TARGET, SMALL, SPENT, TWO_TYPES, exchange, self_test
+from report_cases import COVERED, IN_A_ROW, INSPECTION, NEIGHBOURS, NESTED, ONE_TARGET, PAIRS, SHARED, SMALL, SPENT, TWO_TYPES, exchange, self_test
 from report_checker import LEAST, MOST, NUMBER, WORD, Game, Ticket, answer, fields_of, read_report, water_bound
 
 TOP = os.path.dirname(os.path.dirname(os.path.abspath(__file__)))
@@ -264,7 +264,7 @@ def kept_in_form(draw, text):
     if word in (b"value", b"upper", b"water") and numbers[:2] == [1, 2]:
         fields[1] = near_fraction(draw, fields[1], fields[2])
     elif word == b"open":
-        fields = [b"plays %d %d 0" % (draw.randrange(1, 4), draw.randrange(0, 9))]
+        fields = [NINE_DEEP if kind == 0 else b"plays %d %d 0" % (draw.randrange(1, 4), draw.randrange(0, 9))]
     elif word == b"verdict":
         fields = [draw.choice([b"verdict optimal", b"verdict gap nodes 3", b"verdict gap wide 4 sum 1 1 0 1 1 1"])]
     elif word == b"m" and kind == 0:
@@ -339,7 +339,7 @@ class Bench:
     def __init__(self, program, folder, draw):
         self.program, self.folder, self.draw = program, folder, draw
         self.games = []
-        for text in list(examples()) + [INSPECTION, NEVER_BEST, TWO_TYPES, ONE_TARGET] + [made_up_game(draw) for _ in range(60)]:
+        for text in list(examples()) + [INSPECTION, NEVER_BEST, TWO_TYPES, ONE_TARGET, NEIGHBOURS, IN_A_ROW] + [made_up_game(draw) for _ in range(60)]:
             self.add(text)
 
     def add(self, text):
@@ -364,7 +364,8 @@ class Bench:
             found += [solved.stdout] * 4 + [made_up_report(self.draw, game, tree).encode() for _ in range(2)]
         if "oslo" in text:
             found += [MARSHALS_BEST.encode()] * 4
-        found += {NEVER_BEST: [NEVER_TAKEN.encode()] * 3, ONE_TARGET: [COVERED.encode()] * 2}.get(text, [])
+        worked = {NEVER_BEST: NEVER_TAKEN, ONE_TARGET: COVERED, NEIGHBOURS: SHARED, IN_A_ROW: PAIRS}.get(text)
+        found += [worked.encode()] * 3 if worked else []
         if game.is_matrix and game.types[0]["leader"] == [[2, 4], [1, 3]]:
             found += [SMALL.encode()] * 4 + [SPENT.encode()] * 2
         return found

@@ -136,6 +136,95 @@ upper 2 3
 verdict optimal
 end
 """
+NEIGHBOURS = """version = 1
+form = "security"
+targets = ["a", "b", "c"]
+
+[[schedule]]
+name = "at-a"
+targets = ["a"]
+
+[[schedule]]
+name = "at-b"
+targets = ["b"]
+
+[[schedule]]
+name = "at-c"
+targets = ["c"]
+
+[[resource]]
+name = "left"
+schedules = ["at-a", "at-b"]
+
+[[resource]]
+name = "right"
+schedules = ["at-b", "at-c"]
+
+[[type]]
+name = "thief"
+prior = 1
+payoffs = [[0, -1, 0, 1], [0, -1, 0, 1], [0, -1, 0, 1]]
+"""
+SHARED_FACT = """cover 3 5 7
+c 1 1
+c 2 1
+c 3 1
+c 4 1
+c 5 1
+c 9 1
+c 10 1
+"""
+SHARED = f"""patrol-report 1
+tickets 3 3
+t 1 1 1
+t 1 1 2
+t 1 2 2
+value -1 3
+split 1 3
+open
+{SHARED_FACT * 3}upper -1 3
+verdict optimal
+end
+"""
+IN_A_ROW = """version = 1
+form = "security"
+targets = ["a", "b", "c"]
+
+[[schedule]]
+name = "ab"
+targets = ["a", "b"]
+
+[[schedule]]
+name = "bc"
+targets = ["b", "c"]
+
+[[resource]]
+name = "guard"
+schedules = ["ab", "bc"]
+
+[[type]]
+name = "thief"
+prior = 1
+payoffs = [[0, -1, 0, 1], [0, -1, 0, 1], [0, -1, 0, 1]]
+"""
+PAIRS = """patrol-report 1
+tickets 2 2
+t 1 1
+t 1 2
+value -1 2
+split 1 3
+open
+plays 2 3 1
+m 1 3 1
+plays 2 3 2
+m 1 1 1
+m 1 3 1
+plays 2 3 1
+m 1 1 1
+upper -1 2
+verdict optimal
+end
+"""
 MOST_TEXT = str(MOST)
 
 # a report with its edit, and the line that `check` has to write
@@ -254,6 +343,20 @@ COVERED_CASES = [
     ("line 8 is `c 4 2`", "no 6 at line 7"),
     ("line 8 is `c 0 2`", "report refused 6 at line 8"),
 ]
+# the rows are those of the two resources, of the three targets twice, and of the two actions that are not fixed
+SHARED_CASES = [
+    ("as it is", "yes optimal -1 3"),
+    ("line 9 is `cover 3 5 6`; line 15 is left out", "no 6 at line 9"),
+    ("line 9 is `cover 3 5 8`; after line 16 comes `c 11 1`", "no 6 at line 9"),
+    ("line 17 is `cover 3 4 7`", "no 6 at line 17"),
+    ("line 18 is `c 1 2`", "no 6 at line 17"),
+]
+PAIRS_CASES = [
+    ("as it is", "yes optimal -1 2"),
+    ("line 10 is `plays 2 3 1`; line 12 is left out", "no 6 at line 10"),
+    ("line 3 is `t 1 0`", "no 3 at line 5"),
+    ("line 4 is `t 1 3`", "no 1 at line 4"),
+]
 LEVEL_CASES = [
     ("as it is", "yes optimal 2 3"),
     ("line 6 is `water 1 1 resources`", "no 6 at line 6"),
@@ -279,6 +382,8 @@ WORKED = [
     (TWO_TYPES, ONE_WORKED, ONE_WORKED_CASES, True),
     (ONE_TARGET, COVERED, COVERED_CASES, True),
     (ONE_TARGET, COVERED, [("as it is", "not yet"), ("line 4 is `value 2 1`", "not yet"), ("cut after line 7", "report refused 2 at line 8")], False),
+    (NEIGHBOURS, SHARED, SHARED_CASES, True),
+    (IN_A_ROW, PAIRS, PAIRS_CASES, False),
     (LEVELS, LEVEL, LEVEL_CASES, False),
 ]
 
