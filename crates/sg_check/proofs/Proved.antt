@@ -11,5 +11,5 @@ use Rattle.sg_check.specs.Verdicts.{IsYes, Proves}
 -- an accepted report proves what a yes to it says
 pub yes_proves : AcceptedMeans → (g : Game) → IsGame g → (r : Report) → IsAccepted g r → (v : Verdict) → IsYes r v → Proves g r v
 yes_proves law g is r a (YesOptimal value) y = (law g is r a, y.1, (law g is r a).optimal y.0)
-yes_proves law g is r a (YesGap value upper) y = (law g is r a, y.1)
+yes_proves law g is r a (YesGap value upper) y = (law g is r a, y.1, y.2)
 yes_proves law g is r a (No line reason) y = absurd y
