@@ -1,26 +1,19 @@
 -- How few resources and choices a game has.
-use Rattle.std.proofs.Common.{◌≡◌, ◌∙◌, ℕ, zero, suc, ◌+◌, ◌-◌, ◌<◌, ◌≤◌, Bool, true, false, cond, List, [], ◌∷◌, length, Option, Some, None, slice_index, get_or, ap, subst, sym, refl, arith, inl, inr}
+use Rattle.std.proofs.Common.{◌≡◌, ◌∙◌, ℕ, ◌+◌, ◌-◌, ◌<◌, ◌≤◌, Bool, true, false, cond, List, [], ◌∷◌, length, Option, Some, None, slice_index, ap, subst, sym, refl, arith, inl, inr}
 use Rattle.std.specs.List.{All}
 use Rattle.std.proofs.lemmas.List.Elements.{All-nil, All-weaker}
-use Rattle.sg_model.specs.declared.kind.Kind.TheVariants.{Security, Matrix}
 use Rattle.sg_model.specs.Sums.{nth, numbers}
-use Rattle.sg_model.specs.Games.{Game, Named, is_matrix, resource_count, resource_schedules, unnamed}
-use Rattle.sg_model.specs.Limits.{AreListed, AreMembers, ArePatrols, IsDefended, IsGame, is_scaled}
+use Rattle.sg_model.specs.Games.{Game, Named, resource_schedules, unnamed}
+use Rattle.sg_model.specs.Limits.{AreListed, AreMembers, IsDefended, IsGame, is_scaled}
 use Rattle.sg_model.specs.Plays.{IsRow}
 use Rattle.sg_model.proofs.Numbers.{length-numbers_from}
-use Rattle.sg_model.proofs.Promises.{IsSecure, IsTabled, game_cases, nth-or, yes_matrix}
+use Rattle.sg_model.proofs.Promises.{game_cases, nth-or}
 
 schedules-patrols : (g : Game) (n r : ℕ) → g.patrols ≡ Some n → resource_schedules g r ≡ numbers (length g.goals)
 schedules-patrols g n r e = rw e refl
 
 schedules-listed : (g : Game) (r : ℕ) → g.patrols ≡ None → resource_schedules g r ≡ (nth g.resources r unnamed).members
 schedules-listed g r e = rw e refl
-
-count-patrols : (g : Game) (n : ℕ) → g.patrols ≡ Some n → resource_count g ≡ n
-count-patrols g n e = rw e refl
-
-count-listed : (g : Game) → g.patrols ≡ None → resource_count g ≡ length g.resources
-count-listed g e = rw e refl
 
 most-targets : (b : Bool) (n : ℕ) → n ≤ cond b 10000 200 → n ≤ 10000
 most-targets true n h = h
@@ -41,17 +34,6 @@ choices_few g h r = elim (game_cases g h) [
         few_listed g.resources (All-weaker (λ (x : Named). AreMembers (length g.schedules) 500 x.members) (λ (x : Named). length x.members ≤ 10000) (λ x m. omega (arith, m.size.at_most)) g.resources is.resources.members) r))
   ] refl
   | inr m ↦ rw (schedules-listed g r m.game.no_patrols) (rw m.game.no_resources (few_listed [] (All-nil (λ (x : Named). length x.members ≤ 10000)) r))
-]
-
-pub resources_few : (g : Game) → IsGame g → is_scaled g ≡ false → resource_count g ≤ 32
-resources_few g h unscaled = elim (game_cases g h) [
-  | inl s ↦ elim g.patrols as (λ (o : Option ℕ). g.patrols ≡ o → resource_count g ≤ 32) [
-    | Some n ↦ (λ e. rw (count-patrols g n e) (
-        let is : ArePatrols g n = defended_by g (Some n) e s.game.defended in rw unscaled at is.few))
-    | None ↦ (λ e. rw (count-listed g e) (
-        let is : AreListed g = defended_by g None e s.game.defended in is.resources.few))
-  ] refl
-  | inr m ↦ rw (count-listed g m.game.no_patrols) (rw m.game.no_resources (omega arith))
 ]
 
 one_of : (play : List ℕ) → length play ≡ 1 → play ≡ slice_index play 0 ∷ []

@@ -2,7 +2,7 @@
 use Rattle.std.proofs.Common.{ℕ, List, [], ◌∷◌, ◌++◌, inl, inr}
 use Rattle.sg_model.specs.Games.{Game}
 use Rattle.sg_tree.specs.declared.report.Report.{Report}
-use Rattle.sg_bounds.specs.Checking.{Stop, AllPass, FirstFails, Passes}
+use Rattle.sg_bounds.specs.Checking.{Stop, AllPass, FirstFails}
 
 pub AllPass-append : (g : Game) (r : Report) (xs ys : List Stop) → AllPass g r xs → AllPass g r ys → AllPass g r (xs ++ ys)
 AllPass-append g r [] ys h k = k

@@ -1,5 +1,5 @@
 -- Runs over tests, one behind another.
-use Rattle.std.proofs.Common.{◌≡◌, ◌∙◌, ℕ, ◌+◌, List, [], ◌∷◌, ◌++◌, length, Result, Ok, Err, ap, subst, arith}
+use Rattle.std.proofs.Common.{◌≡◌, ◌+◌, List, [], ◌∷◌, ◌++◌, length, Result, Ok, Err, ap, subst, arith}
 use Rattle.std.proofs.lemmas.List.{append_assoc, nil_from_length}
 use Rattle.sg_model.specs.Games.{Game}
 use Rattle.sg_tree.specs.declared.report.Report.{Report}

@@ -1,8 +1,8 @@
 -- The tests of leaves, of parts in order, and of the root.
-use Rattle.std.proofs.Common.{◌≡◌, ◌∙◌, ℕ, zero, suc, ◌+◌, ◌<◌, ◌≤◌, ◌-◌, ◌^◌, ◌||◌, min, true, false, Bool, List, [], ◌∷◌, ◌++◌, length, map, take, drop, get_or, ℤ, pos, ◌≤ℤ◌, Option, Some, None, Result, Ok, Err, ap, subst, sym, refl, arith, inl, inr, ◌↔◌}
+use Rattle.std.proofs.Common.{◌≡◌, ◌∙◌, ℕ, zero, suc, ◌+◌, ◌<◌, ◌≤◌, ◌-◌, ◌^◌, ◌||◌, min, true, false, Bool, List, [], ◌∷◌, ◌++◌, length, map, take, drop, get_or, pos, ◌≤ℤ◌, Option, Some, None, Result, Ok, Err, ap, subst, sym, refl, arith, inl, inr}
 use Rattle.std.proofs.lemmas.Int.{ints}
 use Rattle.std.proofs.lemmas.List.{append-nil, append_assoc, drop_all, drop_more, take_all, take_more}
-use Rattle.sg_model.specs.Games.{Game, action_count, prior_total}
+use Rattle.sg_model.specs.Games.{Game, action_count}
 use Rattle.sg_model.specs.Limits.{is_scaled}
 use Rattle.sg_frac.specs.Fractions.{Fraction, IsReduced, IsReducedForm}
 use Rattle.sg_tree.specs.declared.fact.Fact.{Fact}
@@ -10,18 +10,17 @@ use Rattle.sg_tree.specs.declared.report.Cap.{Cap}
 use Rattle.sg_tree.specs.declared.report.Report.{Report}
 use Rattle.sg_tree.specs.declared.tree.Tree.{Tree}
 use Rattle.sg_tree.specs.declared.tree.Tree.TheVariants.{Unproved, Closed, Split}
-use Rattle.sg_bounds.specs.Checking.{AllPass, FirstFails, Stop, Passes, fact_lines, fact_stops, forks, part_lines, part_stops, rooted, root_stops, tree_lines, tree_stops}
-use Rattle.sg_bounds.specs.Leaves.{fact_bound, leaf_bounds, listed, part_bounds, root_bound, tree_bounds_of}
-use Rattle.sg_bounds.specs.Trees.{IsRoot, Node, Parts, closed, node_of, part, part_count, parts_of, split, unproved}
+use Rattle.sg_bounds.specs.Checking.{AllPass, FirstFails, Passes, fact_lines, fact_stops, forks, part_lines, part_stops, rooted, tree_lines, tree_stops}
+use Rattle.sg_bounds.specs.Leaves.{fact_bound, leaf_bounds, listed, part_bounds, root_bound}
+use Rattle.sg_bounds.specs.Trees.{IsRoot, Node, Parts, node_of, part_count, parts_of, split}
 use Rattle.sg_check.specs.declared.measures.Measures.{Measures}
 use Rattle.sg_check.specs.declared.refusal.Refusal.{Refusal}
 use Rattle.sg_check.specs.declared.tree.Leaf.{Leaf}
 use Rattle.sg_check.specs.declared.tree.Top.{Top}
-use Rattle.sg_check.specs.Answering.{BoundAnswers, ForkAnswers, IsTop, LeafAnswers, PartsAnswer, Refuses, RootAnswers, Shows, TopAnswers, held}
-use Rattle.sg_check.specs.Covered.{base_has_cover, is_cover, node_has_cover, parts_have_cover}
-use Rattle.sg_check.specs.PlayTests.{IsSetting}
+use Rattle.sg_check.specs.Answering.{BoundAnswers, ForkAnswers, IsTop, LeafAnswers, PartsAnswer, Refuses, RootAnswers, Shows, held}
+use Rattle.sg_check.specs.Covered.{is_cover, node_has_cover, parts_have_cover}
 use Rattle.sg_check.specs.Spreads.{AreMeasures}
-use Rattle.sg_check.proofs.Firsts.{AllPass-append, FirstFails-left, FirstFails-right, IsRest, rest-fails, rest-itself, rest-next}
+use Rattle.sg_check.proofs.Firsts.{IsRest, rest-fails, rest-itself, rest-next}
 use Rattle.sg_check.proofs.Tops.{top-start}
 use Rattle.sg_check.proofs.Trees.{node_of-Closed, node_of-Split, node_of-Unproved, part_count-length}
 
@@ -121,9 +120,6 @@ walk-end g r n next best i parts le h =
     (pass, subst (λ (ts : List Tree). IsTop best (r.value ∷ part_bounds g r.caps 1 (Some (root_bound g)) (nodes ts))) (take_all i parts le) h.top, h.line ∙ ap held same)
 
 -- ---- the split, and the root
-
-pub fork-type : (g : Game) (r : Report) (n line l : ℕ) (parts : List Tree) → line ≡ held n → (l ≡ 1 → ⊥) → ForkAnswers g r n l (nodes parts) (Err (record { line = line; reason = 5 }))
-fork-type g r n line l parts e other = (n, inl ((λ p. other p.0), refl, refl), e)
 
 pub fork-count : (g : Game) (r : Report) (n line l count : ℕ) (parts : List Tree) → line ≡ held n → l ≡ 1 → count ≡ action_count g 1 → (length parts ≡ count → ⊥)
     → ForkAnswers g r n l (nodes parts) (Err (record { line = line; reason = 5 }))

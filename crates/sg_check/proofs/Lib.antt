@@ -1,4 +1,3 @@
-pub mod Extended
 pub mod Few
 pub mod Firsts
 pub mod Gaps

@@ -1,9 +1,9 @@
 -- What a game of one type makes of the definitions.
-use Rattle.std.proofs.Common.{◌≡◌, ◌∙◌, ℕ, List, [], ◌∷◌, ◌++◌, length, ℤ, pos, ◌+ℤ◌, ◌-ℤ◌, ◌*ℤ◌, ap, sym, subst, refl, arith}
+use Rattle.std.proofs.Common.{◌≡◌, ℕ, List, length, ℤ, pos, ◌+ℤ◌, ◌-ℤ◌, ◌*ℤ◌, ap, refl, arith}
 use Rattle.std.specs.List.{flat_map}
 use Rattle.std.proofs.lemmas.Int.{ints}
 use Rattle.std.proofs.lemmas.List.{append-nil}
-use Rattle.sg_model.specs.Sums.{total, greatest, numbers}
+use Rattle.sg_model.specs.Sums.{greatest, numbers}
 use Rattle.sg_model.specs.Games.{Game, attacker}
 use Rattle.sg_model.specs.Payoffs.{greatest_of, payoffs_of, shift_of}
 use Rattle.sg_tree.specs.declared.report.Cap.{Cap}

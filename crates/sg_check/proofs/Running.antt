@@ -14,9 +14,6 @@ pub record IsRunning (all : List ℤ) (z : ℤ) (rest : List ℤ) : Type 0 where
   pub on : All Fits (running (pos 0) all) → All Fits (running z rest)
   pub sum : z +ℤ total (λ x. x) rest ≡ total (λ x. x) all
 
-pub running-start : (all : List ℤ) → IsRunning all (pos 0) all
-running-start all = record { back = λ h. h; on = λ h. h; sum = omega (arith, ints) }
-
 pub running-more : (all : List ℤ) (z x : ℤ) (rest : List ℤ) → IsRunning all z (x ∷ rest) → Fits (z +ℤ x) → IsRunning all (z +ℤ x) rest
 running-more all z x rest h fit = record {
   back = λ k. h.back (All-cons Fits (z +ℤ x) (running (z +ℤ x) rest) fit k);

@@ -1,19 +1,18 @@
 -- The numbers of a fact's size sum and bound, as a game of one type has them.
-use Rattle.std.proofs.Common.{◌≡◌, ◌∙◌, ℕ, List, [], ◌∷◌, ◌++◌, length, map, take, drop, ℤ, pos, ◌+ℤ◌, ◌-ℤ◌, ◌*ℤ◌, ap, subst, sym, refl, arith, ◌↔◌}
+use Rattle.std.proofs.Common.{◌≡◌, ℕ, List, [], ◌∷◌, ◌++◌, length, ℤ, pos, ◌+ℤ◌, ◌*ℤ◌, subst, refl, arith, ◌↔◌}
 use Rattle.std.specs.List.{All}
 use Rattle.std.proofs.lemmas.Int.{ints}
 use Rattle.std.proofs.lemmas.List.{drop_at, take_at}
 use Rattle.std.proofs.lemmas.List.Elements.{All-append, All-cons, All-drop, All-head, All-nil, All-tail, All-take}
 use Rattle.sg_model.specs.Games.{Game, attacker}
 use Rattle.sg_model.specs.Sums.{total}
-use Rattle.sg_tree.specs.declared.fact.Fact.{Fact}
 use Rattle.sg_tree.specs.declared.fact.Fact.TheVariants.{Plays}
 use Rattle.sg_tree.specs.declared.fact.Mark.{Mark}
 use Rattle.sg_bounds.specs.Accepted.{Fits}
 use Rattle.sg_bounds.specs.Regions.{prefix}
-use Rattle.sg_bounds.specs.Sizes.{attacker_most, defender_most, running, size_list, size_sums}
+use Rattle.sg_bounds.specs.Sizes.{attacker_most, defender_most, running, size_sums}
 use Rattle.sg_check.specs.declared.measures.Measures.{Measures}
-use Rattle.sg_check.specs.Sized.{GainFits, RegretFits, SizeFits, multipliers}
+use Rattle.sg_check.specs.Sized.{SizeFits, multipliers}
 use Rattle.sg_check.specs.Spreads.{AreMeasures}
 
 All-left : (xs ys : List ℤ) → All Fits (xs ++ ys) → All Fits xs

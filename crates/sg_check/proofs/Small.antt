@@ -1,16 +1,15 @@
 -- With few tickets nothing that is formed leaves 128 bits.
-use Rattle.std.proofs.Common.{◌≡◌, ◌∙◌, ℕ, suc, ◌<◌, ◌≤◌, ◌^◌, Bool, true, false, true≢false, cond, List, [], ◌∷◌, length, ℤ, pos, negsuc, ◌+ℤ◌, ◌-ℤ◌, ◌*ℤ◌, ◌≤ℤ◌, ap, sym, subst, refl, arith, slice_index_or}
+use Rattle.std.proofs.Common.{◌≡◌, ◌∙◌, ℕ, ◌<◌, ◌≤◌, ◌^◌, Bool, true, false, true≢false, cond, List, [], ◌∷◌, length, ℤ, pos, negsuc, ◌+ℤ◌, ◌-ℤ◌, ◌*ℤ◌, ◌≤ℤ◌, sym, subst, refl, arith, slice_index_or}
 use Rattle.std.specs.List.{All}
-use Rattle.std.specs.Prelude.{Result, Ok, Err, ◌==◌}
+use Rattle.std.specs.Prelude.{Ok, Err}
 use Rattle.std.proofs.lemmas.Int.{ints}
 use Rattle.std.proofs.lemmas.Bool.Decides.{nat_tests}
 use Rattle.std.proofs.lemmas.List.Elements.{All-nil, All-cons, All-head, All-tail}
 use Rattle.sg_model.specs.declared.ticket.Ticket.{Ticket}
-use Rattle.sg_model.specs.Games.{Game, action_count, attacker, is_matrix, payoff}
+use Rattle.sg_model.specs.Games.{Game, action_count, attacker, payoff}
 use Rattle.sg_model.specs.Limits.{IsGame, IsPay}
 use Rattle.sg_model.specs.Plays.{pay_a, pay_d}
 use Rattle.sg_model.specs.Commitments.{cover_count, sum_a, sum_d, weight_total}
-use Rattle.sg_model.specs.Origami.{gap}
 use Rattle.sg_model.proofs.Ints.{v, n, plus, less, times, same_by, mul-le, product_nonneg}
 use Rattle.sg_model.proofs.Sums.{total-nonneg}
 use Rattle.sg_model.proofs.Bound.{sum_d_is}

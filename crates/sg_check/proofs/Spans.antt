@@ -27,9 +27,6 @@ spans_product m k a b p q =
       high = le_by (times x y) (n (m * k)) (omega (arith, le_from (n 0) (times (less (n m) x) (plus (n k) y)) h, le_from (n 0) (times (plus (n m) x) (less (n k) y)) i));
     }
 
-pub spans_wider : (m k : ℕ) (z : ℤ) → m ≤ k → Spans m z → Spans k z
-spans_wider m k z le s = record { low = omega (arith, ints, le, s.low); high = omega (arith, ints, le, s.high) }
-
 pub fits_span : (m : ℕ) (z : ℤ) → m < 2 ^ 127 → Spans m z → FitsSigned w128 z
 fits_span m z h s = omega (arith, ints, s.low, s.high)
 

@@ -1,25 +1,22 @@
 -- The walk over the tickets counts what covers each target.
-use Rattle.std.proofs.Common.{◌≡◌, ◌≢◌, ℕ, zero, suc, ◌+◌, ◌<◌, ◌≤◌, ◌^◌, Bool, true, false, true≢false, cond, ◌||◌, List, [], ◌∷◌, length, ℤ, pos, ◌+ℤ◌, ◌-ℤ◌, ◌*ℤ◌, ◌≤ℤ◌, sym, ◌∙◌, ap, subst, refl, arith, inl, inr, slice_index_or, replicate}
+use Rattle.std.proofs.Common.{◌≡◌, ℕ, ◌+◌, ◌<◌, ◌≤◌, ◌^◌, Bool, true, false, cond, ◌||◌, List, [], ◌∷◌, length, ℤ, pos, ◌+ℤ◌, ◌≤ℤ◌, sym, ◌∙◌, ap, subst, refl, arith, inl, inr, slice_index_or, replicate}
 use Rattle.std.specs.List.{list_any}
-use Rattle.std.specs.Prelude.{nat_eq, slice_index, slice_set, Result, Ok, Err, ◌==◌}
+use Rattle.std.specs.Prelude.{nat_eq, Ok}
 use Rattle.std.proofs.lemmas.Int.{ints}
 use Rattle.std.proofs.lemmas.Bool.{cases_eq}
 use Rattle.std.proofs.lemmas.Bool.Decides.{nat_tests}
 use Rattle.std.proofs.lemmas.List.{get_or-set_same, get_or-set_other, get_or-replicate, length-set, length-replicate}
 use Rattle.std.proofs.lemmas.List.Elements.{All-head, All-tail}
 use Rattle.sg_model.specs.declared.ticket.Ticket.{Ticket}
-use Rattle.sg_model.specs.Sums.{nth, total}
-use Rattle.sg_model.specs.Games.{Game, action_count, attacker, is_matrix, payoff, resource_schedules, schedule_targets}
-use Rattle.sg_model.specs.Limits.{IsGame, IsPay}
+use Rattle.sg_model.specs.Sums.{nth}
+use Rattle.sg_model.specs.Games.{Game, is_matrix, resource_schedules, schedule_targets}
 use Rattle.sg_model.specs.Plays.{covers, covers_from}
-use Rattle.sg_model.specs.Commitments.{cover_count, sum_a, sum_d, weight_total}
-use Rattle.sg_model.proofs.Covers.{cover_count-bounds, total-covered}
-use Rattle.sg_model.proofs.Promises.{payoff-in_range}
-use Rattle.sg_num.specs.declared.step.Op.TheVariants.{Sum, Times}
-use Rattle.sg_num.specs.Exact.{and_then, exact_dot_step, exact_sum}
+use Rattle.sg_model.specs.Commitments.{cover_count, weight_total}
+use Rattle.sg_num.specs.declared.step.Op.TheVariants.{Sum}
+use Rattle.sg_num.specs.Exact.{exact_sum}
 use Rattle.sg_check.specs.declared.tally.Cell.{Cell}
-use Rattle.sg_check.specs.Tallies.{IsCounted, IsTable, marked, no_cell, tallied, touched, touched_all, touched_from, value_or}
-use Rattle.sg_check.proofs.Small.{ArePositive, Within, exact_ok, weight_total-nonneg}
+use Rattle.sg_check.specs.Tallies.{IsTable, marked, no_cell, tallied, touched, touched_all, touched_from, value_or}
+use Rattle.sg_check.proofs.Small.{ArePositive, exact_ok, weight_total-nonneg}
 
 -- a cell after a test of whether the ticket covers its target
 abbrev tested : Bool → ℕ → ℤ → Cell → Cell

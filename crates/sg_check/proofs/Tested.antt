@@ -1,5 +1,5 @@
 -- The tests of a fact over plays, for a game of one type.
-use Rattle.std.proofs.Common.{◌≡◌, ◌∙◌, ℕ, true, false, List, [], ◌∷◌, ℤ, pos, ◌+ℤ◌, ◌*ℤ◌, ◌≤ℤ◌, ◌<ℤ◌, Option, Some, None, Result, Ok, Err, ap, subst, sym, refl, arith, ◌↔◌, inl, inr}
+use Rattle.std.proofs.Common.{◌≡◌, ◌∙◌, ℕ, true, false, List, [], ◌∷◌, ℤ, pos, ◌+ℤ◌, ◌*ℤ◌, ◌≤ℤ◌, Some, None, Ok, ap, subst, refl, arith, ◌↔◌, inl, inr}
 use Rattle.std.specs.Prelude.{int_lt}
 use Rattle.std.specs.List.{All}
 use Rattle.std.proofs.lemmas.Int.{ints}
@@ -8,7 +8,6 @@ use Rattle.sg_model.specs.Games.{Game, prior_total}
 use Rattle.sg_model.specs.Payoffs.{shift_of}
 use Rattle.sg_model.proofs.Ints.{mul-le}
 use Rattle.sg_frac.specs.Fractions.{Fraction, IsReducedForm}
-use Rattle.sg_tree.specs.declared.fact.Fact.{Fact}
 use Rattle.sg_tree.specs.declared.fact.Fact.TheVariants.{Plays}
 use Rattle.sg_tree.specs.declared.fact.Mark.{Mark}
 use Rattle.sg_tree.specs.declared.report.Cap.{Cap}
@@ -19,11 +18,10 @@ use Rattle.sg_bounds.specs.Facts.{IsPlaysFact}
 use Rattle.sg_bounds.specs.Leaves.{fact_bound, listed, rest_of}
 use Rattle.sg_bounds.specs.Regions.{prefix}
 use Rattle.sg_bounds.specs.Sizes.{bound_sums}
-use Rattle.sg_check.specs.declared.bound.Bound.{Bound}
+use Rattle.sg_check.specs.declared.quotient.Quotient.{Quotient}
 use Rattle.sg_check.specs.declared.measures.Measures.{Measures}
-use Rattle.sg_check.specs.declared.refusal.Refusal.{Refusal}
 use Rattle.sg_check.specs.declared.size.Stated.{Stated}
-use Rattle.sg_check.specs.Answering.{BoundAnswers, Refuses, Shows, held}
+use Rattle.sg_check.specs.Answering.{BoundAnswers, Refuses, held}
 use Rattle.sg_check.specs.Sized.{BoundFits, IsBoundOf, SizeFits, multipliers}
 use Rattle.sg_check.specs.Spreads.{AreMeasures}
 use Rattle.sg_check.proofs.Sizing.{size-one}
@@ -75,13 +73,13 @@ stated-empty g r m s marks n h size holds none =
     (((size-one g m s.act s.rho s.mu marks h).0 size, (holds, (bound-none g s marks r.caps none, tt))), rw none refl)
 
 -- the denominator is at least 1
-pub bound_den : (g : Game) (b : Bound) (s : Stated) (m : Measures) → AreMeasures g m → pos 1 ≤ℤ s.rho → IsBoundOf b s.rho s.mu m.rest m.priors → pos 1 ≤ℤ b.den
+pub bound_den : (g : Game) (b : Quotient) (s : Stated) (m : Measures) → AreMeasures g m → pos 1 ≤ℤ s.rho → IsBoundOf b s.rho s.mu m.rest m.priors → pos 1 ≤ℤ b.den
 bound_den g b s m h rho is =
     let p = mul-le (pos 1) s.rho m.priors rho (omega (arith, ints, h.priors_range.at_least)) in
     omega (arith, ints, is.den, p, h.priors_range.at_least)
 
 -- it bounds, and this is its bound
-pub stated-bounds : (g : Game) (r : Report) (m : Measures) (s : Stated) (marks : List Mark) (n : ℕ) (b : Bound) (f : Fraction) → AreMeasures g m
+pub stated-bounds : (g : Game) (r : Report) (m : Measures) (s : Stated) (marks : List Mark) (n : ℕ) (b : Quotient) (f : Fraction) → AreMeasures g m
     → SizeFits s.rho m.prior m.defender_most (multipliers marks) m.attacker_most → IsPlaysFact g (shift_of g) (prefix (s.act ∷ [])) s.rho s.mu marks
     → int_lt (pos 0) s.mu ≡ true → BoundFits s.rho s.mu m.rest m.priors → IsBoundOf b s.rho s.mu m.rest m.priors → IsReducedForm b.num b.den f
     → BoundAnswers g r (fact_stops n (s.act ∷ []) (Plays s.rho s.mu marks)) (listed (fact_bound g r.caps 1 (Plays s.rho s.mu marks))) (Ok (Some f))

@@ -1,11 +1,11 @@
 -- The greatest of bounds.
-use Rattle.std.proofs.Common.{◌≡◌, ◌∙◌, ℕ, List, [], ◌∷◌, ◌++◌, ℤ, pos, ◌*ℤ◌, ◌≤ℤ◌, ◌<ℤ◌, Option, Some, None, ap, subst, sym, refl, arith, ◌↔◌, ◌⊎◌, inl, inr}
-use Rattle.std.specs.List.{All, Contains}
+use Rattle.std.proofs.Common.{◌≡◌, List, [], ◌∷◌, ◌++◌, ℤ, pos, ◌*ℤ◌, ◌≤ℤ◌, Option, Some, None, subst, sym, refl, arith, ◌↔◌}
+use Rattle.std.specs.List.{All}
 use Rattle.std.proofs.lemmas.Int.{ints}
 use Rattle.std.proofs.lemmas.List.{append-nil}
-use Rattle.std.proofs.lemmas.List.Elements.{All-append, All-cons, All-contains, All-nil, All-weaker, Contains-append_left, Contains-append_right}
+use Rattle.std.proofs.lemmas.List.Elements.{All-append, All-cons, All-contains, All-nil, Contains-append_left, Contains-append_right}
 use Rattle.sg_model.proofs.Greatest.{Contains-head}
-use Rattle.sg_model.proofs.Ints.{v, times, le_by, le_from, same_by, same_from, cancel, cancel-le, mul-le}
+use Rattle.sg_model.proofs.Ints.{v, times, le_by, le_from, cancel-le, mul-le}
 use Rattle.sg_frac.specs.Fractions.{Fraction, IsReduced, IsReducedForm}
 use Rattle.sg_frac.specs.Order.{IsBelow as IsStrict}
 use Rattle.sg_frac.proofs.Apart.{same_by_cross}
@@ -107,12 +107,6 @@ raise-none b o bs more is h shows = top-none b bs more h (subst (Shows more) is 
 
 pub same-under : (b n : Fraction) → b ≡ n → IsBelow n b
 same-under b n e = rw e (omega (arith, ints))
-
-pub strict_apart : (a b : Fraction) → IsStrict a b → a ≡ b → ⊥
-strict_apart a b lt e =
-    let n = ap (λ (f : Fraction). f.num) e in
-    let same : a.num *ℤ b.den ≡ b.num *ℤ a.den = rw e refl in
-    omega (arith, ints, lt, same)
 
 pub same-reduced : (a b : Fraction) → IsReduced a → IsReduced b → (a ≡ b) ↔ IsSame a b
 same-reduced a b h k = ((λ e. rw e refl), same_by_cross a b h k)

@@ -30,7 +30,7 @@ use Rattle.sg_bounds.specs.Accepted.{Fits}
 use Rattle.sg_bounds.specs.Sizes.{pay_sums, take_sums, value_sums, worth_sums}
 use Rattle.sg_check.specs.declared.value.Best.{Best}
 use Rattle.std.specs.Prelude.{Option, Some, None, MatchOption}
-use Rattle.sg_check.specs.declared.value.Quotient.{Quotient}
+use Rattle.sg_check.specs.declared.quotient.Quotient.{Quotient}
 use Rattle.sg_check.specs.Valuing.{AreFormed, AreLegal, BestAreFormed, Forms, IsBestOf, IsTaken, IsWorthOf, paired, under_a, under_d}
 use Rattle.sg_frac.specs.Fractions.{Fraction, IsReduced, IsReducedForm}
 use Rattle.sg_frac.proofs.Reduced.{reduced_form-unique}
@@ -43,18 +43,12 @@ pub record IsSummed (pays : List ℕ → ℤ) (all : List Ticket) (z : ℤ) (res
   pub on : All Fits (pay_sums pays (pos 0) all) → All Fits (pay_sums pays z rest)
   pub sum : z +ℤ total (λ (x : Ticket). x.weight *ℤ pays x.play.code) rest ≡ total (λ (x : Ticket). x.weight *ℤ pays x.play.code) all
 
-pub summed-start : (pays : List ℕ → ℤ) (all : List Ticket) → IsSummed pays all (pos 0) all
-summed-start pays all = record { back = λ h. h; on = λ h. h; sum = omega (arith, ints) }
-
 pub step-forms : (sum product w p : ℤ) (r : Option ℤ) → Fits (w *ℤ p) → product ≡ w *ℤ p → MatchOption r (Fits (sum +ℤ product) → ⊥) (λ v. Fits (sum +ℤ product) × (v ≡ sum +ℤ product))
     → Forms r ((w *ℤ p) ∷ (sum +ℤ (w *ℤ p)) ∷ []) (sum +ℤ (w *ℤ p))
 step-forms sum product w p (Some z) fit e h =
     (All-cons Fits (w *ℤ p) ((sum +ℤ (w *ℤ p)) ∷ []) fit (All-cons Fits (sum +ℤ (w *ℤ p)) [] (subst (λ (y : ℤ). Fits (sum +ℤ y)) e h.0) (All-nil Fits)), omega (arith, ints, e, h.1))
 step-forms sum product w p None fit e h =
     λ all. h (subst (λ (y : ℤ). Fits (sum +ℤ y)) (sym e) (All-head Fits (sum +ℤ (w *ℤ p)) [] (All-tail Fits (w *ℤ p) ((sum +ℤ (w *ℤ p)) ∷ []) all)))
-
-pub step-wide : (sum w p : ℤ) → (Fits (w *ℤ p) → ⊥) → All Fits ((w *ℤ p) ∷ (sum +ℤ (w *ℤ p)) ∷ []) → ⊥
-step-wide sum w p wide all = wide (All-head Fits (w *ℤ p) ((sum +ℤ (w *ℤ p)) ∷ []) all)
 
 -- both numbers of one ticket
 abbrev pub both : (List ℕ → ℤ) → ℤ → Ticket → List ℤ

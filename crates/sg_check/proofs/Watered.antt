@@ -24,7 +24,7 @@ use Rattle.sg_model.proofs.Numbers.{All-numbers, All-numbers-at, length-numbers_
 use Rattle.sg_model.proofs.Best.{filter_none}
 use Rattle.sg_model.proofs.Sums.{total-nonneg}
 use Rattle.sg_model.proofs.Promises.{game_cases, origami, payoff-in_range}
-use Rattle.std.specs.Prelude.{Option, None, MatchOption, Result, Ok, Err}
+use Rattle.std.specs.Prelude.{Option, None, MatchOption}
 use Rattle.sg_game.proofs.Patrols.{numbers-more}
 use Rattle.sg_game.proofs.Spreads.{greatest-append}
 use Rattle.sg_model.specs.Sums.{greatest}
@@ -32,15 +32,9 @@ use Rattle.sg_model.specs.Origami.{water_bound}
 use Rattle.sg_model.proofs.Sums.{total-append}
 use Rattle.sg_num.proofs.Signs.{mul-pos}
 use Rattle.sg_frac.specs.Fractions.{Fraction, IsReducedForm}
-use Rattle.sg_tree.specs.declared.report.Report.{Report}
-use Rattle.sg_bounds.specs.Trees.{node_of}
-use Rattle.sg_bounds.specs.Leaves.{tree_bounds_of}
-use Rattle.sg_bounds.specs.Checking.{root_stops}
-use Rattle.sg_check.specs.Answering.{held}
-use Rattle.sg_check.specs.declared.refusal.Refusal.{Refusal}
 use Rattle.sg_check.specs.declared.water.Height.{Height}
 use Rattle.sg_check.specs.declared.water.Pays.{Pays}
-use Rattle.sg_check.specs.Watering.{ArePays, ArePaysOf, IsBounding, IsFillable, IsSmall, ShowsBound, WaterAnswers, WaterTold, greatest_in, joined, part}
+use Rattle.sg_check.specs.Watering.{ArePays, ArePaysOf, IsBounding, IsFillable, IsSmall, ShowsBound, greatest_in, joined, part}
 use Rattle.sg_check.proofs.Spans.{Spans, multiple_bounds, spans_product, spans_total}
 
 -- ---- the game
@@ -293,19 +287,6 @@ water-shows g level b low scaled h =
     let m = mul-pos level.den g.scale (omega (arith, ints, low)) (omega (arith, ints, scaled)) in
     (record { num = water_bound g level.num level.den; den = level.den *ℤ g.scale }, refl, omega (arith, ints, m), h)
 
-pub water-answers : (g : Game) (r : Report) → is_scaled g ≡ true → (line : ℕ) (told : Result Fraction ℕ) → WaterTold g (node_of r.tree) told
-    → (made : Result Fraction Refusal) → ((b : Fraction) → told ≡ Ok b → made ≡ Ok b) → ((reason : ℕ) → told ≡ Err reason → made ≡ Err (record { line = held line; reason = reason }))
-    → WaterAnswers g r (root_stops g line (node_of r.tree)) (tree_bounds_of g r.caps (node_of r.tree)) made
-water-answers g r scaled line (Ok b) h made good bad =
-    subst (WaterAnswers g r (root_stops g line (node_of r.tree)) (tree_bounds_of g r.caps (node_of r.tree))) (sym (good b refl))
-    (rw scaled ((h.0, (h.1, tt)), h.2 r.caps))
-water-answers g r scaled line (Err reason) h made good bad =
-    subst (WaterAnswers g r (root_stops g line (node_of r.tree)) (tree_bounds_of g r.caps (node_of r.tree))) (sym (bad reason refl))
-    (rw scaled (elim h [
-      | inl a ↦ (line, inl (a.1, refl, sym a.0), refl)
-      | inr a ↦ (line, inr (a.1, inl (a.2, refl, sym a.0)), refl)
-    ]))
-
 -- ---- what is formed of one target
 
 pub count-made : (g : Game) (num den : ℤ) (t : ℕ) (p : Pays) → ArePaysOf g t p → num ≤ℤ (p.uncovered *ℤ den) → p.multiple *ℤ (p.uncovered *ℤ den -ℤ num) ≡ count_at g num den t
@@ -375,14 +356,6 @@ greatest-more g h i best one next e m is =
     let split : map (part g h) (filter p (numbers (i + 1))) ≡ map (part g h) (filter p (numbers i)) ++ map (part g h) (filter p ((i + 1) ∷ [])) =
     ap (λ (xs : List ℕ). map (part g h) (filter p xs)) (numbers-more i) ∙ (ap (map (part g h)) (filter-append p (numbers i) ((i + 1) ∷ [])) ∙ map-append (part g h) (filter p (numbers i)) (filter p ((i + 1) ∷ []))) in
     is ∙ ((λ j. joined (e j) (last j)) ∙ (joined-append (map (part g h) (filter p (numbers i))) (map (part g h) (filter p ((i + 1) ∷ []))) ∙ ap greatest_in (sym split)))
-
-pub greatest-some : (xs : List ℤ) (z : ℤ) → Some z ≡ greatest_in xs → z ≡ greatest xs
-greatest-some [] z e = cc
-greatest-some (x ∷ xs) z e = cc
-
-pub greatest-none : (f : ℕ → ℤ) (xs : List ℕ) → xs ≢ [] → None ≡ greatest_in (map f xs) → ⊥
-greatest-none f [] some e = some refl
-greatest-none f (x ∷ xs) some e = cc
 
 pub none-more : (g : Game) (num den : ℤ) (i : ℕ) → ((t : ℕ) → 1 ≤ t → t ≤ i → num ≤ℤ ((payoff g 1 t).au *ℤ den) → ⊥) → (num ≤ℤ ((payoff g 1 (i + 1)).au *ℤ den) → ⊥)
     → (t : ℕ) → 1 ≤ t → t ≤ i + 1 → num ≤ℤ ((payoff g 1 t).au *ℤ den) → ⊥

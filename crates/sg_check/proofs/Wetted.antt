@@ -1,16 +1,13 @@
 -- The tests of a root that is a water level.
-use Rattle.std.proofs.Common.{◌≡◌, ◌∙◌, ℕ, ◌+◌, ◌-◌, ◌^◌, min, true, false, Bool, List, [], ◌∷◌, ◌++◌, Some, Ok, ap, subst, sym, refl, arith, MatchBool}
+use Rattle.std.proofs.Common.{◌≡◌, ◌∙◌, ℕ, ◌+◌, ◌-◌, ◌^◌, min, true, List, [], ◌∷◌, ◌++◌, Some, Ok, ap, subst, sym, refl, arith}
 use Rattle.sg_model.specs.Games.{Game}
 use Rattle.sg_model.specs.Limits.{is_scaled}
 use Rattle.sg_frac.specs.Fractions.{Fraction, IsReduced}
 use Rattle.sg_tree.specs.declared.report.Report.{Report}
-use Rattle.sg_tree.specs.declared.fact.Fact.{Fact}
 use Rattle.sg_tree.specs.declared.fact.Fact.TheVariants.{Plays, Cover, Water}
-use Rattle.sg_bounds.specs.Accepted.{IsWaterTree}
 use Rattle.sg_bounds.specs.Checking.{AllPass, IsWaterRoot, root_stops, tree_lines}
 use Rattle.sg_bounds.specs.Leaves.{tree_bounds_of}
 use Rattle.sg_bounds.specs.Trees.{Node, closed, node_of, split, unproved}
-use Rattle.sg_check.specs.declared.tree.Top.{Top}
 use Rattle.sg_check.specs.Answering.{IsTop, RootAnswers, Shows, WaterAnswers, held}
 use Rattle.sg_check.proofs.Tops.{top-start}
 

@@ -1,9 +1,9 @@
 -- Products and sums within 128 bits.
-use Rattle.std.proofs.Common.{◌≡◌, ◌∙◌, ℕ, ◌-◌, ◌^◌, ◌<◌, ◌≤◌, ℤ, pos, ◌+ℤ◌, ◌-ℤ◌, ◌*ℤ◌, ◌≤ℤ◌, of_z, to_z, ap, subst, sym, refl, arith}
+use Rattle.std.proofs.Common.{◌≡◌, ◌∙◌, ◌-◌, ◌^◌, ℤ, pos, ◌-ℤ◌, ◌*ℤ◌, ◌≤ℤ◌, of_z, to_z, sym, refl, arith}
 use Rattle.std.specs.Prelude.{FitsSigned, IsTrue, ◌↔◌, int_le}
 use Rattle.std.specs.Int.{w128}
 use Rattle.std.proofs.lemmas.Int.{ints, to_z-of_z}
-use Rattle.sg_model.proofs.Ints.{v, n, less, times, le_by, le_from, mul-le, product_nonneg, same_by}
+use Rattle.sg_model.proofs.Ints.{v, n, less, times, le_by, le_from, mul-le, product_nonneg}
 use Rattle.sg_num.proofs.Steps.{FitsSigned-from_fits}
 use Rattle.sg_bounds.specs.Accepted.{Fits}
 

@@ -1,5 +1,5 @@
 -- What a run over tests of a report answers: nothing where all pass, else the first that fails.
-use Rattle.std.specs.Prelude.{◌≡◌, ℕ, ◌+◌, ◌-◌, ◌^◌, List, [], ◌∷◌, ℤ, pos, ◌≤ℤ◌, All, min, Option, Some, None, Result, Ok, Err}
+use Rattle.std.specs.Prelude.{◌≡◌, ℕ, ◌+◌, ◌-◌, ◌^◌, List, [], ◌∷◌, pos, ◌≤ℤ◌, All, min, Option, Some, None, Result, Ok, Err}
 use Rattle.sg_frac.specs.Fractions.{Fraction, IsReduced, IsReducedForm}
 use Rattle.sg_model.specs.Games.{Game}
 use Rattle.sg_tree.specs.declared.report.Report.{Report}

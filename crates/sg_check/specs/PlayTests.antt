@@ -1,5 +1,5 @@
 -- What testing a fact over plays asks of each play, for a game of one type.
-use Rattle.std.specs.Prelude.{◌≡◌, ℕ, ◌<◌, ◌≤◌, ◌+◌, List, [], ◌∷◌, length, ℤ, pos, ◌-ℤ◌, ◌*ℤ◌, ◌≤ℤ◌, false, All, slice_index, take}
+use Rattle.std.specs.Prelude.{◌≡◌, ℕ, ◌<◌, ◌≤◌, ◌+◌, List, [], ◌∷◌, length, pos, ◌-ℤ◌, ◌*ℤ◌, ◌≤ℤ◌, false, All, slice_index, take}
 use Rattle.sg_model.specs.Games.{Game, resource_count, resource_schedules}
 use Rattle.sg_model.specs.Plays.{IsLegal, IsLegalJoint}
 use Rattle.sg_model.specs.Limits.{is_scaled}

@@ -4,7 +4,7 @@ use Rattle.sg_model.specs.Sums.{total}
 use Rattle.sg_tree.specs.declared.fact.Mark.{Mark}
 use Rattle.sg_bounds.specs.Accepted.{Fits}
 use Rattle.sg_bounds.specs.Sizes.{running}
-use Rattle.sg_check.specs.declared.bound.Bound.{Bound}
+use Rattle.sg_check.specs.declared.quotient.Quotient.{Quotient}
 
 -- the multipliers of marks
 abbrev pub multipliers : List Mark → List ℤ
@@ -33,6 +33,6 @@ pub record BoundFits (rho mu rest priors : ℤ) : Type 0 where
   pub den : Fits (rho *ℤ priors)
 
 -- the parts of that bound
-pub record IsBoundOf (b : Bound) (rho mu rest priors : ℤ) : Type 0 where
+pub record IsBoundOf (b : Quotient) (rho mu rest priors : ℤ) : Type 0 where
   pub num : b.num ≡ mu +ℤ (rho *ℤ rest)
   pub den : b.den ≡ rho *ℤ priors

@@ -1,5 +1,5 @@
 -- The ends of an attacker's payoffs, and the numbers of a game that its facts are measured by.
-use Rattle.std.specs.Prelude.{◌≡◌, ◌≢◌, ◌+◌, ◌^◌, List, [], ℤ, pos, ◌-ℤ◌, ◌≤ℤ◌}
+use Rattle.std.specs.Prelude.{◌≡◌, ◌≢◌, ◌+◌, ◌^◌, List, [], ℤ, pos, ◌-ℤ◌}
 use Rattle.sg_model.specs.Games.{Game, attacker, prior_total}
 use Rattle.sg_model.specs.Limits.{IsPay, IsWithin}
 use Rattle.sg_model.specs.Payoffs.{greatest_of, shift_of}

@@ -7,7 +7,7 @@ use Rattle.sg_model.specs.Commitments.{sum_a, sum_d, weight_total, worth}
 use Rattle.sg_bounds.specs.Accepted.{Fits}
 use Rattle.sg_bounds.specs.Sizes.{pay_sums}
 use Rattle.sg_check.specs.declared.value.Best.{Best}
-use Rattle.sg_check.specs.declared.value.Quotient.{Quotient}
+use Rattle.sg_check.specs.declared.quotient.Quotient.{Quotient}
 
 -- a number is formed: it is the one that is meant and all numbers under it fit, or there is none and one of them doesn't
 abbrev pub Forms : Option ℤ → List ℤ → ℤ → Type 0

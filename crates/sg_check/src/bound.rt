@@ -1,26 +1,20 @@
 //! The bounds of leaves.
 
-ghost use Rattle.std.specs.Prelude.{◌≡◌, ◌≤ℤ◌, MatchOption, length, pos};
+ghost use Rattle.std.specs.Prelude.{◌≡◌, MatchOption, length};
 ghost use Rattle.sg_frac.specs.Fractions.{IsReducedForm};
 ghost use Rattle.sg_bounds.specs.Leaves.{root_bound};
 ghost use Rattle.sg_check.specs.Sized.{BoundFits, IsBoundOf};
 ghost use Rattle.sg_check.specs.Spreads.{AreMeasures};
 
 use crate::measures::Measures;
+use crate::quotient::{Quotient, reduced};
 use crate::size::Stated;
 use crate::step::{added, multiplied};
 use sg_frac::Frac;
 use sg_game::Game;
 
-/// A bound on the defender's value, not reduced yet.
-#[derive(Clone, Copy)]
-pub(crate) struct Bound {
-    pub(crate) num: i128,
-    pub(crate) den: i128,
-}
-
 /// The bound of a fact, and none where a number under it doesn't fit.
-pub(crate) fn bound_of(measures: &Measures, stated: &Stated) -> Option<Bound>
+pub(crate) fn bound_of(measures: &Measures, stated: &Stated) -> Option<Quotient>
     ensures { MatchOption result (BoundFits stated.now.rho stated.now.mu measures.now.rest measures.now.priors → ⊥) (λ b. BoundFits stated.now.rho stated.now.mu measures.now.rest measures.now.priors × IsBoundOf b stated.now.rho stated.now.mu measures.now.rest measures.now.priors) }
 {
     let share = match multiplied(stated.rho, measures.rest) {
@@ -31,19 +25,8 @@ pub(crate) fn bound_of(measures: &Measures, stated: &Stated) -> Option<Bound>
         added(stated.mu, share),
         multiplied(stated.rho, measures.priors),
     ) {
-        (Some(num), Some(den)) => Some(Bound { num, den }),
+        (Some(num), Some(den)) => Some(Quotient { num, den }),
         _ => None,
-    }
-}
-
-/// The reduced form, which fits since both parts do.
-pub(crate) fn reduced(bound: &Bound) -> Frac
-    requires { pos 1 ≤ℤ bound.now.den }
-    ensures { IsReducedForm bound.now.num bound.now.den result }
-{
-    match Frac::of(bound.num, bound.den) {
-        Some(fraction) => fraction,
-        None => unreachable!(),
     }
 }
 
@@ -53,7 +36,7 @@ pub(crate) fn open_bound(game: &Game, measures: &Measures) -> Frac
     requires measures { AreMeasures game.now measures.now }
     ensures { IsReducedForm (root_bound game.now).num (root_bound game.now).den result }
 {
-    reduced(&Bound {
+    reduced(&Quotient {
         num: measures.prior * measures.greatest,
         den: measures.priors,
     })

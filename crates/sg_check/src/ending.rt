@@ -7,12 +7,11 @@ ghost use Rattle.sg_bounds.specs.Leaves.{tree_bounds_of};
 ghost use Rattle.sg_bounds.specs.Trees.{node_of};
 ghost use Rattle.sg_check.specs.Answering.{Answers, IsTop, held};
 
+use crate::quotient::is_same;
 use crate::refusal::Refusal;
 use crate::tree::Top;
-use sg_frac::Frac;
 use sg_game::Game;
 use sg_tree::{Ending, Report};
-use std::cmp::Ordering;
 
 /// Whether a report says that its bounds meet.
 pub(crate) fn is_optimal(report: &Report) -> bool
@@ -24,24 +23,13 @@ pub(crate) fn is_optimal(report: &Report) -> bool
     }
 }
 
-/// Whether two fractions are the same.
-fn is_same(left: Frac, right: Frac) -> bool
-    ensures { IsTrue result ↔ (left ≡ right) }
-{
-    match left.compare(right) {
-        Ordering::Less => false,
-        Ordering::Equal => true,
-        Ordering::Greater => false,
-    }
-}
-
 /// Whether the value is the upper bound.
 fn bounds_meet(report: &Report) -> bool
     ensures { IsTrue result ↔ IsSame report.now.value report.now.upper }
 {
     let _value = report.value.den();
     let _upper = report.upper.den();
-    is_same(report.value, report.upper)
+    is_same(&report.value, &report.upper)
 }
 
 /// Whether a report says that its bounds meet just where they do.
@@ -62,7 +50,7 @@ pub(crate) fn test_ending(game: &Game, report: &Report, top: &Top) -> Result<(),
     ensures { Answers game.now report.now (end_stops report.now) result }
 {
     let _upper = report.upper.den();
-    if !is_same(top.best, report.upper) {
+    if !is_same(&top.best, &report.upper) {
         return Err(Refusal {
             line: top.next,
             reason: 7,

@@ -8,9 +8,10 @@ ghost use Rattle.sg_check.specs.Answering.{BoundAnswers, held};
 ghost use Rattle.sg_check.specs.Covered.{is_cover};
 ghost use Rattle.sg_check.specs.PlayTests.{IsPlaced, IsTestedAt};
 
-use crate::bound::{bound_of, reduced};
+use crate::bound::bound_of;
 use crate::marks::holds;
 use crate::measures::Measures;
+use crate::quotient::reduced;
 use crate::refusal::Refusal;
 use crate::size::{Stated, has_size};
 use sg_frac::Frac;

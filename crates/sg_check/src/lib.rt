@@ -26,6 +26,7 @@ mod fact;
 mod marks;
 mod measures;
 mod plays;
+mod quotient;
 mod refusal;
 mod root;
 mod size;

@@ -2,7 +2,6 @@
 
 ghost use Rattle.std.specs.Prelude.{◌≡◌, ◌↔◌, ◌≤◌, ◌+ℤ◌, ◌*ℤ◌, ◌≤ℤ◌, [], ◌∷◌, All, IsTrue, MatchOption, Some, length, pos, ◌^◌, false};
 ghost use Rattle.std.specs.Int.{int_max};
-ghost use Rattle.sg_frac.specs.Fractions.{IsReducedForm};
 ghost use Rattle.sg_model.specs.declared.ticket.Ticket.{Ticket};
 ghost use Rattle.sg_model.specs.Games.{action_count, is_matrix};
 ghost use Rattle.sg_model.specs.Commitments.{sum_a, sum_d, take_of, weight_total};
@@ -15,6 +14,7 @@ ghost use Rattle.sg_check.specs.Parts.{total_stops, worth_stops};
 ghost use Rattle.sg_check.specs.Tallies.{IsTable};
 ghost use Rattle.sg_check.specs.Valuing.{AreFormed, AreLegal, BestAreFormed, Forms, IsBestOf, IsTaken, IsWorthOf, paired, under_a, under_d};
 
+use crate::quotient::{Quotient, is_same, reduced};
 use crate::refusal::Refusal;
 use crate::step::multiplied;
 use crate::tally::{Cell, ROOM, count_all, table_a, table_d};
@@ -243,13 +243,6 @@ fn take(game: &Game, tickets: &[Ticket], total: i128) -> Option<i128>
     }
 }
 
-/// A value, not reduced yet.
-#[derive(Clone, Copy)]
-pub(crate) struct Quotient {
-    pub(crate) num: i128,
-    pub(crate) den: i128,
-}
-
 /// Both parts, where they are there.
 fn pair(num: Option<i128>, den: Option<i128>) -> Option<Quotient>
     ensures { result ≡ paired num den }
@@ -275,24 +268,6 @@ fn value_of(game: &Game, tickets: &[Ticket], total: i128) -> Option<Quotient>
     let num = multiplied(i128::from(game.prior(1)), taken);
     let den = multiplied(total, i128::from(prior_total(game)));
     pair(num, den)
-}
-
-/// Whether both have the same parts.
-fn is_same(one: &Frac, two: &Frac) -> bool
-    ensures { IsTrue result ↔ (one.now ≡ two.now) }
-{
-    one == two
-}
-
-/// The same in lowest terms, which fit since both parts do.
-pub(crate) fn reduced(value: &Quotient) -> Frac
-    requires { pos 1 ≤ℤ value.now.den }
-    ensures { IsReducedForm value.now.num value.now.den result }
-{
-    match Frac::of(value.num, value.den) {
-        Some(fraction) => fraction,
-        None => unreachable!(),
-    }
 }
 
 /// Whether the fraction, which is in lowest terms, is the value.

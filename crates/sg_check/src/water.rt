@@ -14,9 +14,9 @@ ghost use Rattle.sg_bounds.specs.Trees.{closed, node_of};
 ghost use Rattle.sg_check.specs.Answering.{held};
 ghost use Rattle.sg_check.specs.Watering.{ArePays, ArePaysOf, IsBounding, IsFillable, IsSmall, WaterAnswers, WaterTold, greatest_in, joined, part};
 
+use crate::quotient::{Quotient, reduced};
 use crate::refusal::Refusal;
 use crate::step::multiplied;
-use crate::value::{Quotient, reduced};
 use sg_frac::Frac;
 use sg_game::Game;
 use sg_model::Level;

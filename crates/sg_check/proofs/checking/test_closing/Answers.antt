@@ -1,5 +1,5 @@
-use Rattle.std.proofs.Common.{◌≡◌, ◌++◌, ◌∙◌, ap, sym}
-use Rattle.sg_bounds.specs.Checking.{bound_stops, end_stops, root_line, root_stops, value_line}
+use Rattle.std.proofs.Common.{◌++◌, ◌∙◌, ap, sym}
+use Rattle.sg_bounds.specs.Checking.{bound_stops, end_stops, root_line, root_stops}
 use Rattle.sg_bounds.specs.Trees.{node_of}
 use Rattle.sg_check.specs.Answering.{held}
 use Rattle.sg_check.proofs.Joined.{answers-then, refuses-behind, refuses-then, root-behind_value}

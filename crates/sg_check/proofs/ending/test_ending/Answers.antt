@@ -1,4 +1,4 @@
-use Rattle.std.proofs.Common.{◌≡◌, ◌+◌, ◌∷◌, inl, inr, refl, rules, arith, subst, sym}
+use Rattle.std.proofs.Common.{◌≡◌, ◌+◌, ◌∷◌, inl, inr, refl, arith, subst}
 use Rattle.sg_frac.specs.Fractions.{Fraction}
 use Rattle.sg_bounds.specs.Accepted.{IsGreatest}
 use Rattle.sg_bounds.specs.Checking.{upper_line}

@@ -1,4 +1,4 @@
-use Rattle.std.proofs.Common.{◌≡◌, ◌∙◌, ◌≤ℤ◌, arith, false, true, refl, pos, rules, sym, of_z, to_z}
+use Rattle.std.proofs.Common.{◌≡◌, arith, false, true, refl, pos, rules, sym, of_z, to_z}
 use Rattle.std.specs.Prelude.{int_lt}
 use Rattle.std.specs.Int.{w128}
 use Rattle.std.proofs.lemmas.Int.{ints, to_z-of_z}

@@ -1,4 +1,4 @@
-use Rattle.std.proofs.Common.{◌≡◌, ◌<◌, ◌+◌, ℕ, length, arith, refl}
+use Rattle.std.proofs.Common.{◌≡◌, length, arith, refl}
 use Rattle.sg_check.specs.PlayTests.{PlayHolds}
 use Rattle.sg_check.proofs.Few.{rows_all}
 use Rattle.sg_check.proofs.plays.rows_hold.Goals as goal

@@ -1,5 +1,4 @@
 use Rattle.std.proofs.Common.{◌≤◌, arith, length}
-use Rattle.std.proofs.lemmas.Int.{ints}
 use Rattle.sg_model.specs.Games.{is_matrix}
 use Rattle.sg_game.specs.Counts.{target_count}
 use Rattle.sg_check.proofs.Small.{few_targets}

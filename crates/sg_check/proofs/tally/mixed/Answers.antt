@@ -1,4 +1,4 @@
-use Rattle.std.proofs.Common.{◌^◌, ◌*◌, ◌*ℤ◌, arith}
+use Rattle.std.proofs.Common.{◌^◌, ◌*ℤ◌, arith}
 use Rattle.std.proofs.lemmas.Int.{ints}
 use Rattle.sg_check.proofs.Spans.{Spans, made, made_sum, read}
 use Rattle.sg_check.proofs.tally.mixed.Goals as goal

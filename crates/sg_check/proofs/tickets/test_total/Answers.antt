@@ -1,4 +1,4 @@
-use Rattle.std.proofs.Common.{refl, inl, inr, arith, rules}
+use Rattle.std.proofs.Common.{refl, inl, inr, arith}
 use Rattle.std.proofs.lemmas.Int.{ints}
 use Rattle.sg_check.proofs.Totals.{divided_by, lowest_by}
 use Rattle.sg_check.proofs.tickets.test_total.Goals as goal

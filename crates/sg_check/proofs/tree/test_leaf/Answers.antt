@@ -1,4 +1,3 @@
-use Rattle.std.proofs.Common.{refl}
 use Rattle.sg_check.proofs.Leaved.{closed-no_cover, leaf-closed, leaf-fails, leaf-open, leaf-split}
 use Rattle.sg_check.proofs.tree.test_leaf.Goals as goal
 

@@ -1,4 +1,4 @@
-use Rattle.std.proofs.Common.{◌≡◌, arith}
+use Rattle.std.proofs.Common.{arith}
 use Rattle.sg_check.proofs.Leaved.{part-no_cover, walk-end, walk-fails, walk-more, walk-start}
 use Rattle.sg_check.proofs.tree.test_parts.Goals as goal
 

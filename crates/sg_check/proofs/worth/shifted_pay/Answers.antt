@@ -1,4 +1,4 @@
-use Rattle.std.proofs.Common.{◌≡◌, ◌≤ℤ◌, pos, arith}
+use Rattle.std.proofs.Common.{arith}
 use Rattle.std.proofs.lemmas.Int.{ints}
 use Rattle.sg_check.proofs.Gaps.{shifted_within}
 use Rattle.sg_check.proofs.worth.shifted_pay.Goals as goal

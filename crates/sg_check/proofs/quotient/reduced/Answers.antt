@@ -3,7 +3,7 @@ use Rattle.std.specs.Int.{w128}
 use Rattle.std.proofs.lemmas.Int.{ints, to_z-of_z}
 use Rattle.sg_num.proofs.Steps.{fits-from_FitsSigned}
 use Rattle.sg_frac.proofs.Steps.{not_wide_of_fits}
-use Rattle.sg_check.proofs.value.reduced.Goals as goal
+use Rattle.sg_check.proofs.quotient.reduced.Goals as goal
 
 pub unreachable-requires : goal.unreachable-requires
 unreachable-requires c =
