@@ -23,3 +23,6 @@ pub use parts::PartFault;
 pub use response::{is_best, take};
 pub use sums::{sum_a, sum_d};
 pub use values::{value, worth};
+
+#[cfg(test)]
+mod tests;
