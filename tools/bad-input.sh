@@ -38,7 +38,8 @@ expect 2 'words refused' solve
 expect 2 'words refused' "$game"
 expect 2 'words refused' solve "$game" extra
 expect 2 'words refused' solve -x "$game"
-expect 2 'words refused' check "$game" "$game"
+expect 2 'words refused' check "$game"
+expect 2 'words refused' show "$game" "$game" "$game"
 expect 2 'words refused' solve $'\377'
 expect 4 'game not read' solve missing.toml
 expect 4 'game not read' solve folder
@@ -47,9 +48,22 @@ expect 6 'game refused 1 at document' solve not-utf8.toml
 expect 6 'game refused 1 at document' solve not-toml.toml
 expect 6 'game refused 3 at document' solve empty.toml
 expect 6 'game refused 3 at document' solve comment.toml
-expect 3 'not yet' solve "$top/examples/airport.toml"
+expect 3 'not yet' solve "$top/examples/two-attackers.toml"
 expect 3 'not yet' solve "$top/examples/marshals.toml"
 expect 3 'not yet' solve "$top/examples/inspection.toml"
+
+"$program" solve "$game" >right.report
+sed 's/^value 2 3/value 1 1/' right.report >wrong.report
+for command in check show; do
+  expect 4 'game not read' "$command" missing.toml missing.report
+  expect 6 'game refused 3 at document' "$command" empty.toml missing.report
+  expect 3 'not yet' "$command" "$top/examples/two-attackers.toml" missing.report
+  expect 4 'report not read' "$command" "$game" missing.report
+  expect 4 'report not read' "$command" "$game" folder
+  expect 7 'report refused 2 at line 1' "$command" "$game" empty.toml
+  expect 7 'report refused 1 at line 1' "$command" "$game" "$game"
+  expect 7 'no 3 at line 5' "$command" "$game" wrong.report
+done
 
 # a standard output that fails
 "$program" solve "$game" >/dev/full 2>err
