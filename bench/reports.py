@@ -9,7 +9,7 @@ seconds in which Python splits the report into lines and numbers; and the ratios
 Reading is the difference of the refused report and the empty one.
 """
 import os
-import subprocess
+import shutil
 import sys
 import tempfile
 import time
@@ -45,24 +45,29 @@ def timed(words, out, wanted):
     return least, most
 
 
-def put(path, text):
-    with open(path, "w") as file:
+def append(path, text):
+    with open(path, "a") as file:
         file.write(text)
 
 
-def text_of(path):
+def first_line(path):
     with open(path) as file:
-        return file.read()
+        return file.readline()
 
 
-def plain_reading(text):
-    """The seconds in which Python splits a report into lines, and the ticket lines into numbers."""
-    start = time.perf_counter()
-    for line in text.split("\n"):
-        fields = line.split(" ")
-        if fields[0] == "t":
-            list(map(int, fields[1:]))
-    return time.perf_counter() - start
+def plain_reading(path):
+    """The least seconds in which Python splits a report into lines, and the ticket lines into numbers."""
+    with open(path) as file:
+        text = file.read()
+    least = float("inf")
+    for _ in range(RUNS):
+        start = time.perf_counter()
+        for line in text.split("\n"):
+            fields = line.split(" ")
+            if fields[0] == "t":
+                list(map(int, fields[1:]))
+        least = min(least, time.perf_counter() - start)
+    return least
 
 
 def measure(folder, targets, patrols):
@@ -71,19 +76,20 @@ def measure(folder, targets, patrols):
     )
     write_game(game, close_payoffs_of(targets, targets), patrols)
     solve, _ = timed(["solve", game], report, 0)
-    text = text_of(report)
-    put(longer, text + "more\n")
-    put(empty, "")
+    shutil.copy(report, longer)
+    append(longer, "more\n")
+    append(empty, "")
     check, peak = timed(["check", game, report], out, 0)
-    if not text_of(out).startswith("yes optimal "):
+    if not first_line(out).startswith("yes optimal "):
         sys.exit("patrol check: the answer is not 'yes optimal'")
     refused, _ = timed(["check", game, longer], out, 7)
     alone, _ = timed(["check", game, empty], out, 7)
     show, _ = timed(["show", game, report], out, 0)
-    plain = min(plain_reading(text) for _ in range(RUNS))
+    # Last, since a run's peak memory is at least that of this script when it starts it.
+    plain = plain_reading(report)
     read = refused - alone
     print(
-        f"{targets:7d}  {patrols:7d}  {len(text) / 2**20:9.1f}  {solve:7.3f}  {check:7.3f}  {refused:7.3f}  {alone:7.3f}  {show:7.3f}  "
+        f"{targets:7d}  {patrols:7d}  {os.path.getsize(report) / 2**20:9.1f}  {solve:7.3f}  {check:7.3f}  {refused:7.3f}  {alone:7.3f}  {show:7.3f}  "
         f"{peak:7.1f}  {plain:8.3f}  {check / plain:7.2f}  {read / plain:6.2f}  {show / plain:6.2f}"
     )
 
