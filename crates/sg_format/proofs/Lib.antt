@@ -10,3 +10,7 @@ pub mod Files
 pub mod Faults
 pub mod FaultyLists
 pub mod TopLists
+pub mod Broken
+pub mod Entries
+pub mod Parted
+pub mod Tables

@@ -8,3 +8,5 @@ pub mod GameFileLaws
 pub mod GameTextLaws
 pub mod Changes
 pub mod FaultLaws
+pub mod Parts
+pub mod PartLaws
