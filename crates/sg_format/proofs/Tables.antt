@@ -176,3 +176,308 @@ named_part_fails place group known limit others first second x (members part) va
     let own = stays (codes "name") key (Some c.value) t.own c.old c.new (name_key group) c.differs t.own_there in
     let broken = members_part_fails place known limit t.listed c.value x.members part value r distinct t.members_read (rw t.listed_there at c.change) e in
     rw is (named_members_fail place key known limit others c.new t.own c.value x.name r keys own c.differs.here t.name_read broken)
+
+-- what stands at the keys of a type in security form
+record IsSecurityTable (place : Place) (scaled : Bool) (targets : ℕ) (others : List Attacker) (t : Members) : Type 0 where
+  own : Data
+  weight : Data
+  listed : Data
+  text : List ℕ
+  prior : ℤ
+  rows : List (List ℤ)
+  keys : has_only is_security_type_key t ≡ true
+  own_there : get_member (codes "name") t ≡ Some own
+  weight_there : get_member (codes "prior") t ≡ Some weight
+  listed_there : get_member (codes "payoffs") t ≡ Some listed
+  name_read : new_name place (map (λ (x : Attacker). x.name) others) own ≡ Ok text
+  prior_read : prior_at place scaled weight ≡ Ok prior
+  rows_read : pay_table_at place targets 4 listed ≡ Ok rows
+
+security_table : (place : Place) (scaled : Bool) (targets : ℕ) (others : List Attacker) (t : Members) (x : Attacker) → security_type_at place scaled targets others (table t) ≡ Ok x
+    → IsSecurityTable place scaled targets others t
+unfolding security_type_at
+security_table place scaled targets others t x h =
+    after_test (has_only is_security_type_key t) _ _ h (λ e2 h2.
+    after (needed_at place (codes "name") t) h2 (λ own e3 h3.
+    after (needed_at place (codes "prior") t) h3 (λ weight e4 h4.
+    after (needed_at place (codes "payoffs") t) h4 (λ listed e5 h5.
+    after (new_name place (map (λ (x : Attacker). x.name) others) own) h5 (λ text e6 h6.
+    after (prior_at place scaled weight) h6 (λ prior e7 h7.
+    after (pay_table_at place targets 4 listed) h7 (λ rows e8 last.
+    record {
+      own = own;
+      weight = weight;
+      listed = listed;
+      text = text;
+      prior = prior;
+      rows = rows;
+      keys = e2;
+      own_there = needed_is (get_member (codes "name") t) _ _ own e3;
+      weight_there = needed_is (get_member (codes "prior") t) _ _ weight e4;
+      listed_there = needed_is (get_member (codes "payoffs") t) _ _ listed e5;
+      name_read = e6;
+      prior_read = e7;
+      rows_read = e8;
+    })))))))
+
+security_name_fails : (place : Place) (scaled : Bool) (targets : ℕ) (others : List Attacker) (t : Members) (own weight listed : Data) (r : ℕ) → has_only is_security_type_key t ≡ true
+    → get_member (codes "name") t ≡ Some own → get_member (codes "prior") t ≡ Some weight → get_member (codes "payoffs") t ≡ Some listed
+    → new_name place (map (λ (x : Attacker). x.name) others) own ≡ refused r place → security_type_at place scaled targets others (table t) ≡ refused r place
+unfolding security_type_at
+security_name_fails place scaled targets others t own weight listed r a b c d f = rw (a, b, c, d, f) refl
+
+security_prior_fails : (place : Place) (scaled : Bool) (targets : ℕ) (others : List Attacker) (t : Members) (own weight listed : Data) (text : List ℕ) (r : ℕ) → has_only is_security_type_key t ≡ true
+    → get_member (codes "name") t ≡ Some own → get_member (codes "prior") t ≡ Some weight → get_member (codes "payoffs") t ≡ Some listed
+    → new_name place (map (λ (x : Attacker). x.name) others) own ≡ Ok text → prior_at place scaled weight ≡ refused r place → security_type_at place scaled targets others (table t) ≡ refused r place
+unfolding security_type_at
+security_prior_fails place scaled targets others t own weight listed text r a b c d n f = rw (a, b, c, d, n, f) refl
+
+security_pays_fail : (place : Place) (scaled : Bool) (targets : ℕ) (others : List Attacker) (t : Members) (own weight listed : Data) (text : List ℕ) (prior : ℤ) (r : ℕ)
+    → has_only is_security_type_key t ≡ true → get_member (codes "name") t ≡ Some own → get_member (codes "prior") t ≡ Some weight → get_member (codes "payoffs") t ≡ Some listed
+    → new_name place (map (λ (x : Attacker). x.name) others) own ≡ Ok text → prior_at place scaled weight ≡ Ok prior → pay_table_at place targets 4 listed ≡ refused r place
+    → security_type_at place scaled targets others (table t) ≡ refused r place
+unfolding security_type_at
+security_pays_fail place scaled targets others t own weight listed text prior r a b c d n p f = rw (a, b, c, d, n, p, f) refl
+
+pub security_part_fails : (place : Place) (scaled : Bool) (targets : ℕ) (others : List Attacker) (first second : Data) (x : Attacker) (part : TypePart) (value : Data) (r : ℕ)
+    → security_type_at place scaled targets others first ≡ Ok x → Changes (type_path part) value (Some first) second
+    → reason_of (security_type_rule scaled targets (map (λ (x : Attacker). x.name) others) part) value ≡ Some r → security_type_at place scaled targets others second ≡ refused r place
+security_part_fails place scaled targets others first second x whole_type value r h c e =
+    rw c (security_table_fails place scaled targets others value r e)
+security_part_fails place scaled targets others first second x type_name value r h c e =
+    let key = codes "name" in
+    let was : first ≡ table c.old = only first (table c.old) c.was in
+    let t = security_table place scaled targets others c.old x (rw was at h) in
+    let is = c.is in
+    let keys = changed_only is_security_type_key key (Some c.value) c.old c.new c.differs refl t.keys in
+    let weight = stays (codes "prior") key (Some c.value) t.weight c.old c.new refl c.differs t.weight_there in
+    let listed = stays (codes "payoffs") key (Some c.value) t.listed c.old c.new refl c.differs t.listed_there in
+    rw is (security_name_fails place scaled targets others c.new c.value t.weight t.listed r keys c.differs.here weight listed
+    (new_name_fails place (map (λ (x : Attacker). x.name) others) c.value r (rw (sym c.change) at e)))
+security_part_fails place scaled targets others first second x type_prior value r h c e =
+    let key = codes "prior" in
+    let was : first ≡ table c.old = only first (table c.old) c.was in
+    let t = security_table place scaled targets others c.old x (rw was at h) in
+    let is = c.is in
+    let keys = changed_only is_security_type_key key (Some c.value) c.old c.new c.differs refl t.keys in
+    let own = stays (codes "name") key (Some c.value) t.own c.old c.new refl c.differs t.own_there in
+    let listed = stays (codes "payoffs") key (Some c.value) t.listed c.old c.new refl c.differs t.listed_there in
+    rw is (security_prior_fails place scaled targets others c.new t.own c.value t.listed t.text r keys own c.differs.here listed t.name_read
+    (number_fails place (pos 1) (if scaled then pos 1 else pos (2 ^ 20)) c.value r (rw (sym c.change) at e)))
+security_part_fails place scaled targets others first second x (type_actions part) value r h c e = no_reason r e
+security_part_fails place scaled targets others first second x (type_pays of_leader part) value r h c e = no_reason r e
+security_part_fails place scaled targets others first second x (type_pays of_follower part) value r h c e = no_reason r e
+security_part_fails place scaled targets others first second x (type_pays of_targets part) value r h c e =
+    let key = codes "payoffs" in
+    let was : first ≡ table c.old = only first (table c.old) c.was in
+    let t = security_table place scaled targets others c.old x (rw was at h) in
+    let is = c.is in
+    let keys = changed_only is_security_type_key key (Some c.value) c.old c.new c.differs refl t.keys in
+    let own = stays (codes "name") key (Some c.value) t.own c.old c.new refl c.differs t.own_there in
+    let weight = stays (codes "prior") key (Some c.value) t.weight c.old c.new refl c.differs t.weight_there in
+    let broken = pays_part_fails place targets 4 t.listed c.value t.rows part value r t.rows_read (rw t.listed_there at c.change) e in
+    rw is (security_pays_fail place scaled targets others c.new t.own t.weight c.value t.text t.prior r keys own weight c.differs.here t.name_read t.prior_read broken)
+
+-- what stands at the keys of a type in matrix form
+record IsMatrixTable (place : Place) (rows : ℕ) (others : List Attacker) (t : Members) (x : Attacker) : Type 0 where
+  own : Data
+  weight : Data
+  named : Data
+  one : Data
+  two : Data
+  keys : has_only is_matrix_type_key t ≡ true
+  own_there : get_member (codes "name") t ≡ Some own
+  weight_there : get_member (codes "prior") t ≡ Some weight
+  named_there : get_member (codes "actions") t ≡ Some named
+  one_there : get_member (codes "leader") t ≡ Some one
+  two_there : get_member (codes "follower") t ≡ Some two
+  name_read : new_name place (map (λ (x : Attacker). x.name) others) own ≡ Ok x.name
+  prior_read : prior_at place false weight ≡ Ok x.prior
+  actions_read : names_at place (λ n. place) 64 named ≡ Ok x.actions
+  leader_read : pay_table_at place rows (length x.actions) one ≡ Ok x.leader
+  follower_read : pay_table_at place rows (length x.actions) two ≡ Ok x.follower
+
+matrix_table : (place : Place) (rows : ℕ) (others : List Attacker) (t : Members) (x : Attacker) → matrix_type_at place rows others (table t) ≡ Ok x → IsMatrixTable place rows others t x
+unfolding matrix_type_at
+matrix_table place rows others t x h =
+    after_test (has_only is_matrix_type_key t) _ _ h (λ e2 h2.
+    after (needed_at place (codes "name") t) h2 (λ own e3 h3.
+    after (needed_at place (codes "prior") t) h3 (λ weight e4 h4.
+    after (needed_at place (codes "actions") t) h4 (λ named e5 h5.
+    after (needed_at place (codes "leader") t) h5 (λ one e6 h6.
+    after (needed_at place (codes "follower") t) h6 (λ two e7 h7.
+    after (new_name place (map (λ (x : Attacker). x.name) others) own) h7 (λ text e8 h8.
+    after (prior_at place false weight) h8 (λ prior e9 h9.
+    after (names_at place (λ n. place) 64 named) h9 (λ actions e10 h10.
+    after (pay_table_at place rows (length actions) one) h10 (λ leader e11 h11.
+    after (pay_table_at place rows (length actions) two) h11 (λ follower e12 last.
+    let y : Attacker = record { name = text; prior = prior; payoffs = []; actions = actions; leader = leader; follower = follower } in
+    let same : y ≡ x = cc in
+    let is : IsMatrixTable place rows others t y = record {
+      own = own;
+      weight = weight;
+      named = named;
+      one = one;
+      two = two;
+      keys = e2;
+      own_there = needed_is (get_member (codes "name") t) _ _ own e3;
+      weight_there = needed_is (get_member (codes "prior") t) _ _ weight e4;
+      named_there = needed_is (get_member (codes "actions") t) _ _ named e5;
+      one_there = needed_is (get_member (codes "leader") t) _ _ one e6;
+      two_there = needed_is (get_member (codes "follower") t) _ _ two e7;
+      name_read = e8;
+      prior_read = e9;
+      actions_read = e10;
+      leader_read = e11;
+      follower_read = e12;
+    } in
+    subst (IsMatrixTable place rows others t) same is)))))))))))
+
+-- the values at the keys of a table in matrix form
+record HasMatrixKeys (t : Members) (own weight named one two : Data) : Type 0 where
+  keys : has_only is_matrix_type_key t ≡ true
+  own_there : get_member (codes "name") t ≡ Some own
+  weight_there : get_member (codes "prior") t ≡ Some weight
+  named_there : get_member (codes "actions") t ≡ Some named
+  one_there : get_member (codes "leader") t ≡ Some one
+  two_there : get_member (codes "follower") t ≡ Some two
+
+-- the steps of a type in matrix form after its keys
+matrix_rest : Place → ℕ → List Attacker → Data → Data → Data → Data → Data → Result Attacker GameFault
+matrix_rest place rows others own weight named one two = do
+  text ← new_name place (map (λ (x : Attacker). x.name) others) own
+  prior ← prior_at place false weight
+  actions ← names_at place (λ n. place) 64 named
+  leader ← pay_table_at place rows (length actions) one
+  follower ← pay_table_at place rows (length actions) two
+  Ok (record { name = text; prior = prior; payoffs = []; actions = actions; leader = leader; follower = follower })
+
+matrix_steps : (place : Place) (rows : ℕ) (others : List Attacker) (t : Members) (own weight named one two : Data) → HasMatrixKeys t own weight named one two
+    → matrix_type_at place rows others (table t) ≡ matrix_rest place rows others own weight named one two
+unfolding matrix_type_at matrix_rest
+matrix_steps place rows others t own weight named one two h =
+    let a = h.keys in
+    let b = h.own_there in
+    let c = h.weight_there in
+    let d = h.named_there in
+    let e = h.one_there in
+    let f = h.two_there in
+    rw (a, b, c, d, e, f) refl
+
+matrix_name_fails : (place : Place) (rows : ℕ) (others : List Attacker) (own weight named one two : Data) (r : ℕ) → new_name place (map (λ (x : Attacker). x.name) others) own ≡ refused r place
+    → matrix_rest place rows others own weight named one two ≡ refused r place
+unfolding matrix_rest
+matrix_name_fails place rows others own weight named one two r f = rw f refl
+
+matrix_prior_fails : (place : Place) (rows : ℕ) (others : List Attacker) (own weight named one two : Data) (text : List ℕ) (r : ℕ) → new_name place (map (λ (x : Attacker). x.name) others) own ≡ Ok text
+    → prior_at place false weight ≡ refused r place → matrix_rest place rows others own weight named one two ≡ refused r place
+unfolding matrix_rest
+matrix_prior_fails place rows others own weight named one two text r n f = rw (n, f) refl
+
+matrix_actions_fail : (place : Place) (rows : ℕ) (others : List Attacker) (own weight named one two : Data) (text : List ℕ) (prior : ℤ) (r : ℕ)
+    → new_name place (map (λ (x : Attacker). x.name) others) own ≡ Ok text → prior_at place false weight ≡ Ok prior → names_at place (λ n. place) 64 named ≡ refused r place
+    → matrix_rest place rows others own weight named one two ≡ refused r place
+unfolding matrix_rest
+matrix_actions_fail place rows others own weight named one two text prior r n p f = rw (n, p, f) refl
+
+matrix_leader_fails : (place : Place) (rows : ℕ) (others : List Attacker) (own weight named one two : Data) (text : List ℕ) (prior : ℤ) (actions : List (List ℕ)) (r : ℕ)
+    → new_name place (map (λ (x : Attacker). x.name) others) own ≡ Ok text → prior_at place false weight ≡ Ok prior → names_at place (λ n. place) 64 named ≡ Ok actions
+    → pay_table_at place rows (length actions) one ≡ refused r place → matrix_rest place rows others own weight named one two ≡ refused r place
+unfolding matrix_rest
+matrix_leader_fails place rows others own weight named one two text prior actions r n p a f = rw (n, p, a, f) refl
+
+matrix_follower_fails : (place : Place) (rows : ℕ) (others : List Attacker) (own weight named one two : Data) (text : List ℕ) (prior : ℤ) (actions : List (List ℕ)) (leader : List (List ℤ)) (r : ℕ)
+    → new_name place (map (λ (x : Attacker). x.name) others) own ≡ Ok text → prior_at place false weight ≡ Ok prior → names_at place (λ n. place) 64 named ≡ Ok actions
+    → pay_table_at place rows (length actions) one ≡ Ok leader → pay_table_at place rows (length actions) two ≡ refused r place → matrix_rest place rows others own weight named one two ≡ refused r place
+unfolding matrix_rest
+matrix_follower_fails place rows others own weight named one two text prior actions leader r n p a l f = rw (n, p, a, l, f) refl
+
+-- the place of a fault is that of the type
+one_place : (place : Place) (part : NamesPart) → names_place place (λ n. place) part ≡ place
+one_place place names = refl
+one_place place (name n) = refl
+
+pub matrix_part_fails : (place : Place) (rows : ℕ) (others : List Attacker) (first second : Data) (x : Attacker) (part : TypePart) (value : Data) (r : ℕ)
+    → matrix_type_at place rows others first ≡ Ok x → Changes (type_path part) value (Some first) second
+    → reason_of (matrix_type_rule rows x.actions (map (λ (x : Attacker). x.name) others) part) value ≡ Some r → matrix_type_at place rows others second ≡ refused r place
+matrix_part_fails place rows others first second x whole_type value r h c e =
+    rw c (matrix_table_fails place rows others value r e)
+matrix_part_fails place rows others first second x type_name value r h c e =
+    let key = codes "name" in
+    let was : first ≡ table c.old = only first (table c.old) c.was in
+    let t = matrix_table place rows others c.old x (rw was at h) in
+    let is = c.is in
+    let has : HasMatrixKeys c.new c.value t.weight t.named t.one t.two = record {
+      keys = changed_only is_matrix_type_key key (Some c.value) c.old c.new c.differs refl t.keys;
+      own_there = c.differs.here;
+      weight_there = stays (codes "prior") key (Some c.value) t.weight c.old c.new refl c.differs t.weight_there;
+      named_there = stays (codes "actions") key (Some c.value) t.named c.old c.new refl c.differs t.named_there;
+      one_there = stays (codes "leader") key (Some c.value) t.one c.old c.new refl c.differs t.one_there;
+      two_there = stays (codes "follower") key (Some c.value) t.two c.old c.new refl c.differs t.two_there;
+    } in
+    rw is (matrix_steps place rows others c.new c.value t.weight t.named t.one t.two has
+    ∙ matrix_name_fails place rows others c.value t.weight t.named t.one t.two r (new_name_fails place (map (λ (x : Attacker). x.name) others) c.value r (rw (sym c.change) at e)))
+matrix_part_fails place rows others first second x type_prior value r h c e =
+    let key = codes "prior" in
+    let was : first ≡ table c.old = only first (table c.old) c.was in
+    let t = matrix_table place rows others c.old x (rw was at h) in
+    let is = c.is in
+    let has : HasMatrixKeys c.new t.own c.value t.named t.one t.two = record {
+      keys = changed_only is_matrix_type_key key (Some c.value) c.old c.new c.differs refl t.keys;
+      own_there = stays (codes "name") key (Some c.value) t.own c.old c.new refl c.differs t.own_there;
+      weight_there = c.differs.here;
+      named_there = stays (codes "actions") key (Some c.value) t.named c.old c.new refl c.differs t.named_there;
+      one_there = stays (codes "leader") key (Some c.value) t.one c.old c.new refl c.differs t.one_there;
+      two_there = stays (codes "follower") key (Some c.value) t.two c.old c.new refl c.differs t.two_there;
+    } in
+    rw is (matrix_steps place rows others c.new t.own c.value t.named t.one t.two has
+    ∙ matrix_prior_fails place rows others t.own c.value t.named t.one t.two x.name r t.name_read (number_fails place (pos 1) (pos (2 ^ 20)) c.value r (rw (sym c.change) at e)))
+matrix_part_fails place rows others first second x (type_actions part) value r h c e =
+    let key = codes "actions" in
+    let was : first ≡ table c.old = only first (table c.old) c.was in
+    let t = matrix_table place rows others c.old x (rw was at h) in
+    let is = c.is in
+    let has : HasMatrixKeys c.new t.own t.weight c.value t.one t.two = record {
+      keys = changed_only is_matrix_type_key key (Some c.value) c.old c.new c.differs refl t.keys;
+      own_there = stays (codes "name") key (Some c.value) t.own c.old c.new refl c.differs t.own_there;
+      weight_there = stays (codes "prior") key (Some c.value) t.weight c.old c.new refl c.differs t.weight_there;
+      named_there = c.differs.here;
+      one_there = stays (codes "leader") key (Some c.value) t.one c.old c.new refl c.differs t.one_there;
+      two_there = stays (codes "follower") key (Some c.value) t.two c.old c.new refl c.differs t.two_there;
+    } in
+    let broken = names_part_fails place (λ n. place) 64 t.named c.value x.actions part value r t.actions_read (rw t.named_there at c.change) e in
+    rw is (matrix_steps place rows others c.new t.own t.weight c.value t.one t.two has
+    ∙ matrix_actions_fail place rows others t.own t.weight c.value t.one t.two x.name x.prior r t.name_read t.prior_read (rw (one_place place part) at broken))
+matrix_part_fails place rows others first second x (type_pays of_targets part) value r h c e = no_reason r e
+matrix_part_fails place rows others first second x (type_pays of_leader part) value r h c e =
+    let key = codes "leader" in
+    let was : first ≡ table c.old = only first (table c.old) c.was in
+    let t = matrix_table place rows others c.old x (rw was at h) in
+    let is = c.is in
+    let has : HasMatrixKeys c.new t.own t.weight t.named c.value t.two = record {
+      keys = changed_only is_matrix_type_key key (Some c.value) c.old c.new c.differs refl t.keys;
+      own_there = stays (codes "name") key (Some c.value) t.own c.old c.new refl c.differs t.own_there;
+      weight_there = stays (codes "prior") key (Some c.value) t.weight c.old c.new refl c.differs t.weight_there;
+      named_there = stays (codes "actions") key (Some c.value) t.named c.old c.new refl c.differs t.named_there;
+      one_there = c.differs.here;
+      two_there = stays (codes "follower") key (Some c.value) t.two c.old c.new refl c.differs t.two_there;
+    } in
+    let broken = pays_part_fails place rows (length x.actions) t.one c.value x.leader part value r t.leader_read (rw t.one_there at c.change) e in
+    rw is (matrix_steps place rows others c.new t.own t.weight t.named c.value t.two has
+    ∙ matrix_leader_fails place rows others t.own t.weight t.named c.value t.two x.name x.prior x.actions r t.name_read t.prior_read t.actions_read broken)
+matrix_part_fails place rows others first second x (type_pays of_follower part) value r h c e =
+    let key = codes "follower" in
+    let was : first ≡ table c.old = only first (table c.old) c.was in
+    let t = matrix_table place rows others c.old x (rw was at h) in
+    let is = c.is in
+    let has : HasMatrixKeys c.new t.own t.weight t.named t.one c.value = record {
+      keys = changed_only is_matrix_type_key key (Some c.value) c.old c.new c.differs refl t.keys;
+      own_there = stays (codes "name") key (Some c.value) t.own c.old c.new refl c.differs t.own_there;
+      weight_there = stays (codes "prior") key (Some c.value) t.weight c.old c.new refl c.differs t.weight_there;
+      named_there = stays (codes "actions") key (Some c.value) t.named c.old c.new refl c.differs t.named_there;
+      one_there = stays (codes "leader") key (Some c.value) t.one c.old c.new refl c.differs t.one_there;
+      two_there = c.differs.here;
+    } in
+    let broken = pays_part_fails place rows (length x.actions) t.two c.value x.follower part value r t.follower_read (rw t.two_there at c.change) e in
+    rw is (matrix_steps place rows others c.new t.own t.weight t.named t.one c.value has
+    ∙ matrix_follower_fails place rows others t.own t.weight t.named t.one c.value x.name x.prior x.actions x.leader r t.name_read t.prior_read t.actions_read t.leader_read broken)
