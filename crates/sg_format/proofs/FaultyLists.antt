@@ -34,7 +34,7 @@ matrix_types_fail : (t : Members) (l value : Data) (rows : List (List ℕ)) (fau
 unfolding matrix_game
 matrix_types_fail t l value rows fault a b e r f = rw (a, b, e, r, f) refl
 
-matrix_faulty : (table other : Members) (g : Game) (key : List ℕ) (value : Data) (fault : GameFault) → IsHeaded table Matrix → IsMatrixFile table g → DiffersAt key (Some value) table other
+pub matrix_faulty : (table other : Members) (g : Game) (key : List ℕ) (value : Data) (fault : GameFault) → IsHeaded table Matrix → IsMatrixFile table g → DiffersAt key (Some value) table other
     → list_fault Matrix g.patrols g key value ≡ Some fault → game_of_table other ≡ Err fault
 matrix_faulty table other g key value fault head m d e =
     elim (cases_Bool (bytes_eq key (codes "rows"))) [
@@ -67,7 +67,7 @@ patrols_types_fail : (given : Data) (t : Members) (l value : Data) (o : Option D
 unfolding patrols_game
 patrols_types_fail given t l value o targets scale count fault a b e s n q c f = rw (a, b, e, s, n, q, c, f) refl
 
-patrols_faulty : (table other : Members) (g : Game) (key : List ℕ) (value given : Data) (fault : GameFault) (n : ℕ) → IsHeaded table Security
+pub patrols_faulty : (table other : Members) (g : Game) (key : List ℕ) (value given : Data) (fault : GameFault) (n : ℕ) → IsHeaded table Security
     → get_member (codes "patrols") table ≡ Some given → IsPatrolsFile given table g → DiffersAt key (Some value) table other
     → list_fault Security (Some n) g key value ≡ Some fault → game_of_table other ≡ Err fault
 patrols_faulty table other g key value given fault n head there p d e =
@@ -147,7 +147,7 @@ unscaled : (key : List ℕ) (value : Option Data) (table other : Members) → Di
     → is_some (get_member (codes "scale") other) ≡ false
 unscaled key value table other c e there = ap is_some (c.elsewhere (codes "scale") (apart (codes "scale") key e)) ∙ there
 
-listed_faulty : (table other : Members) (g : Game) (key : List ℕ) (value : Data) (fault : GameFault) → IsHeaded table Security → get_member (codes "patrols") table ≡ None
+pub listed_faulty : (table other : Members) (g : Game) (key : List ℕ) (value : Data) (fault : GameFault) → IsHeaded table Security → get_member (codes "patrols") table ≡ None
     → IsListedFile table g → DiffersAt key (Some value) table other → list_fault Security None g key value ≡ Some fault → game_of_table other ≡ Err fault
 listed_faulty table other g key value fault head there l d e =
     elim (cases_Bool (bytes_eq key (codes "targets"))) [

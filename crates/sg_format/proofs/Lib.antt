@@ -14,3 +14,4 @@ pub mod Broken
 pub mod Entries
 pub mod Parted
 pub mod Tables
+pub mod PartFaults

@@ -1,0 +1,273 @@
+-- The document of a game in which one part breaks its rule is refused for it, at the place of the part.
+use Rattle.std.proofs.Common.{◌≡◌, ◌≢◌, ℕ, suc, ◌≤◌, ◌<◌, ◌+◌, ◌^◌, Bool, true, false, nat_le, nat_lt, List, [], ◌∷◌, length, map, take, get_or, ℤ, pos, Option, Some, None, Result, Ok, Err, is_some, refl, sym, ap, subst, ◌∙◌, arith}
+use Rattle.std.specs.Prelude.{codes, if◌then◌else◌}
+use Rattle.std.specs.List.{AllPairs}
+use Rattle.std.proofs.lemmas.Bool.Decides.{nat_tests}
+use Rattle.toml.specs.Data.{Data, Items, Members, array, get_member, table}
+use Rattle.sg_model.specs.declared.fault.Place.{Place}
+use Rattle.sg_model.specs.declared.fault.Place.TheVariants as place_of
+use Rattle.sg_model.specs.declared.fault.GameFault.{GameFault}
+use Rattle.sg_model.specs.declared.kind.Kind.{Kind}
+use Rattle.sg_model.specs.declared.kind.Kind.TheVariants.{Security, Matrix}
+use Rattle.sg_model.specs.Sums.{nth}
+use Rattle.sg_model.specs.Games.{Attacker, Game, Named, nobody, unnamed}
+use Rattle.sg_model.specs.Limits.{is_scaled}
+use Rattle.sg_format.specs.Steps.{◌>>=◌, refused}
+use Rattle.sg_format.specs.Documents.{has_only, items_at, number_at}
+use Rattle.sg_format.specs.Lists.{each, few_at, item_count, named_at, named_lists_at, names_at, new_name, some_at}
+use Rattle.sg_format.specs.Types.{matrix_type_at, matrix_types_at, security_type_at, security_types_at}
+use Rattle.sg_format.specs.GameFiles.{game_of_table, is_patrols_key, patrols_game, scale_at}
+use Rattle.sg_format.specs.Changes.{DiffersAt, fault_in}
+use Rattle.sg_format.specs.Parts.{Changes, ChangesKey, ChangesEntry, at_key, at_number, DiffersIn, Group, NamedPart, NamesPart, Part, TypePart, before, goal_place, goals, group_key, group_place, grouped, groups, listed_rule, matrix_rule, matrix_type_rule, members_key, name, named_path, named_rule, names, names_of, part_path, part_place, part_rule, patrols, patrols_rule, resources, scale, schedules, security_type_rule, set_item, some_entries, few_entries, number_within, type_path, typed, types, Step, names_path}
+use Rattle.sg_format.specs.PartLaws.{IsRefusedAt}
+use Rattle.sg_format.proofs.Inversion.{after, after_test}
+use Rattle.sg_format.proofs.Keys.{apart, changed_only}
+use Rattle.sg_format.proofs.Listed.{named_lists_at-lists, names_at-names}
+use Rattle.sg_format.proofs.Files.{IsHeaded, IsListedFile, IsMatrixFile, IsPatrolsFile, by_file}
+use Rattle.sg_format.proofs.Faults.{headed}
+use Rattle.sg_format.proofs.FaultyLists.{listed_faulty, matrix_faulty, patrols_faulty}
+use Rattle.sg_format.proofs.TopLists.{matrix_begin, named_begin, security_begin}
+use Rattle.sg_format.proofs.Broken.{few_fails, no_reason, number_fails, reason_of, some_fails}
+use Rattle.sg_format.proofs.Entries.{IsEntry, entry_at, few_is, few_set, some_is, some_set}
+use Rattle.sg_format.proofs.Parted.{front_is, names_part_fails, names_place, only, place_is}
+use Rattle.sg_format.proofs.Tables.{matrix_part_fails, named_part_fails, security_part_fails}
+
+-- the item at a number is the one at its index
+nth_at : {X : Type 0} (xs : List X) (n k : ℕ) (d x : X) → n ≡ suc k → get_or xs k d ≡ x → nth xs n d ≡ x
+nth_at xs n k d x e there = rw e there
+
+security_entry_fails : (scaled : Bool) (targets : ℕ) (first second : Data) (xs : List Attacker) (n : ℕ) (part : TypePart) (value : Data) (r : ℕ)
+    → security_types_at scaled targets first ≡ Ok xs → Changes (at_number n ∷ type_path part) value (Some first) second
+    → reason_of (security_type_rule scaled targets (map (λ (x : Attacker). x.name) (before n xs)) part) value ≡ Some r → security_types_at scaled targets second ≡ refused r (place_of.Attacker n)
+unfolding security_types_at
+security_entry_fails scaled targets first second xs n part value r h c e =
+    let limit : ℕ = if scaled then 1 else 8 in
+    let read : List Attacker → Data → Result Attacker GameFault = λ others. security_type_at (place_of.Attacker (length others + 1)) scaled targets others in
+    let was : first ≡ array c.items = only first (array c.items) c.was in
+    let start : (some_at place_of.Document limit (array c.items) >>= (λ items. each read [] items)) ≡ Ok xs = rw was at h in
+    after (some_at place_of.Document limit (array c.items)) start (λ found e1 rest.
+    let whole_is : each read [] c.items ≡ Ok xs = rw (some_is place_of.Document limit c.items found e1) at rest in
+    let entry = entry_at read c.items xs c.index c.entry whole_is c.there in
+    let place = place_of.Attacker (length (take c.index xs) + 1) in
+    let broken = security_part_fails place scaled targets (take c.index xs) c.entry c.value entry.value part value r entry.is c.change (rw (front_is xs n c.index c.number) at e) in
+    let f = entry.fails c.value (record { reason = r; place = place }) broken in
+    let is = c.is in
+    let set = some_set place_of.Document limit c.items found c.index c.value e1 in
+    let there : length (take c.index xs) + 1 ≡ n = place_is xs n c.index entry.within c.number in
+    let last : security_types_at scaled targets second ≡ refused r place = rw (is, set) f in
+    rw there at last)
+
+matrix_entry_fails : (rows : ℕ) (first second : Data) (xs : List Attacker) (n : ℕ) (part : TypePart) (value : Data) (r : ℕ)
+    → matrix_types_at rows first ≡ Ok xs → Changes (at_number n ∷ type_path part) value (Some first) second
+    → reason_of (matrix_type_rule rows (nth xs n nobody).actions (map (λ (x : Attacker). x.name) (before n xs)) part) value ≡ Some r → matrix_types_at rows second ≡ refused r (place_of.Attacker n)
+unfolding matrix_types_at
+matrix_entry_fails rows first second xs n part value r h c e =
+    let read : List Attacker → Data → Result Attacker GameFault = λ others. matrix_type_at (place_of.Attacker (length others + 1)) rows others in
+    let was : first ≡ array c.items = only first (array c.items) c.was in
+    let start : (some_at place_of.Document 8 (array c.items) >>= (λ items. each read [] items)) ≡ Ok xs = rw was at h in
+    after (some_at place_of.Document 8 (array c.items)) start (λ found e1 rest.
+    let whole_is : each read [] c.items ≡ Ok xs = rw (some_is place_of.Document 8 c.items found e1) at rest in
+    let entry = entry_at read c.items xs c.index c.entry whole_is c.there in
+    let place = place_of.Attacker (length (take c.index xs) + 1) in
+    let own = nth_at xs n c.index nobody entry.value c.number (entry.there nobody) in
+    let broken = matrix_part_fails place rows (take c.index xs) c.entry c.value entry.value part value r entry.is c.change (rw (own, front_is xs n c.index c.number) at e) in
+    let f = entry.fails c.value (record { reason = r; place = place }) broken in
+    let is = c.is in
+    let set = some_set place_of.Document 8 c.items found c.index c.value e1 in
+    let there : length (take c.index xs) + 1 ≡ n = place_is xs n c.index entry.within c.number in
+    let last : matrix_types_at rows second ≡ refused r place = rw (is, set) f in
+    rw there at last)
+
+named_entry_fails : (place : ℕ → Place) (group : Group) (known : List (List ℕ)) (limit members_limit : ℕ) (first second : Data) (xs : List Named) (n : ℕ) (part : NamedPart) (value : Data) (r : ℕ)
+    → AllPairs (λ x y. x ≢ y) known → named_lists_at place (members_key group) known limit members_limit first ≡ Ok xs → Changes (at_number n ∷ named_path group part) value (Some first) second
+    → reason_of (named_rule (members_key group) members_limit known (nth xs n unnamed).members (names_of (before n xs)) part) value ≡ Some r
+    → named_lists_at place (members_key group) known limit members_limit second ≡ refused r (place n)
+unfolding named_lists_at
+named_entry_fails place group known limit members_limit first second xs n part value r distinct h c e =
+    let read : List Named → Data → Result Named GameFault = λ others. named_at (place (length others + 1)) (members_key group) known members_limit others in
+    let was : first ≡ array c.items = only first (array c.items) c.was in
+    let start : (few_at place_of.Document limit (array c.items) >>= (λ items. each read [] items)) ≡ Ok xs = rw was at h in
+    after (few_at place_of.Document limit (array c.items)) start (λ found e1 rest.
+    let whole_is : each read [] c.items ≡ Ok xs = rw (few_is place_of.Document limit c.items found e1) at rest in
+    let entry = entry_at read c.items xs c.index c.entry whole_is c.there in
+    let here = place (length (take c.index xs) + 1) in
+    let own = nth_at xs n c.index unnamed entry.value c.number (entry.there unnamed) in
+    let broken = named_part_fails here group known members_limit (take c.index xs) c.entry c.value entry.value part value r distinct entry.is c.change (rw (own, front_is xs n c.index c.number) at e) in
+    let f = entry.fails c.value (record { reason = r; place = here }) broken in
+    let is = c.is in
+    let set = few_set place_of.Document limit c.items found c.index c.value e1 in
+    let there : length (take c.index xs) + 1 ≡ n = place_is xs n c.index entry.within c.number in
+    let last : named_lists_at place (members_key group) known limit members_limit second ≡ refused r here = rw (is, set) f in
+    rw there at last)
+
+-- the change at a top key
+record IsTopChange (key : List ℕ) (path : List Step) (value : Data) (first second : Members) : Type 0 where
+  new : Data
+  differs : DiffersAt key (Some new) first second
+  change : Changes path value (get_member key first) new
+
+table_is : (first second : Members) → Some (table first) ≡ Some (table second) → first ≡ second
+table_is first second e = cc
+
+top_change : (key : List ℕ) (path : List Step) (value : Data) (first second : Members) → Changes (at_key key ∷ path) value (Some (table first)) (table second) → IsTopChange key path value first second
+top_change key path value first second c =
+    let a : first ≡ c.old = table_is first c.old c.was in
+    let b : second ≡ c.new = table_is second c.new (ap (λ (d : Data). Some d) c.is) in
+    record {
+      new = c.value;
+      differs = subst (λ (t : Members). DiffersAt key (Some c.value) t second) (sym a) (subst (λ (t : Members). DiffersAt key (Some c.value) c.old t) (sym b) c.differs);
+      change = subst (λ (t : Members). Changes path value (get_member key t) c.value) (sym a) c.change;
+    }
+
+-- the place of a fault among the targets or the rows
+goals_place : (kind : Kind) (part : NamesPart) → names_place place_of.Document (goal_place kind) part ≡ part_place kind (goals part)
+goals_place kind names = refl
+goals_place kind (name n) = refl
+
+rows_place : (part : NamesPart) → names_place place_of.Document place_of.Row part ≡ part_place Matrix (goals part)
+rows_place names = refl
+rows_place (name n) = refl
+
+targets_place : (part : NamesPart) → names_place place_of.Document place_of.Target part ≡ part_place Security (goals part)
+targets_place names = refl
+targets_place (name n) = refl
+
+matrix_part : (first second : Members) (g : Game) (part : Part) (value : Data) (r : ℕ) → IsHeaded first Matrix → IsMatrixFile first g
+    → Changes (part_path Matrix part) value (Some (table first)) (table second) → reason_of (matrix_rule g part) value ≡ Some r → game_of_table second ≡ refused r (part_place Matrix part)
+matrix_part first second g (goals part) value r head m c e =
+    let t = top_change (codes "rows") (names_path part) value first second c in
+    let f = names_part_fails place_of.Document place_of.Row 4096 m.listed t.new g.goals part value r m.rows (rw m.rows_there at t.change) e in
+    matrix_faulty first second g (codes "rows") t.new (record { reason = r; place = part_place Matrix (goals part) }) head m t.differs (ap fault_in (rw (rows_place part) at f))
+matrix_part first second g scale value r head m c e = no_reason r e
+matrix_part first second g patrols value r head m c e = no_reason r e
+matrix_part first second g (groups group) value r head m c e = no_reason r e
+matrix_part first second g (grouped group n part) value r head m c e = no_reason r e
+matrix_part first second g types value r head m c e =
+    let t = top_change (codes "type") [] value first second c in
+    let f = matrix_begin (length g.goals) t.new (record { reason = r; place = place_of.Document }) (some_fails place_of.Document 8 t.new r (rw (sym t.change) at e)) in
+    matrix_faulty first second g (codes "type") t.new (record { reason = r; place = place_of.Document }) head m t.differs (ap fault_in f)
+matrix_part first second g (typed n part) value r head m c e =
+    let t = top_change (codes "type") (at_number n ∷ type_path part) value first second c in
+    let f = matrix_entry_fails (length g.goals) m.attackers t.new g.types n part value r m.types (rw m.types_there at t.change) e in
+    matrix_faulty first second g (codes "type") t.new (record { reason = r; place = place_of.Attacker n }) head m t.differs (ap fault_in f)
+
+listed_part : (first second : Members) (g : Game) (part : Part) (value : Data) (r : ℕ) → IsHeaded first Security → get_member (codes "patrols") first ≡ None → IsListedFile first g
+    → Changes (part_path Security part) value (Some (table first)) (table second) → reason_of (listed_rule g part) value ≡ Some r → game_of_table second ≡ refused r (part_place Security part)
+listed_part first second g (goals part) value r head there l c e =
+    let t = top_change (codes "targets") (names_path part) value first second c in
+    let f = names_part_fails place_of.Document place_of.Target 200 l.listed t.new g.goals part value r l.targets (rw l.targets_there at t.change) e in
+    listed_faulty first second g (codes "targets") t.new (record { reason = r; place = part_place Security (goals part) }) head there l t.differs (ap fault_in (rw (targets_place part) at f))
+listed_part first second g scale value r head there l c e = no_reason r e
+listed_part first second g patrols value r head there l c e = no_reason r e
+listed_part first second g (groups schedules) value r head there l c e =
+    let t = top_change (codes "schedule") [] value first second c in
+    let f = named_begin place_of.Schedule (codes "targets") g.goals 500 200 t.new (record { reason = r; place = place_of.Document }) (few_fails place_of.Document 500 t.new r (rw (sym t.change) at e)) in
+    listed_faulty first second g (codes "schedule") t.new (record { reason = r; place = place_of.Document }) head there l t.differs (ap fault_in f)
+listed_part first second g (groups resources) value r head there l c e =
+    let t = top_change (codes "resource") [] value first second c in
+    let f = named_begin place_of.Resource (codes "schedules") (names_of g.schedules) 32 500 t.new (record { reason = r; place = place_of.Document }) (few_fails place_of.Document 32 t.new r (rw (sym t.change) at e)) in
+    listed_faulty first second g (codes "resource") t.new (record { reason = r; place = place_of.Document }) head there l t.differs (ap fault_in f)
+listed_part first second g (grouped schedules n part) value r head there l c e =
+    let t = top_change (codes "schedule") (at_number n ∷ named_path schedules part) value first second c in
+    let distinct = (names_at-names place_of.Document place_of.Target 200 l.listed g.goals l.targets).apart.distinct in
+    let f = named_entry_fails place_of.Schedule schedules g.goals 500 200 l.given t.new g.schedules n part value r distinct l.schedules (rw l.schedules_there at t.change) e in
+    listed_faulty first second g (codes "schedule") t.new (record { reason = r; place = place_of.Schedule n }) head there l t.differs (ap fault_in f)
+listed_part first second g (grouped resources n part) value r head there l c e =
+    let t = top_change (codes "resource") (at_number n ∷ named_path resources part) value first second c in
+    let distinct = (named_lists_at-lists place_of.Schedule (codes "targets") g.goals 500 200 l.given g.schedules l.schedules).names.distinct in
+    let f = named_entry_fails place_of.Resource resources (names_of g.schedules) 32 500 l.manned t.new g.resources n part value r distinct l.resources (rw l.resources_there at t.change) e in
+    listed_faulty first second g (codes "resource") t.new (record { reason = r; place = place_of.Resource n }) head there l t.differs (ap fault_in f)
+listed_part first second g types value r head there l c e =
+    let t = top_change (codes "type") [] value first second c in
+    let f = security_begin false (length g.goals) t.new (record { reason = r; place = place_of.Document }) (some_fails place_of.Document 8 t.new r (rw (sym t.change) at e)) in
+    listed_faulty first second g (codes "type") t.new (record { reason = r; place = place_of.Document }) head there l t.differs (ap fault_in f)
+listed_part first second g (typed n part) value r head there l c e =
+    let t = top_change (codes "type") (at_number n ∷ type_path part) value first second c in
+    let f = security_entry_fails false (length g.goals) l.attackers t.new g.types n part value r l.types (rw l.types_there at t.change) e in
+    listed_faulty first second g (codes "type") t.new (record { reason = r; place = place_of.Attacker n }) head there l t.differs (ap fault_in f)
+
+-- names that are few enough without a scale are so with one
+some_more : (place : Place) (value : Data) (items : Items) → some_at place 200 value ≡ Ok items → some_at place 10000 value ≡ Ok items
+unfolding some_at
+some_more place value items h =
+    after (items_at place value) h (λ found e rest.
+    after_test (nat_lt 0 (item_count found)) _ _ rest (λ some more.
+    after_test (nat_le (item_count found) 200) _ _ more (λ few last.
+    let still : nat_le (item_count found) 10000 ≡ true = grind (arith, nat_tests) in
+    rw (e, some, still) last)))
+
+names_more : (whole : Place) (place : ℕ → Place) (value : Data) (xs : List (List ℕ)) → names_at whole place 200 value ≡ Ok xs → names_at whole place 10000 value ≡ Ok xs
+unfolding names_at
+names_more whole place value xs h =
+    after (some_at whole 200 value) h (λ items e rest. let more = some_more whole value items e in rw more rest)
+
+pub names_scaled : (scaled : Bool) (whole : Place) (place : ℕ → Place) (value : Data) (xs : List (List ℕ)) → names_at whole place (if scaled then 10000 else 200) value ≡ Ok xs → names_at whole place 10000 value ≡ Ok xs
+names_scaled true whole place value xs h = h
+names_scaled false whole place value xs h = names_more whole place value xs h
+
+-- the declared scale breaks its rule
+scale_fails : (given : Data) (t : Members) (listed attackers value : Data) (targets : List (List ℕ)) (r : ℕ) → has_only is_patrols_key t ≡ true → get_member (codes "targets") t ≡ Some listed
+    → get_member (codes "type") t ≡ Some attackers → get_member (codes "scale") t ≡ Some value → names_at place_of.Document place_of.Target 10000 listed ≡ Ok targets
+    → scale_at (Some value) ≡ refused r place_of.Document → patrols_game given t ≡ refused r place_of.Document
+unfolding patrols_game
+scale_fails given t listed attackers value targets r a b c s n f = rw (a, b, c, s, n, f) refl
+
+bad_scale_value : (value : Data) (r : ℕ) → reason_of (number_within (pos 1) (pos (2 ^ 32))) value ≡ Some r → scale_at (Some value) ≡ refused r place_of.Document
+unfolding scale_at
+bad_scale_value value r e = let f = number_fails place_of.Document (pos 1) (pos (2 ^ 32)) value r e in rw f refl
+
+-- the number of patrols breaks its rule
+count_fails : (given : Data) (t : Members) (listed attackers : Data) (o : Option Data) (targets : List (List ℕ)) (z : Option ℤ) (r : ℕ) → has_only is_patrols_key t ≡ true
+    → get_member (codes "targets") t ≡ Some listed → get_member (codes "type") t ≡ Some attackers → get_member (codes "scale") t ≡ o
+    → names_at place_of.Document place_of.Target (if is_some o then 10000 else 200) listed ≡ Ok targets → scale_at o ≡ Ok z
+    → number_at place_of.Document (pos 0) (pos (if is_some o then 200 else 32)) given ≡ refused r place_of.Document → patrols_game given t ≡ refused r place_of.Document
+unfolding patrols_game
+count_fails given t listed attackers o targets z r a b c s n q f = rw (a, b, c, s, n, q, f) refl
+
+patrols_part : (first second : Members) (g : Game) (part : Part) (value given : Data) (r count : ℕ) → IsHeaded first Security → get_member (codes "patrols") first ≡ Some given → IsPatrolsFile given first g
+    → Changes (part_path Security part) value (Some (table first)) (table second) → reason_of (patrols_rule (is_scaled g) g part) value ≡ Some r → game_of_table second ≡ refused r (part_place Security part)
+patrols_part first second g (goals part) value given r count head there p c e =
+    let t = top_change (codes "targets") (names_path part) value first second c in
+    let limit : ℕ = if is_scaled g then 10000 else 200 in
+    let f = names_part_fails place_of.Document place_of.Target limit p.listed t.new g.goals part value r (rw p.scaled p.targets) (rw p.targets_there at t.change) e in
+    patrols_faulty first second g (codes "targets") t.new given (record { reason = r; place = part_place Security (goals part) }) count head there p t.differs (ap fault_in (rw (targets_place part) at f))
+patrols_part first second g scale value given r count head there p c e =
+    let key = codes "scale" in
+    let t = top_change key [] value first second c in
+    let d = t.differs in
+    let still = d.elsewhere (codes "patrols") (apart (codes "patrols") key refl) ∙ there in
+    let targets = names_scaled (is_some (get_member key first)) place_of.Document place_of.Target p.listed g.goals p.targets in
+    headed key (Some t.new) first second Security d head (apart (codes "version") key refl) (apart (codes "form") key refl)
+    ∙ (rw still (scale_fails given second p.listed p.attackers t.new g.goals r (changed_only is_patrols_key key (Some t.new) first second d refl p.known)
+    (d.elsewhere (codes "targets") (apart (codes "targets") key refl) ∙ p.targets_there) (d.elsewhere (codes "type") (apart (codes "type") key refl) ∙ p.types_there)
+    d.here targets (bad_scale_value t.new r (rw (sym t.change) at e))))
+patrols_part first second g patrols value given r count head there p c e =
+    let key = codes "patrols" in
+    let t = top_change key [] value first second c in
+    let d = t.differs in
+    let here = d.here in
+    let limit : ℕ = if is_scaled g then 200 else 32 in
+    let bad = number_fails place_of.Document (pos 0) (pos limit) t.new r (rw (sym t.change) at e) in
+    headed key (Some t.new) first second Security d head (apart (codes "version") key refl) (apart (codes "form") key refl)
+    ∙ (rw here (count_fails t.new second p.listed p.attackers (get_member (codes "scale") first) g.goals p.scale r (changed_only is_patrols_key key (Some t.new) first second d refl p.known)
+    (d.elsewhere (codes "targets") (apart (codes "targets") key refl) ∙ p.targets_there) (d.elsewhere (codes "type") (apart (codes "type") key refl) ∙ p.types_there)
+    (d.elsewhere (codes "scale") (apart (codes "scale") key refl)) p.targets p.scale_read (rw p.scaled at bad)))
+patrols_part first second g (groups group) value given r count head there p c e = no_reason r e
+patrols_part first second g (grouped group n part) value given r count head there p c e = no_reason r e
+patrols_part first second g types value given r count head there p c e =
+    let t = top_change (codes "type") [] value first second c in
+    let limit : ℕ = if is_scaled g then 1 else 8 in
+    let f = security_begin (is_scaled g) (length g.goals) t.new (record { reason = r; place = place_of.Document }) (some_fails place_of.Document limit t.new r (rw (sym t.change) at e)) in
+    patrols_faulty first second g (codes "type") t.new given (record { reason = r; place = place_of.Document }) count head there p t.differs (ap fault_in f)
+patrols_part first second g (typed n part) value given r count head there p c e =
+    let t = top_change (codes "type") (at_number n ∷ type_path part) value first second c in
+    let f = security_entry_fails (is_scaled g) (length g.goals) p.attackers t.new g.types n part value r (rw p.scaled p.types) (rw p.types_there at t.change) e in
+    patrols_faulty first second g (codes "type") t.new given (record { reason = r; place = place_of.Attacker n }) count head there p t.differs (ap fault_in f)
+
+pub faulty_part : (first second : Members) (g : Game) (part : Part) (value : Data) (r : ℕ) → game_of_table first ≡ Ok g → DiffersIn g part value first second
+    → reason_of (part_rule g part) value ≡ Some r → IsRefusedAt g part r second
+faulty_part first second g part value r h d e =
+    by_file first g (IsRefusedAt g part r second) h
+    (λ head m. rw m.kind (matrix_part first second g part value r head m (rw m.kind at d) (rw m.kind at e)))
+    (λ head given there p. rw p.kind (patrols_part first second g part value given r p.patrols head there p (rw p.kind at d) (rw (p.kind, p.identical) at e)))
+    (λ head there l. rw l.kind (listed_part first second g part value r head there l (rw l.kind at d) (rw (l.kind, l.no_patrols) at e)))
