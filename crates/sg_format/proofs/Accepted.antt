@@ -213,7 +213,7 @@ game_of_form-game : (kind : Kind) (table : Members) (g : Game) → game_of_form 
 game_of_form-game Security table g h = security_game-game (get_member (codes "patrols") table) table g h
 game_of_form-game Matrix table g h = matrix_game-game table g h
 
-game_of_table-game : (table : Members) (g : Game) → game_of_table table ≡ Ok g → IsGame g
+pub game_of_table-game : (table : Members) (g : Game) → game_of_table table ≡ Ok g → IsGame g
 unfolding game_of_table
 game_of_table-game table g h =
     after (version_of table) h (λ version e1 h1.

@@ -15,3 +15,4 @@ pub mod Entries
 pub mod Parted
 pub mod Tables
 pub mod PartFaults
+pub mod PartReasons
