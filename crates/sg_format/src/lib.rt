@@ -5,9 +5,15 @@
 #![tactic(auto)]
 
 mod laws;
+mod part_laws;
 
 pub use laws::{
     accepted_is_game, empty_list_is_refused, faulty_list_is_refused, long_list_is_refused,
     missing_key_is_refused, not_toml_is_refused, other_form_is_refused, other_kind_is_refused,
     other_version_is_refused, unknown_key_is_refused, worked_texts,
+};
+pub use part_laws::{
+    empty_part_is_refused, long_part_is_refused, missing_field_is_refused, out_of_range_is_refused,
+    repeated_name_is_refused, unknown_field_is_refused, unknown_name_is_refused,
+    wrong_kind_is_refused,
 };
