@@ -16,3 +16,4 @@ pub mod Parted
 pub mod Tables
 pub mod PartFaults
 pub mod PartReasons
+pub mod Scales

@@ -101,15 +101,15 @@ named_entry_fails place group known limit members_limit first second xs n part v
     rw there at last)
 
 -- the change at a top key
-record IsTopChange (key : List ℕ) (path : List Step) (value : Data) (first second : Members) : Type 0 where
-  new : Data
-  differs : DiffersAt key (Some new) first second
-  change : Changes path value (get_member key first) new
+pub record IsTopChange (key : List ℕ) (path : List Step) (value : Data) (first second : Members) : Type 0 where
+  pub new : Data
+  pub differs : DiffersAt key (Some new) first second
+  pub change : Changes path value (get_member key first) new
 
 table_is : (first second : Members) → Some (table first) ≡ Some (table second) → first ≡ second
 table_is first second e = cc
 
-top_change : (key : List ℕ) (path : List Step) (value : Data) (first second : Members) → Changes (at_key key ∷ path) value (Some (table first)) (table second) → IsTopChange key path value first second
+pub top_change : (key : List ℕ) (path : List Step) (value : Data) (first second : Members) → Changes (at_key key ∷ path) value (Some (table first)) (table second) → IsTopChange key path value first second
 top_change key path value first second c =
     let a : first ≡ c.old = table_is first c.old c.was in
     let b : second ≡ c.new = table_is second c.new (ap (λ (d : Data). Some d) c.is) in

@@ -1,14 +1,17 @@
 -- What each reason means, over all parts of a document: the document of a game in which one value breaks its rule is refused for it, at the part's place.
-use Rattle.std.specs.Prelude.{◌≡◌, ◌≢◌, ◌⊎◌, ℕ, ◌<◌, Bool, true, false, List, [], ℤ, ◌<ℤ◌, Option, Some, None, is_some, Ok, All, Contains, bytes_eq}
+use Rattle.std.specs.Prelude.{◌≡◌, ◌≢◌, ◌⊎◌, ℕ, ◌^◌, ◌<◌, ◌≤◌, Bool, true, false, List, [], length, ℤ, pos, ◌<ℤ◌, Option, Some, None, is_some, Ok, All, Contains, bytes_eq}
 use Rattle.std.specs.List.{list_any}
-use Rattle.toml.specs.Data.{Data, Items, Members, array, as_array, as_integer, as_str, as_table, get_member, integer, no_items, string, table}
+use Rattle.toml.specs.Data.{Data, Items, Members, array, as_array, as_integer, as_str, as_table, get_member, integer, item, no_items, string, table}
 use Rattle.sg_model.specs.Names.{is_name}
-use Rattle.sg_model.specs.Games.{Game}
-use Rattle.sg_format.specs.Steps.{refused, missing_key, wrong_kind, unknown_key, empty_list, unknown_name, repeated_name, out_of_range, too_large}
+use Rattle.sg_model.specs.Games.{Game, Payoff, attacker, payoff}
+use Rattle.sg_model.specs.Limits.{IsPayoff, IsWithin, is_scaled}
+use Rattle.sg_model.specs.Origami.{IsScaled}
+use Rattle.sg_model.specs.declared.fault.Place.TheVariants as place_of
+use Rattle.sg_format.specs.Steps.{refused, missing_key, wrong_kind, unknown_key, empty_list, unknown_name, repeated_name, out_of_range, too_large, bad_scale}
 use Rattle.sg_format.specs.Documents.{has_only}
 use Rattle.sg_format.specs.Lists.{item_count}
 use Rattle.sg_format.specs.GameFiles.{game_of_table}
-use Rattle.sg_format.specs.Parts.{Part, Rule, DiffersIn, part_place, part_rule, no_rule, number_within, name_besides, known_besides, few_entries, some_entries, entries_exactly, table_with}
+use Rattle.sg_format.specs.Parts.{Part, Rule, DiffersIn, part_place, part_rule, no_rule, number_within, name_besides, known_besides, few_entries, some_entries, entries_exactly, table_with, scale, typed, type_pays, of_targets, pay_row}
 
 -- the document is refused for this reason, at the place of this part
 abbrev pub IsRefusedAt : Game → Part → ℕ → Members → Type 0
@@ -92,3 +95,17 @@ pub record OutOfRangeIsRefused : Type 0 where
 abbrev pub LongPartIsRefused : Type 0
 LongPartIsRefused = (first second : Members) (g : Game) (part : Part) (limit : ℕ) (items : Items) → game_of_table first ≡ Ok g → DiffersIn g part (array items) first second
     → most_entries (part_rule g part) ≡ Some limit → limit < item_count items → IsRefusedAt g part too_large second
+
+-- the payoffs at a target as they stand in a file
+abbrev pub row_of : Payoff → Data
+row_of p = array (item (integer p.dc) (item (integer p.du) (item (integer p.ac) (item (integer p.au) no_items))))
+
+-- a scale that the payoffs at some target don't fit, or payoffs at a target that don't fit the scale
+pub record BadScaleIsRefused : Type 0 where
+  -- another scale, or one where none was declared, for patrols and one type of prior 1
+  pub declared : (first second : Members) (g : Game) (z : ℤ) (t : ℕ) → game_of_table first ≡ Ok g → DiffersIn g scale (integer z) first second → g.patrols ≢ None
+      → length g.types ≡ 1 → (attacker g 1).prior ≡ pos 1 → IsWithin (pos 1) (pos (2 ^ 32)) z → 1 ≤ t → t ≤ length g.goals → ¬ (IsScaled z (payoff g 1 t))
+      → game_of_table second ≡ refused bad_scale (place_of.Attacker 1)
+  -- other payoffs at target t
+  pub payoffs : (first second : Members) (g : Game) (t : ℕ) (p : Payoff) → game_of_table first ≡ Ok g → is_scaled g ≡ true
+      → DiffersIn g (typed 1 (type_pays of_targets (pay_row t))) (row_of p) first second → IsPayoff p → ¬ (IsScaled g.scale p) → game_of_table second ≡ refused bad_scale (place_of.Attacker 1)
