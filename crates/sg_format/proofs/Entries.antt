@@ -15,11 +15,11 @@ count_set k value no_items = refl
 count_set zero value (item first rest) = refl
 count_set (suc k) value (item first rest) = ap suc (count_set k value rest)
 
-join_push : {A : Type 0} (xs : List A) (x : A) (ys : List A) → (xs ++ x ∷ []) ++ ys ≡ xs ++ x ∷ ys
+pub join_push : {A : Type 0} (xs : List A) (x : A) (ys : List A) → (xs ++ x ∷ []) ++ ys ≡ xs ++ x ∷ ys
 join_push [] x ys = refl
 join_push (y ∷ xs) x ys = ap (λ zs. y ∷ zs) (join_push xs x ys)
 
-join_nothing : {A : Type 0} (xs : List A) → xs ++ [] ≡ xs
+pub join_nothing : {A : Type 0} (xs : List A) → xs ++ [] ≡ xs
 join_nothing [] = refl
 join_nothing (x ∷ xs) = ap (λ ys. x ∷ ys) (join_nothing xs)
 

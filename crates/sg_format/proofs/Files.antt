@@ -59,6 +59,7 @@ pub record IsPatrolsFile (given : Data) (table : Members) (g : Game) : Type 0 wh
   pub scale : Option ℤ
   pub count : ℤ
   pub counted : patrols ≡ count_of count
+  pub scale_is : g.scale ≡ unwrap_or scale (pos 0)
   pub scaled : is_scaled g ≡ is_some (get_member (codes "scale") table)
   pub known : has_only is_patrols_key table ≡ true
   pub targets_there : get_member (codes "targets") table ≡ Some listed
@@ -90,6 +91,7 @@ patrols_file given table g h =
       scale = scale;
       count = patrols;
       counted = refl;
+      scale_is = refl;
       scaled = (scale_at-scale declared scale e5).is;
       scale_read = e5;
       count_read = e6;

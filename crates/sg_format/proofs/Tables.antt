@@ -85,7 +85,7 @@ matrix_table_fails place rows others value r e =
     lack_fails (get_member (codes "follower") t) _ place _ r e6 (λ follower e7. no_reason r e7)))))))
 
 -- the value at another key than the changed one
-stays : (key changed : List ℕ) (value : Option Data) (x : Data) (first second : Members) → bytes_eq key changed ≡ false → DiffersAt changed value first second
+pub stays : (key changed : List ℕ) (value : Option Data) (x : Data) (first second : Members) → bytes_eq key changed ≡ false → DiffersAt changed value first second
     → get_member key first ≡ Some x → get_member key second ≡ Some x
 stays key changed value x first second e d there = d.elsewhere key (apart key changed e) ∙ there
 
@@ -178,22 +178,22 @@ named_part_fails place group known limit others first second x (members part) va
     rw is (named_members_fail place key known limit others c.new t.own c.value x.name r keys own c.differs.here t.name_read broken)
 
 -- what stands at the keys of a type in security form
-record IsSecurityTable (place : Place) (scaled : Bool) (targets : ℕ) (others : List Attacker) (t : Members) : Type 0 where
-  own : Data
-  weight : Data
-  listed : Data
-  text : List ℕ
-  prior : ℤ
-  rows : List (List ℤ)
-  keys : has_only is_security_type_key t ≡ true
-  own_there : get_member (codes "name") t ≡ Some own
-  weight_there : get_member (codes "prior") t ≡ Some weight
-  listed_there : get_member (codes "payoffs") t ≡ Some listed
-  name_read : new_name place (map (λ (x : Attacker). x.name) others) own ≡ Ok text
-  prior_read : prior_at place scaled weight ≡ Ok prior
-  rows_read : pay_table_at place targets 4 listed ≡ Ok rows
+pub record IsSecurityTable (place : Place) (scaled : Bool) (targets : ℕ) (others : List Attacker) (t : Members) : Type 0 where
+  pub own : Data
+  pub weight : Data
+  pub listed : Data
+  pub text : List ℕ
+  pub prior : ℤ
+  pub rows : List (List ℤ)
+  pub keys : has_only is_security_type_key t ≡ true
+  pub own_there : get_member (codes "name") t ≡ Some own
+  pub weight_there : get_member (codes "prior") t ≡ Some weight
+  pub listed_there : get_member (codes "payoffs") t ≡ Some listed
+  pub name_read : new_name place (map (λ (x : Attacker). x.name) others) own ≡ Ok text
+  pub prior_read : prior_at place scaled weight ≡ Ok prior
+  pub rows_read : pay_table_at place targets 4 listed ≡ Ok rows
 
-security_table : (place : Place) (scaled : Bool) (targets : ℕ) (others : List Attacker) (t : Members) (x : Attacker) → security_type_at place scaled targets others (table t) ≡ Ok x
+pub security_table : (place : Place) (scaled : Bool) (targets : ℕ) (others : List Attacker) (t : Members) (x : Attacker) → security_type_at place scaled targets others (table t) ≡ Ok x
     → IsSecurityTable place scaled targets others t
 unfolding security_type_at
 security_table place scaled targets others t x h =
