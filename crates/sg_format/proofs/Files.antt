@@ -113,6 +113,7 @@ pub record IsListedFile (table : Members) (g : Game) : Type 0 where
   pub attackers : Data
   pub kind : g.kind ≡ Security
   pub no_patrols : g.patrols ≡ None
+  pub scale_is : g.scale ≡ pos 0
   pub known : has_only is_resources_key table ≡ true
   pub no_scale : is_some (get_member (codes "scale") table) ≡ false
   pub targets_there : get_member (codes "targets") table ≡ Some listed
@@ -147,6 +148,7 @@ listed_file table g h =
       attackers = attackers;
       kind = refl;
       no_patrols = refl;
+      scale_is = refl;
       known = e1;
       no_scale = not-true (is_some (get_member (codes "scale") table)) e3;
       targets_there = needed_is (get_member (codes "targets") table) _ _ listed e2;

@@ -25,7 +25,7 @@ use Rattle.sg_format.specs.Lists.{each, item_count, names_at, new_name, some_at}
 use Rattle.sg_format.specs.Types.{is_security_type_key, pay_at, pay_table_at, payoff_of, pays_at, prior_at, security_type_at, security_types_at}
 use Rattle.sg_format.specs.GameFiles.{count_of, fits_scale, game_of_table, is_patrols_key, limits_of, patrols_game, scale_at}
 use Rattle.sg_format.specs.Changes.{DiffersAt}
-use Rattle.sg_format.specs.Parts.{Changes, ChangesEntry, ChangesKey, DiffersIn, at_key, at_number, scale, set_item}
+use Rattle.sg_format.specs.Parts.{Changes, ChangesEntry, ChangesKey, DiffersIn, at_key, at_number, of_targets, pay_row, scale, set_item, type_pays, typed}
 use Rattle.sg_format.specs.PartLaws.{BadScaleIsRefused, row_of}
 use Rattle.sg_format.proofs.Accepted.{fits_scale-scaled, game_of_table-game}
 use Rattle.sg_format.proofs.Inversion.{after, after_test}
@@ -33,8 +33,8 @@ use Rattle.sg_format.proofs.Keys.{apart, changed_only}
 use Rattle.sg_format.proofs.Shapes.{matrix_form, security_form}
 use Rattle.sg_format.proofs.Files.{IsHeaded, IsListedFile, IsMatrixFile, IsPatrolsFile, by_file}
 use Rattle.sg_format.proofs.Faults.{headed}
-use Rattle.sg_format.proofs.Listed.{length-each}
-use Rattle.sg_format.proofs.Entries.{count_set, join_nothing, join_push}
+use Rattle.sg_format.proofs.Listed.{length-each, some_at-count}
+use Rattle.sg_format.proofs.Entries.{IsEntry, count_set, entry_at, join_nothing, join_push, some_is}
 use Rattle.sg_format.proofs.Parted.{only}
 use Rattle.sg_format.proofs.Tables.{IsSecurityTable, security_table, stays}
 use Rattle.sg_format.proofs.PartFaults.{IsTopChange, names_scaled, top_change}
@@ -366,3 +366,101 @@ other_payoffs place scaled targets others first second x t p h c is =
       there = row_payoff row.values change.index p row.within row.there;
       within = omega (arith, row.within, length-map row.values payoff_of);
     })
+
+-- the one type of a list with a scale, with other payoffs at a target
+record HasOneType (targets : ℕ) (value : Data) (p : Payoff) : Type 0 where
+  attacker : Attacker
+  is : security_types_at true targets value ≡ Ok (attacker ∷ [])
+  index : ℕ
+  there : get_or attacker.payoffs index nothing ≡ p
+  within : index < length attacker.payoffs
+
+one_item : (items : Items) (k : ℕ) (old : Data) → item_count items ≡ 1 → get_item k items ≡ Some old → (new : Data) → set_item k new items ≡ item new no_items
+one_item no_items k old n e new = absurd (cc)
+one_item (item first no_items) zero old n e new = refl
+one_item (item first no_items) (suc k) old n e new = absurd (cc)
+one_item (item first (item next rest)) k old n e new = absurd (cc)
+
+some_single : (place : Place) (value : Data) → some_at place 1 (array (item value no_items)) ≡ Ok (item value no_items)
+unfolding some_at
+some_single place value = refl
+
+one_type_set : (targets : ℕ) (first second : Data) (types : List Attacker) (p : Payoff) (t : ℕ) → security_types_at true targets first ≡ Ok types
+    → Changes (at_number 1 ∷ at_key (codes "payoffs") ∷ at_number t ∷ []) (row_of p) (Some first) second → IsPayoff p → HasOneType targets second p
+unfolding security_types_at
+one_type_set targets first second types p t h c is =
+    let read : List Attacker → Data → Result Attacker GameFault = λ others. security_type_at (place_of.Attacker (length others + 1)) true targets others in
+    let was : first ≡ array c.items = only first (array c.items) c.was in
+    let start : (some_at place_of.Document 1 (array c.items) >>= (λ items. each read [] items)) ≡ Ok types = rw was at h in
+    after (some_at place_of.Document 1 (array c.items)) start (λ found e1 rest.
+    let found_is = some_is place_of.Document 1 c.items found e1 in
+    let count = some_at-count place_of.Document 1 (array c.items) found e1 in
+    let size : item_count c.items ≡ 1 = omega (arith, count.at_least, count.at_most, ap item_count found_is) in
+    let whole_is : each read [] c.items ≡ Ok types = rw found_is at rest in
+    let entry = entry_at read c.items types c.index c.entry whole_is c.there in
+    let zero_is : c.index ≡ 0 = (let n = c.number in omega (arith, n)) in
+    let front : take c.index types ≡ [] = ap (λ (k : ℕ). take k types) zero_is in
+    let own : security_type_at (place_of.Attacker 1) true targets [] c.entry ≡ Ok entry.value = rw front at entry.is in
+    let made = other_payoffs (place_of.Attacker 1) true targets [] c.entry c.value entry.value t p own c.change is in
+    let alone = one_item c.items c.index c.entry size c.there c.value in
+    let second_is : second ≡ array (item c.value no_items) = c.is ∙ ap (λ (i : Items). array i) alone in
+    let few : some_at place_of.Document 1 second ≡ Ok (item c.value no_items) = ap (some_at place_of.Document 1) second_is ∙ some_single place_of.Document c.value in
+    record {
+      attacker = made.1.attacker;
+      is = one_type targets second (item c.value no_items) (made.1.attacker ∷ []) c.value made.1.attacker few refl refl (each_one read c.value made.1.attacker made.1.is);
+      index = made.0;
+      there = made.1.there;
+      within = made.1.within;
+    })
+
+types_on : (scaled : Bool) (targets : ℕ) (value : Data) (types : List Attacker) → scaled ≡ true → security_types_at true targets value ≡ Ok types → security_types_at scaled targets value ≡ Ok types
+types_on scaled targets value types on h = rw on h
+
+limits_on : (g : Game) (scaled : Bool) → scaled ≡ true → limits_of g true ≡ refused bad_scale (place_of.Attacker 1) → limits_of g scaled ≡ refused bad_scale (place_of.Attacker 1)
+limits_on g scaled on h = rw on h
+
+off_at : (a b : ℤ) (p q : Payoff) → a ≡ b → q ≡ p → ¬ (IsScaled a p) → ¬ (IsScaled b q)
+off_at a b p q e f off = λ is. off (subst (λ (z : ℤ). IsScaled z p) (sym e) (subst (IsScaled b) f is))
+
+payoffs_fail : (first second : Members) (g : Game) (given : Data) (t : ℕ) (p : Payoff) → IsHeaded first Security → get_member (codes "patrols") first ≡ Some given → IsPatrolsFile given first g
+    → is_scaled g ≡ true → IsTopChange (codes "type") (at_number 1 ∷ at_key (codes "payoffs") ∷ at_number t ∷ []) (row_of p) first second → IsPayoff p → ¬ (IsScaled g.scale p)
+    → game_of_table second ≡ refused bad_scale (place_of.Attacker 1)
+payoffs_fail first second g given t p head there f scaled c is off =
+    let key = codes "type" in
+    let d = c.differs in
+    let declared = get_member (codes "scale") first in
+    let on : is_some declared ≡ true = sym f.scaled ∙ scaled in
+    let still = d.elsewhere (codes "patrols") (apart (codes "patrols") key refl) ∙ there in
+    let made = one_type_set (length g.goals) f.attackers c.new g.types p t (rw on at f.types) (rw f.types_there at c.change) is in
+    let game = read_game g.goals f.scale f.count (made.attacker ∷ []) in
+    let read : IsRead given second declared f.listed c.new g.goals f.scale f.count (made.attacker ∷ []) = record {
+      keys = changed_only is_patrols_key key (Some c.new) first second d refl f.known;
+      targets_there = d.elsewhere (codes "targets") (apart (codes "targets") key refl) ∙ f.targets_there;
+      types_there = d.here;
+      scale_there = d.elsewhere (codes "scale") (apart (codes "scale") key refl);
+      targets_read = f.targets;
+      scale_read = f.scale_read;
+      count_read = f.count_read;
+      types_read = types_on (is_some declared) (length g.goals) c.new (made.attacker ∷ []) on made.is;
+    } in
+    let same_scale : g.scale ≡ unwrap_or f.scale (pos 0) = f.scale_is in
+    let off_there = off_at g.scale (unwrap_or f.scale (pos 0)) p (get_or made.attacker.payoffs made.index nothing) same_scale made.there off in
+    let fails : limits_of game true ≡ refused bad_scale (place_of.Attacker 1) = unscaled_fails game 0 made.index (omega arith) made.within off_there in
+    headed key (Some c.new) first second Security d head (apart (codes "version") key refl) (apart (codes "form") key refl)
+    ∙ (rw still (limits_fail given second declared f.listed c.new g.goals f.scale f.count (made.attacker ∷ []) (record { reason = bad_scale; place = place_of.Attacker 1 }) read (limits_on game (is_some declared) on fails)))
+
+scale_off : (g : Game) → g.scale ≡ pos 0 → is_scaled g ≡ false
+scale_off g e = ap (int_lt (pos 0)) e
+
+other_payoffs_scale : (first second : Members) (g : Game) (t : ℕ) (p : Payoff) → game_of_table first ≡ Ok g → is_scaled g ≡ true
+    → DiffersIn g (typed 1 (type_pays of_targets (pay_row t))) (row_of p) first second → IsPayoff p → ¬ (IsScaled g.scale p) → game_of_table second ≡ refused bad_scale (place_of.Attacker 1)
+other_payoffs_scale first second g t p h scaled d is off =
+    let game = game_of_table-game first g h in
+    by_file first g (game_of_table second ≡ refused bad_scale (place_of.Attacker 1)) h
+    (λ head m. absurd (true≢false (sym scaled ∙ scale_off g (matrix_form g game m.kind).no_scale)))
+    (λ head given there f. payoffs_fail first second g given t p head there f scaled
+    (top_change (codes "type") (at_number 1 ∷ at_key (codes "payoffs") ∷ at_number t ∷ []) (row_of p) first second d) is off)
+    (λ head there l. absurd (true≢false (sym scaled ∙ scale_off g l.scale_is)))
+
+pub scales : BadScaleIsRefused
+scales = record { declared = declared_scale; payoffs = other_payoffs_scale }
