@@ -1,11 +1,10 @@
 -- Reading the entries of an array of which one was changed.
-use Rattle.std.proofs.Common.{◌≡◌, ℕ, zero, suc, ◌<◌, ◌+◌, nat_le, nat_lt, List, [], ◌∷◌, ◌++◌, length, take, get_or, Option, Some, None, Result, Ok, Err, refl, sym, ap, ◌∙◌, arith}
+use Rattle.std.proofs.Common.{◌≡◌, ℕ, zero, suc, ◌<◌, ◌+◌, nat_le, nat_lt, List, [], ◌∷◌, ◌++◌, length, take, get_or, Some, Result, Ok, Err, refl, sym, ap, ◌∙◌, arith}
 use Rattle.std.proofs.lemmas.List.{length-append, length_push}
 use Rattle.std.proofs.Math.Seq.{take-append_seam, get_or-append_seam}
 use Rattle.toml.specs.Data.{Data, Items, no_items, item, get_item, array}
 use Rattle.sg_model.specs.declared.fault.Place.{Place}
 use Rattle.sg_model.specs.declared.fault.GameFault.{GameFault}
-use Rattle.sg_format.specs.Steps.{◌>>=◌}
 use Rattle.sg_format.specs.Lists.{each, few_at, item_count, some_at}
 use Rattle.sg_format.specs.Parts.{set_item}
 use Rattle.sg_format.proofs.Inversion.{after, after_test}

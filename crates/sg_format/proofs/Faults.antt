@@ -35,7 +35,7 @@ pub other_version : OtherVersionIsRefused
 unfolding game_of_table version_of
 other_version table z e ne = let q = not_one z ne in rw (e, q) refl
 
-version_same : (first second : Members) → get_member (codes "version") second ≡ get_member (codes "version") first → version_of second ≡ version_of first
+pub version_same : (first second : Members) → get_member (codes "version") second ≡ get_member (codes "version") first → version_of second ≡ version_of first
 unfolding version_of
 version_same first second e = rw e refl
 
@@ -302,7 +302,7 @@ differs a b ne = elim (cases_Bool (bytes_eq a b)) [
   | inr isnt ↦ isnt
 ]
 
-form_fails : (first second : Members) (kind : Kind) (text : List ℕ) → IsHeaded first kind → text ≢ codes "security" → text ≢ codes "matrix"
+pub form_fails : (first second : Members) (kind : Kind) (text : List ℕ) → IsHeaded first kind → text ≢ codes "security" → text ≢ codes "matrix"
     → DiffersAt (codes "form") (Some (string text)) first second → game_of_table second ≡ refused out_of_range Document
 unfolding game_of_table form_of
 form_fails first second kind text head s m d =

@@ -93,15 +93,15 @@ patrols_faulty table other g key value given fault n head there p d e =
     ]
 
 -- what the document of a game with listed resources has at its keys
-record IsListedTable (t : Members) (listed given manned attackers : Data) : Type 0 where
-  known : has_only is_resources_key t ≡ true
-  no_scale : is_some (get_member (codes "scale") t) ≡ false
-  targets : get_member (codes "targets") t ≡ Some listed
-  schedules : get_member (codes "schedule") t ≡ Some given
-  resources : get_member (codes "resource") t ≡ Some manned
-  types : get_member (codes "type") t ≡ Some attackers
+pub record IsListedTable (t : Members) (listed given manned attackers : Data) : Type 0 where
+  pub known : has_only is_resources_key t ≡ true
+  pub no_scale : is_some (get_member (codes "scale") t) ≡ false
+  pub targets : get_member (codes "targets") t ≡ Some listed
+  pub schedules : get_member (codes "schedule") t ≡ Some given
+  pub resources : get_member (codes "resource") t ≡ Some manned
+  pub types : get_member (codes "type") t ≡ Some attackers
 
-listed_steps : (t : Members) (listed given manned attackers : Data) → IsListedTable t listed given manned attackers → resources_game t ≡ listed_game listed given manned attackers
+pub listed_steps : (t : Members) (listed given manned attackers : Data) → IsListedTable t listed given manned attackers → resources_game t ≡ listed_game listed given manned attackers
 unfolding resources_game
 listed_steps t listed given manned attackers h =
     let a = h.known in
@@ -133,17 +133,17 @@ listed_types_fail : (listed given manned attackers : Data) (targets : List (List
 unfolding listed_game
 listed_types_fail listed given manned attackers targets schedules resources fault n s r f = rw (n, s, r, f) refl
 
-listed_to : (key : List ℕ) (value : Data) (table other : Members) → IsHeaded table Security → get_member (codes "patrols") table ≡ None → DiffersAt key (Some value) table other
+pub listed_to : (key : List ℕ) (value : Data) (table other : Members) → IsHeaded table Security → get_member (codes "patrols") table ≡ None → DiffersAt key (Some value) table other
     → codes "version" ≢ key → codes "form" ≢ key → codes "patrols" ≢ key → game_of_table other ≡ resources_game other
 listed_to key value table other head there c v f p =
     let still = c.elsewhere (codes "patrols") p ∙ there in
     headed key (Some value) table other Security c head v f ∙ (rw still refl)
 
 -- the value at a key that stays
-kept : (name key : List ℕ) (value : Option Data) (x : Data) (table other : Members) → DiffersAt key value table other → bytes_eq name key ≡ false → get_member name table ≡ Some x → get_member name other ≡ Some x
+pub kept : (name key : List ℕ) (value : Option Data) (x : Data) (table other : Members) → DiffersAt key value table other → bytes_eq name key ≡ false → get_member name table ≡ Some x → get_member name other ≡ Some x
 kept name key value x table other c e there = c.elsewhere name (apart name key e) ∙ there
 
-unscaled : (key : List ℕ) (value : Option Data) (table other : Members) → DiffersAt key value table other → bytes_eq (codes "scale") key ≡ false → is_some (get_member (codes "scale") table) ≡ false
+pub unscaled : (key : List ℕ) (value : Option Data) (table other : Members) → DiffersAt key value table other → bytes_eq (codes "scale") key ≡ false → is_some (get_member (codes "scale") table) ≡ false
     → is_some (get_member (codes "scale") other) ≡ false
 unscaled key value table other c e there = ap is_some (c.elsewhere (codes "scale") (apart (codes "scale") key e)) ∙ there
 

@@ -17,3 +17,4 @@ pub mod Tables
 pub mod PartFaults
 pub mod PartReasons
 pub mod Scales
+pub mod Programs

@@ -1,5 +1,5 @@
 -- The document of a game in which one part breaks its rule is refused for it, at the place of the part.
-use Rattle.std.proofs.Common.{◌≡◌, ◌≢◌, ℕ, suc, ◌≤◌, ◌<◌, ◌+◌, ◌^◌, Bool, true, false, nat_le, nat_lt, List, [], ◌∷◌, length, map, take, get_or, ℤ, pos, Option, Some, None, Result, Ok, Err, is_some, refl, sym, ap, subst, ◌∙◌, arith}
+use Rattle.std.proofs.Common.{◌≡◌, ◌≢◌, ℕ, suc, ◌+◌, ◌^◌, Bool, true, false, nat_le, nat_lt, List, [], ◌∷◌, length, map, take, get_or, ℤ, pos, Option, Some, None, Result, Ok, is_some, refl, sym, ap, subst, ◌∙◌, arith}
 use Rattle.std.specs.Prelude.{codes, if◌then◌else◌}
 use Rattle.std.specs.List.{AllPairs}
 use Rattle.std.proofs.lemmas.Bool.Decides.{nat_tests}
@@ -14,11 +14,11 @@ use Rattle.sg_model.specs.Games.{Attacker, Game, Named, nobody, unnamed}
 use Rattle.sg_model.specs.Limits.{is_scaled}
 use Rattle.sg_format.specs.Steps.{◌>>=◌, refused}
 use Rattle.sg_format.specs.Documents.{has_only, items_at, number_at}
-use Rattle.sg_format.specs.Lists.{each, few_at, item_count, named_at, named_lists_at, names_at, new_name, some_at}
+use Rattle.sg_format.specs.Lists.{each, few_at, item_count, named_at, named_lists_at, names_at, some_at}
 use Rattle.sg_format.specs.Types.{matrix_type_at, matrix_types_at, security_type_at, security_types_at}
 use Rattle.sg_format.specs.GameFiles.{game_of_table, is_patrols_key, patrols_game, scale_at}
 use Rattle.sg_format.specs.Changes.{DiffersAt, fault_in}
-use Rattle.sg_format.specs.Parts.{Changes, ChangesKey, ChangesEntry, at_key, at_number, DiffersIn, Group, NamedPart, NamesPart, Part, TypePart, before, goal_place, goals, group_key, group_place, grouped, groups, listed_rule, matrix_rule, matrix_type_rule, members_key, name, named_path, named_rule, names, names_of, part_path, part_place, part_rule, patrols, patrols_rule, resources, scale, schedules, security_type_rule, set_item, some_entries, few_entries, number_within, type_path, typed, types, Step, names_path}
+use Rattle.sg_format.specs.Parts.{Changes, at_key, at_number, DiffersIn, Group, NamedPart, NamesPart, Part, TypePart, before, goal_place, goals, grouped, groups, listed_rule, matrix_rule, matrix_type_rule, members_key, name, named_path, named_rule, names, names_of, part_path, part_place, part_rule, patrols, patrols_rule, resources, scale, schedules, security_type_rule, number_within, type_path, typed, types, Step, names_path}
 use Rattle.sg_format.specs.PartLaws.{IsRefusedAt}
 use Rattle.sg_format.proofs.Inversion.{after, after_test}
 use Rattle.sg_format.proofs.Keys.{apart, changed_only}
@@ -28,7 +28,7 @@ use Rattle.sg_format.proofs.Faults.{headed}
 use Rattle.sg_format.proofs.FaultyLists.{listed_faulty, matrix_faulty, patrols_faulty}
 use Rattle.sg_format.proofs.TopLists.{matrix_begin, named_begin, security_begin}
 use Rattle.sg_format.proofs.Broken.{few_fails, no_reason, number_fails, reason_of, some_fails}
-use Rattle.sg_format.proofs.Entries.{IsEntry, entry_at, few_is, few_set, some_is, some_set}
+use Rattle.sg_format.proofs.Entries.{entry_at, few_is, few_set, some_is, some_set}
 use Rattle.sg_format.proofs.Parted.{front_is, names_part_fails, names_place, only, place_is}
 use Rattle.sg_format.proofs.Tables.{matrix_part_fails, named_part_fails, security_part_fails}
 

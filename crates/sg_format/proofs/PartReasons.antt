@@ -1,12 +1,12 @@
 -- For each reason, the values that break a rule for it.
-use Rattle.std.proofs.Common.{◌≡◌, ◌≢◌, ◌⊎◌, ℕ, zero, suc, ◌<◌, ◌≤◌, ◌-◌, Bool, true, false, not, ◌&&◌, ◌||◌, ◌==◌, nat_le, nat_lt, int_le, List, [], ◌∷◌, length, map, take, get_or, ℤ, pos, ◌<ℤ◌, Option, Some, None, is_some, Ok, refl, sym, ap, subst, ◌∙◌, arith, inl, inr}
+use Rattle.std.proofs.Common.{◌≡◌, ◌≢◌, ◌⊎◌, ℕ, zero, suc, ◌<◌, ◌-◌, Bool, true, false, ◌&&◌, ◌||◌, ◌==◌, nat_le, nat_lt, int_le, List, [], ◌∷◌, length, map, take, get_or, ℤ, ◌<ℤ◌, Option, Some, None, is_some, refl, sym, ap, subst, ◌∙◌, arith, inl, inr}
 use Rattle.std.specs.Prelude.{bytes_eq, codes, if◌then◌else◌}
 use Rattle.std.specs.List.{All, Contains, list_any}
 use Rattle.std.proofs.lemmas.Int.{ints}
-use Rattle.std.proofs.lemmas.Bool.{cases_Bool, or_cases, or_parts, true≢false}
+use Rattle.std.proofs.lemmas.Bool.{cases_Bool, or_cases}
 use Rattle.std.proofs.lemmas.Bool.Decides.{Decides-eqb, nat_tests}
 use Rattle.std.proofs.lemmas.List.{length-map, take-map}
-use Rattle.std.proofs.lemmas.List.Elements.{All-cons, All-head, All-map, All-nil, All-tail, All-take, All-weaker}
+use Rattle.std.proofs.lemmas.List.Elements.{All-head, All-map, All-nil, All-tail, All-take, All-weaker}
 use Rattle.std.proofs.lemmas.Slice.Eq.{bytes_eq-Decides}
 use Rattle.toml.specs.Data.{Data, Items, Members, array, as_array, as_integer, as_str, as_table, get_member, integer, no_items, string, table}
 use Rattle.sg_model.specs.declared.kind.Kind.{Kind}
@@ -18,13 +18,12 @@ use Rattle.sg_model.specs.Limits.{AreListed, AreMembers, IsCount, IsDefended, Is
 use Rattle.sg_format.specs.Steps.{missing_key, wrong_kind, unknown_key, empty_list, unknown_name, repeated_name, out_of_range, too_large}
 use Rattle.sg_format.specs.Documents.{has_only}
 use Rattle.sg_format.specs.Lists.{item_count}
-use Rattle.sg_format.specs.GameFiles.{game_of_table}
-use Rattle.sg_format.specs.Parts.{Group, NamedPart, NamesPart, Part, PaysPart, Rule, TypePart, before, entries_exactly, few_entries, goals, grouped, groups, known_besides, listed_rule, matrix_rule, matrix_type_rule, members, members_rule, name, name_besides, named_rule, names, names_of, names_rule, no_rule, number_within, of_follower, of_leader, of_targets, own_name, part_rule, patrols, patrols_rule, pay, pay_row, pays, pays_rule, resources, rule_by, scale, schedules, security_type_rule, some_entries, table_with, type_actions, type_name, type_pays, type_prior, typed, types, types_before, whole_named, whole_type}
+use Rattle.sg_format.specs.Parts.{NamedPart, NamesPart, Part, PaysPart, Rule, TypePart, before, entries_exactly, few_entries, goals, grouped, groups, known_besides, listed_rule, matrix_rule, matrix_type_rule, members, members_rule, name, name_besides, named_rule, names, names_of, names_rule, no_rule, number_within, of_follower, of_leader, of_targets, own_name, part_rule, patrols, patrols_rule, pay, pay_row, pays, pays_rule, resources, rule_by, scale, schedules, security_type_rule, some_entries, table_with, type_actions, type_name, type_pays, type_prior, typed, types, types_before, whole_named, whole_type}
 use Rattle.sg_format.specs.PartLaws.{EmptyPartIsRefused, LongPartIsRefused, MissingFieldIsRefused, OutOfRangeIsRefused, RepeatedNameIsRefused, UnknownFieldIsRefused, UnknownNameIsRefused, WrongKindIsRefused, is_of_kind, most_entries, names_before}
 use Rattle.sg_format.proofs.Accepted.{game_of_table-game}
-use Rattle.sg_format.proofs.Keys.{apart, same, unknown_found}
+use Rattle.sg_format.proofs.Keys.{same, unknown_found}
 use Rattle.sg_format.proofs.Shapes.{matrix_form, security_form}
-use Rattle.sg_format.proofs.Broken.{asked, lacking, reason_of, tested}
+use Rattle.sg_format.proofs.Broken.{asked, lacking, reason_of}
 use Rattle.sg_format.proofs.PartFaults.{faulty_part}
 
 other_kind : {A : Type 0} (o : Option A) (later : A → Option ℕ) → is_some o ≡ false → asked o wrong_kind later ≡ Some wrong_kind

@@ -1,6 +1,6 @@
 -- A list of names, of members or of payoffs in which one part breaks its rule is refused for it.
-use Rattle.std.proofs.Common.{◌≡◌, ◌≢◌, ℕ, zero, suc, ◌<◌, ◌≤◌, ◌+◌, ◌-◌, ◌^◌, Bool, true, false, not, ◌||◌, ◌==◌, nat_lt, List, [], ◌∷◌, ◌++◌, length, map, take, get_or, ℤ, pos, ◌-ℤ◌, Option, Some, None, Result, Ok, Err, is_some, refl, sym, ap, subst, ◌∙◌, arith, cond, inl, inr}
-use Rattle.std.specs.Prelude.{bytes_eq, codes}
+use Rattle.std.proofs.Common.{◌≡◌, ◌≢◌, ℕ, zero, suc, ◌<◌, ◌+◌, ◌-◌, ◌^◌, Bool, true, false, not, ◌||◌, ◌==◌, nat_lt, List, [], ◌∷◌, length, map, take, get_or, ℤ, pos, ◌-ℤ◌, Option, Some, None, Result, Ok, Err, is_some, refl, sym, ◌∙◌, arith, cond, inl, inr}
+use Rattle.std.specs.Prelude.{bytes_eq}
 use Rattle.std.specs.List.{All, AllPairs, list_any, position_from}
 use Rattle.std.proofs.lemmas.Bool.{cases_Bool, or_cases}
 use Rattle.std.proofs.lemmas.Bool.Decides.{Decides-eqb, nat_tests}
@@ -12,7 +12,7 @@ use Rattle.sg_model.specs.declared.fault.GameFault.{GameFault}
 use Rattle.sg_model.specs.Sums.{nth}
 use Rattle.sg_model.specs.Limits.{IsCount}
 use Rattle.sg_format.specs.Steps.{◌>>=◌, needed, passed, refused, wrong_kind, unknown_name, repeated_name, out_of_range}
-use Rattle.sg_format.specs.Documents.{items_at, text_at}
+use Rattle.sg_format.specs.Documents.{items_at}
 use Rattle.sg_format.specs.Lists.{each, item_count, known_at, member_at, members_at, names_at, new_name, number_of, some_at}
 use Rattle.sg_format.specs.Types.{pay_at, pay_table_at, pays_at}
 use Rattle.sg_format.specs.Parts.{Changes, NamesPart, PaysPart, before, entries_exactly, known_besides, members_rule, name, names, names_path, names_rule, pay, pay_row, pays, pays_path, pays_rule, set_item}
@@ -20,7 +20,7 @@ use Rattle.sg_format.proofs.Inversion.{after, after_test}
 use Rattle.sg_format.proofs.Keys.{same}
 use Rattle.sg_format.proofs.Listed.{members_at-members}
 use Rattle.sg_format.proofs.Broken.{asked, need_fails, new_name_fails, no_reason, number_fails, reason_of, some_fails, test_fails, tested}
-use Rattle.sg_format.proofs.Entries.{IsEntry, count_set, entry_at, some_is, some_set}
+use Rattle.sg_format.proofs.Entries.{count_set, entry_at, some_is, some_set}
 
 -- the value that some give is that one
 pub only : {A : Type 0} (x y : A) → Some x ≡ Some y → x ≡ y
@@ -135,6 +135,7 @@ member_fails place known numbers value r apart all e = by_text (as_str value) e
             → (passed (not (list_any (λ other. other == n) numbers)) repeated_name place >>= (λ u. Ok n)) ≡ refused r place
         by_repeat true h e = let one : repeated_name ≡ r = cc in let q = repeats known text n numbers apart is all h in rw (q, one) refl
         by_repeat false h e = no_reason r e
+
     by_text : (o : Option (List ℕ)) → asked o wrong_kind (λ text. tested (list_any (bytes_eq text) known) unknown_name (tested (not (list_any (bytes_eq text) (map (λ m. nth known m []) numbers))) repeated_name None)) ≡ Some r
         → ((needed o wrong_kind place >>= (λ text. needed (number_of text known) unknown_name place)) >>= (λ n. passed (not (list_any (λ other. other == n) numbers)) repeated_name place >>= (λ u. Ok n))) ≡ refused r place
     by_text None e = let one : wrong_kind ≡ r = cc in rw one refl

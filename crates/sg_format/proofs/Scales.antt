@@ -1,57 +1,55 @@
 -- A scale that the payoffs don't fit is refused, and a linear program that is too large.
-use Rattle.std.proofs.Common.{◌≡◌, ◌≢◌, ℕ, zero, suc, ◌<◌, ◌≤◌, ◌+◌, ◌-◌, ◌*◌, ◌^◌, Bool, true, false, ◌&&◌, ◌==◌, nat_le, nat_lt, int_le, int_lt, List, [], ◌∷◌, ◌++◌, length, map, take, get_or, ℤ, pos, ◌-ℤ◌, ◌≤ℤ◌, Option, Some, None, Result, Ok, Err, is_some, unwrap_or, refl, sym, ap, subst, ◌∙◌, arith, inl, inr}
+use Rattle.std.proofs.Common.{◌≡◌, ◌≢◌, ℕ, zero, suc, ◌<◌, ◌≤◌, ◌+◌, ◌-◌, ◌^◌, Bool, true, false, ◌&&◌, ◌==◌, nat_le, nat_lt, int_le, int_lt, List, [], ◌∷◌, ◌++◌, length, map, take, get_or, ℤ, pos, ◌-ℤ◌, ◌≤ℤ◌, Option, Some, None, Result, Ok, Err, is_some, unwrap_or, refl, sym, ap, subst, ◌∙◌, arith, inl, inr}
 use Rattle.std.specs.Prelude.{codes, if◌then◌else◌}
 use Rattle.std.specs.List.{All, list_all}
 use Rattle.std.proofs.lemmas.Int.{ints}
 use Rattle.std.proofs.lemmas.Bool.{cases_Bool, true≢false, and_parts}
-use Rattle.std.proofs.lemmas.Bool.Decides.{Decides-eqb, nat_tests}
+use Rattle.std.proofs.lemmas.Bool.Decides.{nat_tests}
 use Rattle.std.proofs.lemmas.List.{length-map, length_push}
 use Rattle.std.proofs.Math.Seq.{get_or-append_seam}
 use Rattle.sg_model.proofs.Numbers.{nth-map}
-use Rattle.std.proofs.lemmas.List.Elements.{All-head}
 use Rattle.toml.specs.Data.{Data, Items, Members, array, get_item, get_member, integer, item, no_items, table}
 use Rattle.sg_model.specs.declared.fault.Place.{Place}
 use Rattle.sg_model.specs.declared.fault.Place.TheVariants as place_of
 use Rattle.sg_model.specs.declared.fault.GameFault.{GameFault}
-use Rattle.sg_model.specs.declared.kind.Kind.TheVariants.{Security, Matrix}
+use Rattle.sg_model.specs.declared.kind.Kind.TheVariants.{Security}
 use Rattle.sg_model.specs.Sums.{nth}
 use Rattle.sg_model.specs.Games.{Attacker, Game, Payoff, attacker, nobody, nothing, payoff}
-use Rattle.sg_model.specs.Limits.{IsGame, IsPay, IsPayoff, IsSecurityGame, IsSecurityType, IsWithin, is_scaled, program_rows}
+use Rattle.sg_model.specs.Limits.{IsGame, IsPayoff, IsSecurityGame, IsWithin, is_scaled}
 use Rattle.sg_model.specs.Origami.{IsScaled}
 use Rattle.sg_model.proofs.Deciding.{all_pass}
 use Rattle.sg_format.specs.Steps.{◌>>=◌, refused, out_of_range, bad_scale}
 use Rattle.sg_format.specs.Documents.{has_only, integer_at, items_at, needed_at, number_at, table_at}
 use Rattle.sg_format.specs.Lists.{each, item_count, names_at, new_name, some_at}
-use Rattle.sg_format.specs.Types.{is_security_type_key, pay_at, pay_table_at, payoff_of, pays_at, prior_at, security_type_at, security_types_at}
+use Rattle.sg_format.specs.Types.{is_security_type_key, pay_table_at, payoff_of, pays_at, prior_at, security_type_at, security_types_at}
 use Rattle.sg_format.specs.GameFiles.{count_of, fits_scale, game_of_table, is_patrols_key, limits_of, patrols_game, scale_at}
-use Rattle.sg_format.specs.Changes.{DiffersAt}
-use Rattle.sg_format.specs.Parts.{Changes, ChangesEntry, ChangesKey, DiffersIn, at_key, at_number, of_targets, pay_row, scale, set_item, type_pays, typed}
+use Rattle.sg_format.specs.Parts.{Changes, DiffersIn, at_key, at_number, of_targets, pay_row, scale, set_item, type_pays, typed}
 use Rattle.sg_format.specs.PartLaws.{BadScaleIsRefused, row_of}
 use Rattle.sg_format.proofs.Accepted.{fits_scale-scaled, game_of_table-game}
 use Rattle.sg_format.proofs.Inversion.{after, after_test}
 use Rattle.sg_format.proofs.Keys.{apart, changed_only}
 use Rattle.sg_format.proofs.Shapes.{matrix_form, security_form}
-use Rattle.sg_format.proofs.Files.{IsHeaded, IsListedFile, IsMatrixFile, IsPatrolsFile, by_file}
+use Rattle.sg_format.proofs.Files.{IsHeaded, IsPatrolsFile, by_file}
 use Rattle.sg_format.proofs.Faults.{headed}
 use Rattle.sg_format.proofs.Listed.{length-each, some_at-count}
-use Rattle.sg_format.proofs.Entries.{IsEntry, count_set, entry_at, join_nothing, join_push, some_is}
+use Rattle.sg_format.proofs.Entries.{count_set, entry_at, join_nothing, join_push, some_is}
 use Rattle.sg_format.proofs.Parted.{only}
-use Rattle.sg_format.proofs.Tables.{IsSecurityTable, security_table, stays}
+use Rattle.sg_format.proofs.Tables.{security_table, stays}
 use Rattle.sg_format.proofs.PartFaults.{IsTopChange, names_scaled, top_change}
 
 -- the document of a game of patrols, from the values at its keys
-record IsRead (given : Data) (t : Members) (o : Option Data) (listed attackers : Data) (targets : List (List ℕ)) (z : Option ℤ) (count : ℤ) (types : List Attacker) : Type 0 where
-  keys : has_only is_patrols_key t ≡ true
-  targets_there : get_member (codes "targets") t ≡ Some listed
-  types_there : get_member (codes "type") t ≡ Some attackers
-  scale_there : get_member (codes "scale") t ≡ o
-  targets_read : names_at place_of.Document place_of.Target (if is_some o then 10000 else 200) listed ≡ Ok targets
-  scale_read : scale_at o ≡ Ok z
-  count_read : number_at place_of.Document (pos 0) (pos (if is_some o then 200 else 32)) given ≡ Ok count
-  types_read : security_types_at (is_some o) (length targets) attackers ≡ Ok types
+pub record IsRead (given : Data) (t : Members) (o : Option Data) (listed attackers : Data) (targets : List (List ℕ)) (z : Option ℤ) (count : ℤ) (types : List Attacker) : Type 0 where
+  pub keys : has_only is_patrols_key t ≡ true
+  pub targets_there : get_member (codes "targets") t ≡ Some listed
+  pub types_there : get_member (codes "type") t ≡ Some attackers
+  pub scale_there : get_member (codes "scale") t ≡ o
+  pub targets_read : names_at place_of.Document place_of.Target (if is_some o then 10000 else 200) listed ≡ Ok targets
+  pub scale_read : scale_at o ≡ Ok z
+  pub count_read : number_at place_of.Document (pos 0) (pos (if is_some o then 200 else 32)) given ≡ Ok count
+  pub types_read : security_types_at (is_some o) (length targets) attackers ≡ Ok types
 
 -- the game of those values
-abbrev read_game : List (List ℕ) → Option ℤ → ℤ → List Attacker → Game
+abbrev pub read_game : List (List ℕ) → Option ℤ → ℤ → List Attacker → Game
 read_game targets z count types = record {
   kind = Security;
   scale = unwrap_or z (pos 0);
@@ -63,7 +61,7 @@ read_game targets z count types = record {
 }
 
 -- where all values are right, the limits decide
-limits_fail : (given : Data) (t : Members) (o : Option Data) (listed attackers : Data) (targets : List (List ℕ)) (z : Option ℤ) (count : ℤ) (types : List Attacker) (fault : GameFault)
+pub limits_fail : (given : Data) (t : Members) (o : Option Data) (listed attackers : Data) (targets : List (List ℕ)) (z : Option ℤ) (count : ℤ) (types : List Attacker) (fault : GameFault)
     → IsRead given t o listed attackers targets z count types → limits_of (read_game targets z count types) (is_some o) ≡ Err fault → patrols_game given t ≡ Err fault
 unfolding patrols_game
 limits_fail given t o listed attackers targets z count types fault h f =
@@ -359,13 +357,15 @@ other_payoffs place scaled targets others first second x t p h c is =
     let keys = changed_only is_security_type_key key (Some c.value) c.old c.new c.differs refl s.keys in
     let own = stays (codes "name") key (Some c.value) s.own c.old c.new refl c.differs s.own_there in
     let weight = stays (codes "prior") key (Some c.value) s.weight c.old c.new refl c.differs s.weight_there in
-    let read = security_right place scaled targets others c.new s.own s.weight c.value s.text s.prior row.values keys own weight c.differs.here s.name_read s.prior_read rows_is in
-    (change.index, record {
-      attacker = record { name = s.text; prior = s.prior; payoffs = map payoff_of row.values; actions = []; leader = []; follower = [] };
-      is = ap (security_type_at place scaled targets others) c.is ∙ read;
-      there = row_payoff row.values change.index p row.within row.there;
-      within = omega (arith, row.within, length-map row.values payoff_of);
-    })
+    let read = security_right place scaled targets others c.new s.own s.weight c.value s.text s.prior row.values keys own weight c.differs.here s.name_read s.prior_read rows_is in (
+      change.index,
+      record {
+        attacker = record { name = s.text; prior = s.prior; payoffs = map payoff_of row.values; actions = []; leader = []; follower = [] };
+        is = ap (security_type_at place scaled targets others) c.is ∙ read;
+        there = row_payoff row.values change.index p row.within row.there;
+        within = omega (arith, row.within, length-map row.values payoff_of);
+      },
+    )
 
 -- the one type of a list with a scale, with other payoffs at a target
 record HasOneType (targets : ℕ) (value : Data) (p : Payoff) : Type 0 where

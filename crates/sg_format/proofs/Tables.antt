@@ -1,5 +1,5 @@
 -- A schedule, a resource or a type in which one part breaks its rule is refused for it.
-use Rattle.std.proofs.Common.{◌≡◌, ◌≢◌, ℕ, ◌^◌, Bool, true, false, ◌&&◌, ◌||◌, List, [], ◌∷◌, length, map, ℤ, pos, Option, Some, None, Result, Ok, is_some, refl, sym, ap, subst, ◌∙◌}
+use Rattle.std.proofs.Common.{◌≡◌, ◌≢◌, ℕ, ◌^◌, Bool, true, false, ◌||◌, List, [], ◌∷◌, length, map, ℤ, pos, Option, Some, None, Result, Ok, is_some, refl, sym, ap, subst, ◌∙◌}
 use Rattle.std.proofs.lemmas.Slice.Eq.{bytes_eq-Decides}
 use Rattle.std.specs.Prelude.{bytes_eq, codes, if◌then◌else◌}
 use Rattle.std.specs.List.{AllPairs, list_any}
@@ -8,14 +8,14 @@ use Rattle.sg_model.specs.declared.fault.Place.{Place}
 use Rattle.sg_model.specs.declared.fault.GameFault.{GameFault}
 use Rattle.sg_model.specs.Games.{Attacker, Named}
 use Rattle.sg_format.specs.Steps.{◌>>=◌, needed, refused, missing_key, wrong_kind, unknown_key}
-use Rattle.sg_format.specs.Documents.{has_only, needed_at, number_at, table_at}
+use Rattle.sg_format.specs.Documents.{has_only, needed_at}
 use Rattle.sg_format.specs.Lists.{is_named_key, members_at, named_at, names_at, new_name}
-use Rattle.sg_format.specs.Types.{is_matrix_type_key, is_security_type_key, matrix_type_at, pay_table_at, payoff_of, prior_at, security_type_at}
+use Rattle.sg_format.specs.Types.{is_matrix_type_key, is_security_type_key, matrix_type_at, pay_table_at, prior_at, security_type_at}
 use Rattle.sg_format.specs.Changes.{DiffersAt}
-use Rattle.sg_format.specs.Parts.{Changes, ChangesKey, Group, NamedPart, NamesPart, PaysPart, TypePart, matrix_type_rule, members, members_key, name, named_path, named_rule, names, names_of, of_follower, of_leader, of_targets, own_name, pays_path, resources, schedules, security_type_rule, table_with, type_actions, type_name, type_path, type_pays, type_prior, whole_named, whole_type}
+use Rattle.sg_format.specs.Parts.{Changes, Group, NamedPart, NamesPart, TypePart, matrix_type_rule, members, members_key, name, named_path, named_rule, names, names_of, of_follower, of_leader, of_targets, own_name, resources, schedules, security_type_rule, table_with, type_actions, type_name, type_path, type_pays, type_prior, whole_named, whole_type}
 use Rattle.sg_format.proofs.Inversion.{after, after_test, needed_is}
 use Rattle.sg_format.proofs.Keys.{apart, changed_only}
-use Rattle.sg_format.proofs.Broken.{lacking, need_fails, new_name_fails, no_reason, number_fails, reason_of, test_fails, tested}
+use Rattle.sg_format.proofs.Broken.{need_fails, new_name_fails, no_reason, number_fails, reason_of, test_fails, tested}
 use Rattle.sg_format.proofs.Parted.{members_part_fails, names_part_fails, names_place, only, pays_part_fails}
 
 -- tests that agree on each key agree on a table
@@ -64,7 +64,7 @@ unfolding security_type_at
 security_table_fails place scaled targets others value r e =
     need_fails (as_table value) wrong_kind _ place _ r e (λ t here e1.
     let keys = same_keys (λ k. list_any (bytes_eq k) (codes "name" ∷ codes "prior" ∷ codes "payoffs" ∷ [])) is_security_type_key
-        (λ k. three_keys (bytes_eq k (codes "name")) (bytes_eq k (codes "prior")) (bytes_eq k (codes "payoffs"))) t in
+    (λ k. three_keys (bytes_eq k (codes "name")) (bytes_eq k (codes "prior")) (bytes_eq k (codes "payoffs"))) t in
     test_fails (has_only is_security_type_key t) unknown_key _ place _ r (rw keys at e1) (λ fine e2.
     lack_fails (get_member (codes "name") t) _ place _ r e2 (λ own e3.
     lack_fails (get_member (codes "prior") t) _ place _ r e3 (λ weight e4.
@@ -76,7 +76,7 @@ unfolding matrix_type_at
 matrix_table_fails place rows others value r e =
     need_fails (as_table value) wrong_kind _ place _ r e (λ t here e1.
     let keys = same_keys (λ k. list_any (bytes_eq k) (codes "name" ∷ codes "prior" ∷ codes "actions" ∷ codes "leader" ∷ codes "follower" ∷ [])) is_matrix_type_key
-        (λ k. five_keys (bytes_eq k (codes "name")) (bytes_eq k (codes "prior")) (bytes_eq k (codes "actions")) (bytes_eq k (codes "leader")) (bytes_eq k (codes "follower"))) t in
+    (λ k. five_keys (bytes_eq k (codes "name")) (bytes_eq k (codes "prior")) (bytes_eq k (codes "actions")) (bytes_eq k (codes "leader")) (bytes_eq k (codes "follower"))) t in
     test_fails (has_only is_matrix_type_key t) unknown_key _ place _ r (rw keys at e1) (λ fine e2.
     lack_fails (get_member (codes "name") t) _ place _ r e2 (λ own e3.
     lack_fails (get_member (codes "prior") t) _ place _ r e3 (λ weight e4.

@@ -1,9 +1,11 @@
 -- What each reason means, over all parts of a document: the document of a game in which one value breaks its rule is refused for it, at the part's place.
-use Rattle.std.specs.Prelude.{◌≡◌, ◌≢◌, ◌⊎◌, ℕ, ◌^◌, ◌<◌, ◌≤◌, Bool, true, false, List, [], length, ℤ, pos, ◌<ℤ◌, Option, Some, None, is_some, Ok, All, Contains, bytes_eq}
+use Rattle.std.specs.Prelude.{◌≡◌, ◌≢◌, ◌⊎◌, ℕ, ◌+◌, ◌-◌, ◌*◌, ◌^◌, ◌<◌, ◌≤◌, Bool, true, false, List, [], length, ℤ, pos, ◌<ℤ◌, Option, Some, None, is_some, Ok, All, Contains, bytes_eq, codes}
 use Rattle.std.specs.List.{list_any}
 use Rattle.toml.specs.Data.{Data, Items, Members, array, as_array, as_integer, as_str, as_table, get_member, integer, item, no_items, string, table}
 use Rattle.sg_model.specs.Names.{is_name}
-use Rattle.sg_model.specs.Games.{Game, Payoff, attacker, payoff}
+use Rattle.sg_model.specs.Games.{Game, Payoff, attacker, payoff, resource_count}
+use Rattle.sg_model.specs.declared.kind.Kind.TheVariants.{Security}
+use Rattle.sg_format.specs.Changes.{DiffersAt, list_fault}
 use Rattle.sg_model.specs.Limits.{IsPayoff, IsWithin, is_scaled}
 use Rattle.sg_model.specs.Origami.{IsScaled}
 use Rattle.sg_model.specs.declared.fault.Place.TheVariants as place_of
@@ -109,3 +111,15 @@ pub record BadScaleIsRefused : Type 0 where
   -- other payoffs at target t
   pub payoffs : (first second : Members) (g : Game) (t : ℕ) (p : Payoff) → game_of_table first ≡ Ok g → is_scaled g ≡ true
       → DiffersIn g (typed 1 (type_pays of_targets (pay_row t))) (row_of p) first second → IsPayoff p → ¬ (IsScaled g.scale p) → game_of_table second ≡ refused bad_scale (place_of.Attacker 1)
+
+-- types that are right one by one, but too many for the linear program of a game in security form without a scale
+abbrev pub LongProgramIsRefused : Type 0
+LongProgramIsRefused = (first second : Members) (g : Game) (items : Items) → game_of_table first ≡ Ok g → g.kind ≡ Security → is_scaled g ≡ false
+    → DiffersAt (codes "type") (Some (array items)) first second → list_fault g.kind g.patrols g (codes "type") (array items) ≡ None
+    → 1536 < 1 + resource_count g + 2 * length g.goals + item_count items * (length g.goals - 1) → game_of_table second ≡ refused too_large place_of.Document
+
+-- a version that is no integer, or a form that is no text
+pub record OtherHeadIsRefused : Type 0 where
+  pub version : (document : Members) (value : Data) → get_member (codes "version") document ≡ Some value → as_integer value ≡ None → game_of_table document ≡ refused wrong_kind place_of.Document
+  pub form : (first second : Members) (g : Game) (value : Data) → game_of_table first ≡ Ok g → DiffersAt (codes "form") (Some value) first second → as_str value ≡ None
+      → game_of_table second ≡ refused wrong_kind place_of.Document

@@ -1,5 +1,5 @@
 -- The parts of a game's document, each with the rule that its value keeps and the place at which a fault of it is told: the table of the format.
-use Rattle.std.specs.Prelude.{◌≡◌, ℕ, zero, suc, ◌-◌, ◌^◌, Bool, false, if◌then◌else◌, List, [], ◌∷◌, ◌++◌, map, length, take, ℤ, pos, ◌-ℤ◌, Option, Some, None, codes}
+use Rattle.std.specs.Prelude.{◌≡◌, ℕ, zero, suc, ◌-◌, ◌^◌, Bool, false, if◌then◌else◌, List, [], ◌∷◌, map, length, take, ℤ, pos, ◌-ℤ◌, Option, Some, None, codes}
 use Rattle.toml.specs.Data.{Data, Items, Members, no_items, item, get_item, get_member, array, table}
 use Rattle.sg_model.specs.declared.fault.Place.{Place}
 use Rattle.sg_model.specs.declared.fault.Place.TheVariants as place_of

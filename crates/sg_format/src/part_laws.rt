@@ -3,7 +3,7 @@
 //! The parts, their rules and their places stand in `specs/Parts`: the table of the format. Each law starts from the document
 //! of a game and changes the value of one part.
 
-ghost use Rattle.sg_format.specs.PartLaws.{EmptyPartIsRefused, LongPartIsRefused, MissingFieldIsRefused, OutOfRangeIsRefused, RepeatedNameIsRefused, UnknownFieldIsRefused, UnknownNameIsRefused, WrongKindIsRefused};
+ghost use Rattle.sg_format.specs.PartLaws.{BadScaleIsRefused, EmptyPartIsRefused, LongPartIsRefused, LongProgramIsRefused, MissingFieldIsRefused, OtherHeadIsRefused, OutOfRangeIsRefused, RepeatedNameIsRefused, UnknownFieldIsRefused, UnknownNameIsRefused, WrongKindIsRefused};
 
 /// A schedule, a resource or a type without one of its keys is refused for that, at its own place.
 pub fn missing_field_is_refused()
@@ -44,4 +44,20 @@ pub fn out_of_range_is_refused()
 /// A list with more entries than it may have is refused for that, at the place of the list.
 pub fn long_part_is_refused()
     ensures { LongPartIsRefused }
+{}
+
+/// A game in security form without a scale whose linear program has too many rows is refused for that.
+pub fn long_program_is_refused()
+    ensures { LongProgramIsRefused }
+{}
+
+/// A scale that the payoffs at some target don't fit is refused for that, and so are payoffs at a target that don't fit the
+/// scale.
+pub fn bad_scale_is_refused()
+    ensures { BadScaleIsRefused }
+{}
+
+/// A version that is no integer and a form that is no text are refused for that.
+pub fn other_head_is_refused()
+    ensures { OtherHeadIsRefused }
 {}
