@@ -87,7 +87,7 @@ unscaled_fails g k l one within off =
       | inr some ↦ rw some refl
     ]
 
-number_right : (place : Place) (low high z : ℤ) → IsWithin low high z → number_at place low high (integer z) ≡ Ok z
+pub number_right : (place : Place) (low high z : ℤ) → IsWithin low high z → number_at place low high (integer z) ≡ Ok z
 unfolding number_at
 number_right place low high z is =
     let a : int_le low z ≡ true = sym (omega (arith, ints, is.at_least)) in

@@ -112,11 +112,23 @@ pub record BadScaleIsRefused : Type 0 where
   pub payoffs : (first second : Members) (g : Game) (t : ℕ) (p : Payoff) → game_of_table first ≡ Ok g → is_scaled g ≡ true
       → DiffersIn g (typed 1 (type_pays of_targets (pay_row t))) (row_of p) first second → IsPayoff p → ¬ (IsScaled g.scale p) → game_of_table second ≡ refused bad_scale (place_of.Attacker 1)
 
--- types that are right one by one, but too many for the linear program of a game in security form without a scale
-abbrev pub LongProgramIsRefused : Type 0
-LongProgramIsRefused = (first second : Members) (g : Game) (items : Items) → game_of_table first ≡ Ok g → g.kind ≡ Security → is_scaled g ≡ false
-    → DiffersAt (codes "type") (Some (array items)) first second → list_fault g.kind g.patrols g (codes "type") (array items) ≡ None
-    → 1536 < 1 + resource_count g + 2 * length g.goals + item_count items * (length g.goals - 1) → game_of_table second ≡ refused too_large place_of.Document
+-- the rows of the largest linear program of a game in security form, of so many resources, targets and types
+abbrev pub rows_for : ℕ → ℕ → ℕ → ℕ
+rows_for resources targets types = 1 + resources + 2 * targets + types * (targets - 1)
+
+-- values that are right one by one, but make the linear program of a game in security form without a scale too large
+pub record LongProgramIsRefused : Type 0 where
+  -- other types
+  pub types : (first second : Members) (g : Game) (items : Items) → game_of_table first ≡ Ok g → g.kind ≡ Security → is_scaled g ≡ false
+      → DiffersAt (codes "type") (Some (array items)) first second → list_fault g.kind g.patrols g (codes "type") (array items) ≡ None
+      → 1536 < rows_for (resource_count g) (length g.goals) (item_count items) → game_of_table second ≡ refused too_large place_of.Document
+  -- more patrols
+  pub patrols : (first second : Members) (g : Game) (n : ℕ) → game_of_table first ≡ Ok g → g.patrols ≢ None → is_scaled g ≡ false
+      → DiffersAt (codes "patrols") (Some (integer (pos n))) first second → n ≤ 32 → 1536 < rows_for n (length g.goals) (length g.types) → game_of_table second ≡ refused too_large place_of.Document
+  -- other resources
+  pub resources : (first second : Members) (g : Game) (items : Items) → game_of_table first ≡ Ok g → g.kind ≡ Security → g.patrols ≡ None
+      → DiffersAt (codes "resource") (Some (array items)) first second → list_fault g.kind g.patrols g (codes "resource") (array items) ≡ None
+      → 1536 < rows_for (item_count items) (length g.goals) (length g.types) → game_of_table second ≡ refused too_large place_of.Document
 
 -- a version that is no integer, or a form that is no text
 pub record OtherHeadIsRefused : Type 0 where
