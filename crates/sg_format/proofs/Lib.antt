@@ -18,3 +18,4 @@ pub mod PartFaults
 pub mod PartReasons
 pub mod Scales
 pub mod Programs
+pub mod WorkedFaults

@@ -10,3 +10,4 @@ pub mod Changes
 pub mod FaultLaws
 pub mod Parts
 pub mod PartLaws
+pub mod FaultExamples

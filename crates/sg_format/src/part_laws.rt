@@ -3,6 +3,7 @@
 //! The parts, their rules and their places stand in `specs/Parts`: the table of the format. Each law starts from the document
 //! of a game and changes the value of one part.
 
+ghost use Rattle.sg_format.specs.FaultExamples.{WorkedFaults};
 ghost use Rattle.sg_format.specs.PartLaws.{BadScaleIsRefused, EmptyPartIsRefused, LongPartIsRefused, LongProgramIsRefused, MissingFieldIsRefused, OtherHeadIsRefused, OutOfRangeIsRefused, RepeatedNameIsRefused, UnknownFieldIsRefused, UnknownNameIsRefused, WrongKindIsRefused};
 
 /// A schedule, a resource or a type without one of its keys is refused for that, at its own place.
@@ -60,4 +61,10 @@ pub fn bad_scale_is_refused()
 /// A version that is no integer and a form that is no text are refused for that.
 pub fn other_head_is_refused()
     ensures { OtherHeadIsRefused }
+{}
+
+/// Thirteen small documents are refused as was worked out by hand, each for its one fault, and the one without a fault gives
+/// its game.
+pub fn worked_faults()
+    ensures { WorkedFaults }
 {}
