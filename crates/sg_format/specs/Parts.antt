@@ -49,11 +49,14 @@ pub data NamedPart : Type 0 where
 
 -- a part of the document of a game
 pub data Part : Type 0 where
+  -- of the list of targets or rows
   goals : NamesPart → Part
   scale : Part
   patrols : Part
+  -- the list of schedules or resources, and a part of its n-th
   groups : Group → Part
   grouped : Group → ℕ → NamedPart → Part
+  -- the list of types, and a part of its n-th
   types : Part
   typed : ℕ → TypePart → Part
 
@@ -62,20 +65,24 @@ pub data Step : Type 0 where
   at_key : List ℕ → Step
   at_number : ℕ → Step
 
+-- where a part of a list of names stands in it
 abbrev pub names_path : NamesPart → List Step
 names_path names = []
 names_path (name n) = at_number n ∷ []
 
+-- where a part of a table of payoffs stands in it
 abbrev pub pays_path : PaysPart → List Step
 pays_path pays = []
 pays_path (pay_row r) = at_number r ∷ []
 pays_path (pay r i) = at_number r ∷ at_number i ∷ []
 
+-- the key of a table of payoffs
 abbrev pub pays_key : Pays → List ℕ
 pays_key of_targets = codes "payoffs"
 pays_key of_leader = codes "leader"
 pays_key of_follower = codes "follower"
 
+-- where a part of a type stands in it
 abbrev pub type_path : TypePart → List Step
 type_path whole_type = []
 type_path type_name = at_key (codes "name") ∷ []
@@ -83,14 +90,17 @@ type_path type_prior = at_key (codes "prior") ∷ []
 type_path (type_actions part) = at_key (codes "actions") ∷ names_path part
 type_path (type_pays which part) = at_key (pays_key which) ∷ pays_path part
 
+-- the top key of the schedules or the resources
 abbrev pub group_key : Group → List ℕ
 group_key schedules = codes "schedule"
 group_key resources = codes "resource"
 
+-- the key of the members of a schedule or a resource
 abbrev pub members_key : Group → List ℕ
 members_key schedules = codes "targets"
 members_key resources = codes "schedules"
 
+-- where a part of a schedule or a resource stands in it
 abbrev pub named_path : Group → NamedPart → List Step
 named_path group whole_named = []
 named_path group own_name = at_key (codes "name") ∷ []
@@ -111,6 +121,7 @@ abbrev pub goal_place : Kind → ℕ → Place
 goal_place Security n = place_of.Target n
 goal_place Matrix n = place_of.Row n
 
+-- the place of the n-th schedule or resource
 abbrev pub group_place : Group → ℕ → Place
 group_place schedules n = place_of.Schedule n
 group_place resources n = place_of.Resource n
@@ -231,6 +242,7 @@ listed_rule g (grouped resources n part) = named_rule (codes "schedules") 500 (n
 listed_rule g types = some_entries 8
 listed_rule g (typed n part) = security_type_rule false (length g.goals) (types_before n g) part
 
+-- the rule of a part, by the form of the game
 abbrev pub rule_by : Kind → Option ℕ → Game → Part → Rule
 rule_by Matrix count g part = matrix_rule g part
 rule_by Security (Some n) g part = patrols_rule (is_scaled g) g part
