@@ -38,7 +38,23 @@ module _ {A : Type 0} (read : List A → Data → Result A GameFault) where
     is : read earlier entry ≡ Ok value
     whole : xs ≡ earlier ++ value ∷ later
     long : length earlier ≡ length sofar + k
-    fails : (other : Data) (fault : GameFault) → read earlier other ≡ Err fault → each read sofar (set_item k other items) ≡ Err fault
+    fails : (others : Items) (other : Data) (fault : GameFault) → ((i : ℕ) → i < k → get_item i others ≡ get_item i items) → get_item k others ≡ Some other → read earlier other ≡ Err fault → each read sofar others ≡ Err fault
+
+  first_fails : (sofar : List A) (others : Items) (other : Data) (fault : GameFault) → get_item 0 others ≡ Some other → read sofar other ≡ Err fault → each read sofar others ≡ Err fault
+  unfolding each
+  first_fails sofar no_items other fault here f = absurd (cc)
+  first_fails sofar (item value rest) other fault here f = let same : value ≡ other = cc in rw (same, f) refl
+
+  next_fails : (sofar : List A) (value : Data) (rest others : Items) (k : ℕ) (other : Data) (x : A) (fault : GameFault) → ((i : ℕ) → i < suc k → get_item i others ≡ get_item i (item value rest))
+      → get_item (suc k) others ≡ Some other → read sofar value ≡ Ok x
+      → ((tail : Items) → ((i : ℕ) → i < k → get_item i tail ≡ get_item i rest) → get_item k tail ≡ Some other → each read (sofar ++ x ∷ []) tail ≡ Err fault) → each read sofar others ≡ Err fault
+  unfolding each
+  next_fails sofar value rest no_items k other x fault same_before here first more = absurd (cc)
+  next_fails sofar value rest (item head tail) k other x fault same_before here first more =
+      let q = same_before 0 (omega arith) in
+      let same : head ≡ value = cc in
+      let later = more tail (λ i low. same_before (suc i) (omega (arith, low))) here in
+      rw (same, first) later
 
   seam : (sofar : List A) (items : Items) (xs : List A) (k : ℕ) (entry : Data) → each read sofar items ≡ Ok xs → get_item k items ≡ Some entry → IsSeam sofar items xs k entry
   unfolding each
@@ -54,7 +70,7 @@ module _ {A : Type 0} (read : List A → Data → Result A GameFault) where
         is = ap (read sofar) (sym same) ∙ first;
         whole = g.1 ∙ join_push sofar x g.0;
         long = omega arith;
-        fails = λ other fault f. rw f refl;
+        fails = λ others other fault same_before here f. first_fails sofar others other fault here f;
       })
   seam sofar (item value rest) xs (suc k) entry e there =
       after (read sofar value) e (λ x first more.
@@ -66,7 +82,7 @@ module _ {A : Type 0} (read : List A → Data → Result A GameFault) where
         is = s.is;
         whole = s.whole;
         long = omega (arith, s.long, length_push sofar x);
-        fails = λ other fault f. rw first (s.fails other fault f);
+        fails = λ others other fault same_before here f. next_fails sofar value rest others k other x fault same_before here first (λ tail later_same later_here. s.fails tail other fault later_same later_here f);
       })
 
   -- the entry at an index, read by those before it
@@ -75,7 +91,8 @@ module _ {A : Type 0} (read : List A → Data → Result A GameFault) where
     pub within : k < length xs
     pub is : read (take k xs) entry ≡ Ok value
     pub there : (d : A) → get_or xs k d ≡ value
-    pub fails : (other : Data) (fault : GameFault) → read (take k xs) other ≡ Err fault → each read [] (set_item k other items) ≡ Err fault
+    pub fails : (others : Items) (other : Data) (fault : GameFault) → ((i : ℕ) → i < k → get_item i others ≡ get_item i items) → get_item k others ≡ Some other → read (take k xs) other ≡ Err fault
+        → each read [] others ≡ Err fault
 
   pub entry_at : (items : Items) (xs : List A) (k : ℕ) (entry : Data) → each read [] items ≡ Ok xs → get_item k items ≡ Some entry → IsEntry items xs k entry
   entry_at items xs k entry e there =
@@ -87,14 +104,13 @@ module _ {A : Type 0} (read : List A → Data → Result A GameFault) where
         within = (let n = ap length s.whole in omega (arith, n, long, length-append s.earlier (s.value ∷ s.later)));
         is = rw front s.is;
         there = λ d. ap (λ n. get_or xs n d) (sym long) ∙ (ap (λ ys. get_or ys (length s.earlier) d) s.whole ∙ get_or-append_seam s.earlier s.value s.later d);
-        fails = λ other fault f. s.fails other fault (rw front at f);
+        fails = λ others other fault same_before here f. s.fails others other fault same_before here (rw front at f);
       }
 
-pub some_set : (place : Place) (limit : ℕ) (items found : Items) (k : ℕ) (value : Data) → some_at place limit (array items) ≡ Ok found
-    → some_at place limit (array (set_item k value items)) ≡ Ok (set_item k value items)
+pub some_other : (place : Place) (limit : ℕ) (items others found : Items) → item_count others ≡ item_count items → some_at place limit (array items) ≡ Ok found
+    → some_at place limit (array others) ≡ Ok others
 unfolding some_at
-some_set place limit items found k value e =
-    let same = count_set k value items in
+some_other place limit items others found same e =
     after_test (nat_lt 0 (item_count items)) _ _ e (λ some e1.
     after_test (nat_le (item_count items) limit) _ _ e1 (λ few last. rw (same, some, few) refl))
 
@@ -104,12 +120,10 @@ some_is place limit items found e =
     after_test (nat_lt 0 (item_count items)) _ _ e (λ some e1.
     after_test (nat_le (item_count items) limit) _ _ e1 (λ few last. cc))
 
-pub few_set : (place : Place) (limit : ℕ) (items found : Items) (k : ℕ) (value : Data) → few_at place limit (array items) ≡ Ok found
-    → few_at place limit (array (set_item k value items)) ≡ Ok (set_item k value items)
+pub few_other : (place : Place) (limit : ℕ) (items others found : Items) → item_count others ≡ item_count items → few_at place limit (array items) ≡ Ok found
+    → few_at place limit (array others) ≡ Ok others
 unfolding few_at
-few_set place limit items found k value e =
-    let same = count_set k value items in
-    after_test (nat_le (item_count items) limit) _ _ e (λ few last. rw (same, few) refl)
+few_other place limit items others found same e = after_test (nat_le (item_count items) limit) _ _ e (λ few last. rw (same, few) refl)
 
 pub few_is : (place : Place) (limit : ℕ) (items found : Items) → few_at place limit (array items) ≡ Ok found → found ≡ items
 unfolding few_at

@@ -39,7 +39,7 @@ pub version_same : (first second : Members) → get_member (codes "version") sec
 unfolding version_of
 version_same first second e = rw e refl
 
-form_same : (first second : Members) → get_member (codes "form") second ≡ get_member (codes "form") first → form_of second ≡ form_of first
+pub form_same : (first second : Members) → get_member (codes "form") second ≡ get_member (codes "form") first → form_of second ≡ form_of first
 unfolding form_of
 form_same first second e = rw e refl
 

@@ -24,12 +24,12 @@ fails_by (Err other) fault e = cc
 at_name : (key name : List ℕ) (value : Option Data) (first second : Members) → bytes_eq key name ≡ true → DiffersAt key value first second → DiffersAt name value first second
 at_name key name value first second e d = subst (λ (k : List ℕ). DiffersAt k value first second) (same key name e) d
 
-rows_fail : (t : Members) (value x : Data) (fault : GameFault) → has_only is_matrix_key t ≡ true → get_member (codes "rows") t ≡ Some value → get_member (codes "type") t ≡ Some x
+pub rows_fail : (t : Members) (value x : Data) (fault : GameFault) → has_only is_matrix_key t ≡ true → get_member (codes "rows") t ≡ Some value → get_member (codes "type") t ≡ Some x
     → names_at place_of.Document place_of.Row 4096 value ≡ Err fault → matrix_game t ≡ Err fault
 unfolding matrix_game
 rows_fail t value x fault a b e f = rw (a, b, e, f) refl
 
-matrix_types_fail : (t : Members) (l value : Data) (rows : List (List ℕ)) (fault : GameFault) → has_only is_matrix_key t ≡ true → get_member (codes "rows") t ≡ Some l
+pub matrix_types_fail : (t : Members) (l value : Data) (rows : List (List ℕ)) (fault : GameFault) → has_only is_matrix_key t ≡ true → get_member (codes "rows") t ≡ Some l
     → get_member (codes "type") t ≡ Some value → names_at place_of.Document place_of.Row 4096 l ≡ Ok rows → matrix_types_at (length rows) value ≡ Err fault → matrix_game t ≡ Err fault
 unfolding matrix_game
 matrix_types_fail t l value rows fault a b e r f = rw (a, b, e, r, f) refl
@@ -53,13 +53,13 @@ matrix_faulty table other g key value fault head m d e =
       ]
     ]
 
-targets_fail : (given : Data) (t : Members) (value x : Data) (o : Option Data) (fault : GameFault) → has_only is_patrols_key t ≡ true → get_member (codes "targets") t ≡ Some value
+pub targets_fail : (given : Data) (t : Members) (value x : Data) (o : Option Data) (fault : GameFault) → has_only is_patrols_key t ≡ true → get_member (codes "targets") t ≡ Some value
     → get_member (codes "type") t ≡ Some x → get_member (codes "scale") t ≡ o
     → names_at place_of.Document place_of.Target (if is_some o then 10000 else 200) value ≡ Err fault → patrols_game given t ≡ Err fault
 unfolding patrols_game
 targets_fail given t value x o fault a b e s f = rw (a, b, e, s, f) refl
 
-patrols_types_fail : (given : Data) (t : Members) (l value : Data) (o : Option Data) (targets : List (List ℕ)) (scale : Option ℤ) (count : ℤ) (fault : GameFault)
+pub patrols_types_fail : (given : Data) (t : Members) (l value : Data) (o : Option Data) (targets : List (List ℕ)) (scale : Option ℤ) (count : ℤ) (fault : GameFault)
     → has_only is_patrols_key t ≡ true → get_member (codes "targets") t ≡ Some l → get_member (codes "type") t ≡ Some value → get_member (codes "scale") t ≡ o
     → names_at place_of.Document place_of.Target (if is_some o then 10000 else 200) l ≡ Ok targets → scale_at o ≡ Ok scale
     → number_at place_of.Document (pos 0) (pos (if is_some o then 200 else 32)) given ≡ Ok count
@@ -112,22 +112,22 @@ listed_steps t listed given manned attackers h =
     let u = h.types in
     rw (a, b, s, e, f, u) refl
 
-listed_targets_fail : (listed given manned attackers : Data) (fault : GameFault) → names_at place_of.Document place_of.Target 200 listed ≡ Err fault
+pub listed_targets_fail : (listed given manned attackers : Data) (fault : GameFault) → names_at place_of.Document place_of.Target 200 listed ≡ Err fault
     → listed_game listed given manned attackers ≡ Err fault
 unfolding listed_game
 listed_targets_fail listed given manned attackers fault f = rw f refl
 
-schedules_fail : (listed given manned attackers : Data) (targets : List (List ℕ)) (fault : GameFault) → names_at place_of.Document place_of.Target 200 listed ≡ Ok targets
+pub schedules_fail : (listed given manned attackers : Data) (targets : List (List ℕ)) (fault : GameFault) → names_at place_of.Document place_of.Target 200 listed ≡ Ok targets
     → schedules_at targets given ≡ Err fault → listed_game listed given manned attackers ≡ Err fault
 unfolding listed_game
 schedules_fail listed given manned attackers targets fault n f = rw (n, f) refl
 
-resources_fail : (listed given manned attackers : Data) (targets : List (List ℕ)) (schedules : List Named) (fault : GameFault) → names_at place_of.Document place_of.Target 200 listed ≡ Ok targets
+pub resources_fail : (listed given manned attackers : Data) (targets : List (List ℕ)) (schedules : List Named) (fault : GameFault) → names_at place_of.Document place_of.Target 200 listed ≡ Ok targets
     → schedules_at targets given ≡ Ok schedules → resources_at schedules manned ≡ Err fault → listed_game listed given manned attackers ≡ Err fault
 unfolding listed_game
 resources_fail listed given manned attackers targets schedules fault n s f = rw (n, s, f) refl
 
-listed_types_fail : (listed given manned attackers : Data) (targets : List (List ℕ)) (schedules resources : List Named) (fault : GameFault)
+pub listed_types_fail : (listed given manned attackers : Data) (targets : List (List ℕ)) (schedules resources : List Named) (fault : GameFault)
     → names_at place_of.Document place_of.Target 200 listed ≡ Ok targets → schedules_at targets given ≡ Ok schedules → resources_at schedules manned ≡ Ok resources
     → security_types_at false (length targets) attackers ≡ Err fault → listed_game listed given manned attackers ≡ Err fault
 unfolding listed_game

@@ -15,12 +15,12 @@ use Rattle.sg_format.specs.Steps.{◌>>=◌, needed, passed, refused, wrong_kind
 use Rattle.sg_format.specs.Documents.{items_at}
 use Rattle.sg_format.specs.Lists.{each, item_count, known_at, member_at, members_at, names_at, new_name, number_of, some_at}
 use Rattle.sg_format.specs.Types.{pay_at, pay_table_at, pays_at}
-use Rattle.sg_format.specs.Parts.{Changes, NamesPart, PaysPart, before, entries_exactly, known_besides, members_rule, name, names, names_path, names_rule, pay, pay_row, pays, pays_path, pays_rule, set_item}
+use Rattle.sg_format.specs.Parts.{Agrees, NamesPart, PaysPart, before, entries_exactly, known_besides, members_rule, name, names, names_path, names_rule, pay, pay_row, pays, pays_path, pays_rule, set_item}
 use Rattle.sg_format.proofs.Inversion.{after, after_test}
 use Rattle.sg_format.proofs.Keys.{same}
 use Rattle.sg_format.proofs.Listed.{members_at-members}
 use Rattle.sg_format.proofs.Broken.{asked, need_fails, new_name_fails, no_reason, number_fails, reason_of, some_fails, test_fails, tested}
-use Rattle.sg_format.proofs.Entries.{count_set, entry_at, some_is, some_set}
+use Rattle.sg_format.proofs.Entries.{count_set, entry_at, some_is, some_other}
 
 -- the value that some give is that one
 pub only : {A : Type 0} (x y : A) → Some x ≡ Some y → x ≡ y
@@ -40,7 +40,7 @@ pub front_is : {A : Type 0} (xs : List A) (n k : ℕ) → n ≡ suc k → before
 front_is xs n k e = let p : n - 1 ≡ k = omega (arith, e) in rw p refl
 
 pub names_part_fails : (whole : Place) (place : ℕ → Place) (limit : ℕ) (first second : Data) (xs : List (List ℕ)) (part : NamesPart) (value : Data) (r : ℕ)
-    → names_at whole place limit first ≡ Ok xs → Changes (names_path part) value (Some first) second → reason_of (names_rule limit xs part) value ≡ Some r
+    → names_at whole place limit first ≡ Ok xs → Agrees (names_path part) value (Some first) second → reason_of (names_rule limit xs part) value ≡ Some r
     → names_at whole place limit second ≡ refused r (names_place whole place part)
 unfolding names_at
 names_part_fails whole place limit first second xs names value r h c e =
@@ -48,15 +48,15 @@ names_part_fails whole place limit first second xs names value r h c e =
     rw (c, f) refl
 names_part_fails whole place limit first second xs (name n) value r h c e =
     let read : List (List ℕ) → Data → Result (List ℕ) GameFault = λ others entry. new_name (place (length others + 1)) others entry in
-    let was : first ≡ array c.items = only first (array c.items) c.was in
-    let start : (some_at whole limit (array c.items) >>= (λ items. each read [] items)) ≡ Ok xs = rw was at h in
-    after (some_at whole limit (array c.items)) start (λ found e1 rest.
-    let whole_is : each read [] c.items ≡ Ok xs = rw (some_is whole limit c.items found e1) at rest in
-    let entry = entry_at read c.items xs c.index c.entry whole_is c.there in
-    let broken = new_name_fails (place (length (take c.index xs) + 1)) (take c.index xs) c.value r (rw (front_is xs n c.index c.number, sym c.change) at e) in
-    let f = entry.fails c.value (record { reason = r; place = place (length (take c.index xs) + 1) }) broken in
+    let was : first ≡ array c.old = only first (array c.old) c.was in
+    let start : (some_at whole limit (array c.old) >>= (λ items. each read [] items)) ≡ Ok xs = rw was at h in
+    after (some_at whole limit (array c.old)) start (λ found e1 rest.
+    let whole_is : each read [] c.old ≡ Ok xs = rw (some_is whole limit c.old found e1) at rest in
+    let entry = entry_at read c.old xs c.index c.entry whole_is c.there in
+    let broken = new_name_fails (place (length (take c.index xs) + 1)) (take c.index xs) c.value r (rw (front_is xs n c.index c.number, sym c.agree) at e) in
+    let f = entry.fails c.new c.value (record { reason = r; place = place (length (take c.index xs) + 1) }) c.earlier c.here broken in
     let is = c.is in
-    let set = some_set whole limit c.items found c.index c.value e1 in
+    let set = some_other whole limit c.old c.new found c.size e1 in
     let there : length (take c.index xs) + 1 ≡ n = place_is xs n c.index entry.within c.number in
     let last : names_at whole place limit second ≡ refused r (place (length (take c.index xs) + 1)) = rw (is, set) f in
     rw there at last)
@@ -142,23 +142,23 @@ member_fails place known numbers value r apart all e = by_text (as_str value) e
     by_text (Some text) e = by_number text (number_of text known) refl (rw (sym (position_any (bytes_eq text) 1 known)) at e)
 
 pub members_part_fails : (place : Place) (known : List (List ℕ)) (limit : ℕ) (first second : Data) (xs : List ℕ) (part : NamesPart) (value : Data) (r : ℕ) → AllPairs (λ x y. x ≢ y) known
-    → members_at place known limit first ≡ Ok xs → Changes (names_path part) value (Some first) second → reason_of (members_rule limit known xs part) value ≡ Some r
+    → members_at place known limit first ≡ Ok xs → Agrees (names_path part) value (Some first) second → reason_of (members_rule limit known xs part) value ≡ Some r
     → members_at place known limit second ≡ refused r place
 unfolding members_at
 members_part_fails place known limit first second xs names value r apart h c e =
     let f = some_fails place limit value r e in
     rw (c, f) refl
 members_part_fails place known limit first second xs (name n) value r apart h c e =
-    let was : first ≡ array c.items = only first (array c.items) c.was in
-    let start : (some_at place limit (array c.items) >>= (λ items. each (member_at place known) [] items)) ≡ Ok xs = rw was at h in
-    after (some_at place limit (array c.items)) start (λ found e1 rest.
-    let whole_is : each (member_at place known) [] c.items ≡ Ok xs = rw (some_is place limit c.items found e1) at rest in
-    let entry = entry_at (member_at place known) c.items xs c.index c.entry whole_is c.there in
+    let was : first ≡ array c.old = only first (array c.old) c.was in
+    let start : (some_at place limit (array c.old) >>= (λ items. each (member_at place known) [] items)) ≡ Ok xs = rw was at h in
+    after (some_at place limit (array c.old)) start (λ found e1 rest.
+    let whole_is : each (member_at place known) [] c.old ≡ Ok xs = rw (some_is place limit c.old found e1) at rest in
+    let entry = entry_at (member_at place known) c.old xs c.index c.entry whole_is c.there in
     let all = (members_at-members place known limit first xs h).known in
-    let broken = member_fails place known (take c.index xs) c.value r apart (All-take (IsCount 1 (length known)) c.index xs all) (rw (front_is xs n c.index c.number, sym c.change) at e) in
-    let f = entry.fails c.value (record { reason = r; place = place }) broken in
+    let broken = member_fails place known (take c.index xs) c.value r apart (All-take (IsCount 1 (length known)) c.index xs all) (rw (front_is xs n c.index c.number, sym c.agree) at e) in
+    let f = entry.fails c.new c.value (record { reason = r; place = place }) c.earlier c.here broken in
     let is = c.is in
-    let set = some_set place limit c.items found c.index c.value e1 in
+    let set = some_other place limit c.old c.new found c.size e1 in
     rw (is, set) f)
 
 -- an array of a wrong length
@@ -173,45 +173,45 @@ unfolding pays_at
 pays_size_fails place count value r e = size_fails place count value (λ items. each (λ others. pay_at place) [] items) r e
 
 pay_fails : (place : Place) (count : ℕ) (first second : Data) (xs : List ℤ) (i : ℕ) (value : Data) (r : ℕ) → pays_at place count first ≡ Ok xs
-    → Changes (pays_path (pay_row i)) value (Some first) second → reason_of (pays_rule count count (pay 1 i)) value ≡ Some r → pays_at place count second ≡ refused r place
+    → Agrees (pays_path (pay_row i)) value (Some first) second → reason_of (pays_rule count count (pay 1 i)) value ≡ Some r → pays_at place count second ≡ refused r place
 unfolding pays_at
 pay_fails place count first second xs i value r h c e =
     let read : List ℤ → Data → Result ℤ GameFault = λ others. pay_at place in
-    let was : first ≡ array c.items = only first (array c.items) c.was in
-    let start : (passed (item_count c.items == count) out_of_range place >>= (λ u. each read [] c.items)) ≡ Ok xs = rw was at h in
-    after_test (item_count c.items == count) out_of_range place start (λ long rest.
-    let entry = entry_at read c.items xs c.index c.entry rest c.there in
-    let broken = number_fails place (pos 0 -ℤ pos (2 ^ 30)) (pos (2 ^ 30)) c.value r (rw (sym c.change) at e) in
-    let f = entry.fails c.value (record { reason = r; place = place }) broken in
+    let was : first ≡ array c.old = only first (array c.old) c.was in
+    let start : (passed (item_count c.old == count) out_of_range place >>= (λ u. each read [] c.old)) ≡ Ok xs = rw was at h in
+    after_test (item_count c.old == count) out_of_range place start (λ long rest.
+    let entry = entry_at read c.old xs c.index c.entry rest c.there in
+    let broken = number_fails place (pos 0 -ℤ pos (2 ^ 30)) (pos (2 ^ 30)) c.value r (rw (sym c.agree) at e) in
+    let f = entry.fails c.new c.value (record { reason = r; place = place }) c.earlier c.here broken in
     let is = c.is in
-    let still = count_set c.index c.value c.items in
+    let still = c.size in
     rw (is, still, long) f)
 
 -- a table of payoffs with another row, which has a fault of its own
-row_fails : (place : Place) (rows columns : ℕ) (first second : Data) (xs : List (List ℤ)) (k : ℕ) (items : Items) (entry value : Data) (fault : GameFault)
-    → pay_table_at place rows columns first ≡ Ok xs → Some first ≡ Some (array items) → get_item k items ≡ Some entry → second ≡ array (set_item k value items)
+row_fails : (place : Place) (rows columns : ℕ) (first second : Data) (xs : List (List ℤ)) (k : ℕ) (items others : Items) (entry value : Data) (fault : GameFault)
+    → pay_table_at place rows columns first ≡ Ok xs → Some first ≡ Some (array items) → get_item k items ≡ Some entry → second ≡ array others → get_item k others ≡ Some value
+    → ((i : ℕ) → i < k → get_item i others ≡ get_item i items) → item_count others ≡ item_count items
     → ((row : List ℤ) → pays_at place columns entry ≡ Ok row → pays_at place columns value ≡ Err fault) → pay_table_at place rows columns second ≡ Err fault
 unfolding pay_table_at
-row_fails place rows columns first second xs k items entry value fault h was there is broken =
+row_fails place rows columns first second xs k items others entry value fault h was there is here earlier still broken =
     let read : List (List ℤ) → Data → Result (List ℤ) GameFault = λ others. pays_at place columns in
     let old : first ≡ array items = only first (array items) was in
     let start : (passed (item_count items == rows) out_of_range place >>= (λ u. each read [] items)) ≡ Ok xs = rw old at h in
     after_test (item_count items == rows) out_of_range place start (λ long rest.
     let row = entry_at read items xs k entry rest there in
-    let f = row.fails value fault (broken row.value row.is) in
-    let still = count_set k value items in
+    let f = row.fails others value fault earlier here (broken row.value row.is) in
     rw (is, still, long) f)
 
 pub pays_part_fails : (place : Place) (rows columns : ℕ) (first second : Data) (xs : List (List ℤ)) (part : PaysPart) (value : Data) (r : ℕ)
-    → pay_table_at place rows columns first ≡ Ok xs → Changes (pays_path part) value (Some first) second → reason_of (pays_rule rows columns part) value ≡ Some r
+    → pay_table_at place rows columns first ≡ Ok xs → Agrees (pays_path part) value (Some first) second → reason_of (pays_rule rows columns part) value ≡ Some r
     → pay_table_at place rows columns second ≡ refused r place
 unfolding pay_table_at
 pays_part_fails place rows columns first second xs pays value r h c e =
     let f = size_fails place rows value (λ items. each (λ others. pays_at place columns) [] items) r e in
     rw c f
 pays_part_fails place rows columns first second xs (pay_row n) value r h c e =
-    let broken = pays_size_fails place columns c.value r (rw (sym c.change) at e) in
-    row_fails place rows columns first second xs c.index c.items c.entry c.value (record { reason = r; place = place }) h c.was c.there c.is (λ row is. broken)
+    let broken = pays_size_fails place columns c.value r (rw (sym c.agree) at e) in
+    row_fails place rows columns first second xs c.index c.old c.new c.entry c.value (record { reason = r; place = place }) h c.was c.there c.is c.here c.earlier c.size (λ row is. broken)
 pays_part_fails place rows columns first second xs (pay n i) value r h c e =
-    row_fails place rows columns first second xs c.index c.items c.entry c.value (record { reason = r; place = place }) h c.was c.there c.is
-    (λ row is. pay_fails place columns c.entry c.value row i value r is c.change e)
+    row_fails place rows columns first second xs c.index c.old c.new c.entry c.value (record { reason = r; place = place }) h c.was c.there c.is c.here c.earlier c.size
+    (λ row is. pay_fails place columns c.entry c.value row i value r is c.agree e)

@@ -1,5 +1,6 @@
 -- A schedule, a resource or a type in which one part breaks its rule is refused for it.
-use Rattle.std.proofs.Common.{◌≡◌, ◌≢◌, ℕ, ◌^◌, Bool, true, false, ◌||◌, List, [], ◌∷◌, length, map, ℤ, pos, Option, Some, None, Result, Ok, is_some, refl, sym, ap, subst, ◌∙◌}
+use Rattle.std.proofs.Common.{◌≡◌, ◌≢◌, ℕ, ◌^◌, Bool, true, false, ◌||◌, List, [], ◌∷◌, length, map, ℤ, pos, Option, Some, None, Result, Ok, is_some, refl, sym, ap, subst, ◌∙◌, inl, inr}
+use Rattle.std.proofs.lemmas.Bool.{cases_Bool}
 use Rattle.std.proofs.lemmas.Slice.Eq.{bytes_eq-Decides}
 use Rattle.std.specs.Prelude.{bytes_eq, codes, if◌then◌else◌}
 use Rattle.std.specs.List.{AllPairs, list_any}
@@ -12,9 +13,9 @@ use Rattle.sg_format.specs.Documents.{has_only, needed_at}
 use Rattle.sg_format.specs.Lists.{is_named_key, members_at, named_at, names_at, new_name}
 use Rattle.sg_format.specs.Types.{is_matrix_type_key, is_security_type_key, matrix_type_at, pay_table_at, prior_at, security_type_at}
 use Rattle.sg_format.specs.Changes.{DiffersAt}
-use Rattle.sg_format.specs.Parts.{Changes, Group, NamedPart, NamesPart, TypePart, matrix_type_rule, members, members_key, name, named_path, named_rule, names, names_of, of_follower, of_leader, of_targets, own_name, resources, schedules, security_type_rule, table_with, type_actions, type_name, type_path, type_pays, type_prior, whole_named, whole_type}
+use Rattle.sg_format.specs.Parts.{Agrees, is_read_before, Group, NamedPart, NamesPart, TypePart, matrix_type_rule, members, members_key, name, named_path, named_rule, names, names_of, of_follower, of_leader, of_targets, own_name, resources, schedules, security_type_rule, table_with, type_actions, type_name, type_path, type_pays, type_prior, whole_named, whole_type}
 use Rattle.sg_format.proofs.Inversion.{after, after_test, needed_is}
-use Rattle.sg_format.proofs.Keys.{apart, changed_only}
+use Rattle.sg_format.proofs.Keys.{apart, known_found, only_from, same}
 use Rattle.sg_format.proofs.Broken.{need_fails, new_name_fails, no_reason, number_fails, reason_of, test_fails, tested}
 use Rattle.sg_format.proofs.Parted.{members_part_fails, names_part_fails, names_place, only, pays_part_fails}
 
@@ -84,6 +85,27 @@ matrix_table_fails place rows others value r e =
     lack_fails (get_member (codes "leader") t) _ place _ r e5 (λ leader e6.
     lack_fails (get_member (codes "follower") t) _ place _ r e6 (λ follower e7. no_reason r e7)))))))
 
+-- a value that is there
+there_by : (o : Option Data) → is_some o ≡ true → (x : Data) × (o ≡ Some x)
+there_by None e = absurd (cc)
+there_by (Some x) e = (x, refl)
+
+-- some value stands at another key than the one at which two tables part
+pub later_there : (other_name key : List ℕ) (old new : Members) (x : Data) → ((other : List ℕ) → other ≢ key → is_some (get_member other new) ≡ is_some (get_member other old)) → bytes_eq other_name key ≡ false
+    → get_member other_name old ≡ Some x → (y : Data) × (get_member other_name new ≡ Some y)
+later_there other_name key old new x keys e there = there_by (get_member other_name new) (keys other_name (apart other_name key e) ∙ ap is_some there)
+
+-- where the other keys stay, all keys stay known
+pub agreed_only : (p : List ℕ → Bool) (key : List ℕ) (old new : Members) → ((other : List ℕ) → other ≢ key → is_some (get_member other new) ≡ is_some (get_member other old)) → p key ≡ true
+    → has_only p old ≡ true → has_only p new ≡ true
+agreed_only p key old new keys known all =
+    only_from p new (λ k w e. elim (cases_Bool (bytes_eq k key)) [
+      | inl holds ↦ subst (λ (x : List ℕ). p x ≡ true) (sym (same k key holds)) known
+      | inr other ↦ (
+          let was = there_by (get_member k old) (sym (keys k (apart k key other)) ∙ ap is_some e) in
+          known_found p k old was.0 all was.1)
+    ])
+
 -- the value at another key than the changed one
 pub stays : (key changed : List ℕ) (value : Option Data) (x : Data) (first second : Members) → bytes_eq key changed ≡ false → DiffersAt changed value first second
     → get_member key first ≡ Some x → get_member key second ≡ Some x
@@ -150,12 +172,12 @@ other_key : (group : Group) → bytes_eq (members_key group) (codes "name") ≡ 
 other_key schedules = refl
 other_key resources = refl
 
-name_key : (group : Group) → bytes_eq (codes "name") (members_key group) ≡ false
-name_key schedules = refl
-name_key resources = refl
+name_first : (group : Group) → is_read_before (codes "name") (members_key group) ≡ true
+name_first schedules = refl
+name_first resources = refl
 
 pub named_part_fails : (place : Place) (group : Group) (known : List (List ℕ)) (limit : ℕ) (others : List Named) (first second : Data) (x : Named) (part : NamedPart) (value : Data) (r : ℕ)
-    → AllPairs (λ x y. x ≢ y) known → named_at place (members_key group) known limit others first ≡ Ok x → Changes (named_path group part) value (Some first) second
+    → AllPairs (λ x y. x ≢ y) known → named_at place (members_key group) known limit others first ≡ Ok x → Agrees (named_path group part) value (Some first) second
     → reason_of (named_rule (members_key group) limit known x.members (names_of others) part) value ≡ Some r → named_at place (members_key group) known limit others second ≡ refused r place
 named_part_fails place group known limit others first second x whole_named value r distinct h c e =
     rw c (named_table_fails place (members_key group) known limit others value r e)
@@ -164,18 +186,18 @@ named_part_fails place group known limit others first second x own_name value r 
     let was : first ≡ table c.old = only first (table c.old) c.was in
     let t = named_table place key known limit others c.old x (rw was at h) in
     let is = c.is in
-    let keys = changed_only (is_named_key key) (codes "name") (Some c.value) c.old c.new c.differs (own_key key) t.keys in
-    let listed = stays key (codes "name") (Some c.value) t.listed c.old c.new (other_key group) c.differs t.listed_there in
-    rw is (named_name_fails place key known limit others c.new c.value t.listed r keys c.differs.here listed (new_name_fails place (names_of others) c.value r (rw (sym c.change) at e)))
+    let keys = agreed_only (is_named_key key) (codes "name") c.old c.new c.keys (own_key key) t.keys in
+    let listed = later_there key (codes "name") c.old c.new t.listed c.keys (other_key group) t.listed_there in
+    rw is (named_name_fails place key known limit others c.new c.value listed.0 r keys c.here listed.1 (new_name_fails place (names_of others) c.value r (rw (sym c.agree) at e)))
 named_part_fails place group known limit others first second x (members part) value r distinct h c e =
     let key = members_key group in
     let was : first ≡ table c.old = only first (table c.old) c.was in
     let t = named_table place key known limit others c.old x (rw was at h) in
     let is = c.is in
-    let keys = changed_only (is_named_key key) key (Some c.value) c.old c.new c.differs (members_own key) t.keys in
-    let own = stays (codes "name") key (Some c.value) t.own c.old c.new (name_key group) c.differs t.own_there in
-    let broken = members_part_fails place known limit t.listed c.value x.members part value r distinct t.members_read (rw t.listed_there at c.change) e in
-    rw is (named_members_fail place key known limit others c.new t.own c.value x.name r keys own c.differs.here t.name_read broken)
+    let keys = agreed_only (is_named_key key) key c.old c.new c.keys (members_own key) t.keys in
+    let own = c.earlier (codes "name") (name_first group) ∙ t.own_there in
+    let broken = members_part_fails place known limit t.listed c.value x.members part value r distinct t.members_read (rw t.listed_there at c.agree) e in
+    rw is (named_members_fail place key known limit others c.new t.own c.value x.name r keys own c.here t.name_read broken)
 
 -- what stands at the keys of a type in security form
 pub record IsSecurityTable (place : Place) (scaled : Bool) (targets : ℕ) (others : List Attacker) (t : Members) : Type 0 where
@@ -240,7 +262,7 @@ unfolding security_type_at
 security_pays_fail place scaled targets others t own weight listed text prior r a b c d n p f = rw (a, b, c, d, n, p, f) refl
 
 pub security_part_fails : (place : Place) (scaled : Bool) (targets : ℕ) (others : List Attacker) (first second : Data) (x : Attacker) (part : TypePart) (value : Data) (r : ℕ)
-    → security_type_at place scaled targets others first ≡ Ok x → Changes (type_path part) value (Some first) second
+    → security_type_at place scaled targets others first ≡ Ok x → Agrees (type_path part) value (Some first) second
     → reason_of (security_type_rule scaled targets (map (λ (x : Attacker). x.name) others) part) value ≡ Some r → security_type_at place scaled targets others second ≡ refused r place
 security_part_fails place scaled targets others first second x whole_type value r h c e =
     rw c (security_table_fails place scaled targets others value r e)
@@ -249,21 +271,21 @@ security_part_fails place scaled targets others first second x type_name value r
     let was : first ≡ table c.old = only first (table c.old) c.was in
     let t = security_table place scaled targets others c.old x (rw was at h) in
     let is = c.is in
-    let keys = changed_only is_security_type_key key (Some c.value) c.old c.new c.differs refl t.keys in
-    let weight = stays (codes "prior") key (Some c.value) t.weight c.old c.new refl c.differs t.weight_there in
-    let listed = stays (codes "payoffs") key (Some c.value) t.listed c.old c.new refl c.differs t.listed_there in
-    rw is (security_name_fails place scaled targets others c.new c.value t.weight t.listed r keys c.differs.here weight listed
-    (new_name_fails place (map (λ (x : Attacker). x.name) others) c.value r (rw (sym c.change) at e)))
+    let keys = agreed_only is_security_type_key key c.old c.new c.keys refl t.keys in
+    let weight = later_there (codes "prior") key c.old c.new t.weight c.keys refl t.weight_there in
+    let listed = later_there (codes "payoffs") key c.old c.new t.listed c.keys refl t.listed_there in
+    rw is (security_name_fails place scaled targets others c.new c.value weight.0 listed.0 r keys c.here weight.1 listed.1
+    (new_name_fails place (map (λ (x : Attacker). x.name) others) c.value r (rw (sym c.agree) at e)))
 security_part_fails place scaled targets others first second x type_prior value r h c e =
     let key = codes "prior" in
     let was : first ≡ table c.old = only first (table c.old) c.was in
     let t = security_table place scaled targets others c.old x (rw was at h) in
     let is = c.is in
-    let keys = changed_only is_security_type_key key (Some c.value) c.old c.new c.differs refl t.keys in
-    let own = stays (codes "name") key (Some c.value) t.own c.old c.new refl c.differs t.own_there in
-    let listed = stays (codes "payoffs") key (Some c.value) t.listed c.old c.new refl c.differs t.listed_there in
-    rw is (security_prior_fails place scaled targets others c.new t.own c.value t.listed t.text r keys own c.differs.here listed t.name_read
-    (number_fails place (pos 1) (if scaled then pos 1 else pos (2 ^ 20)) c.value r (rw (sym c.change) at e)))
+    let keys = agreed_only is_security_type_key key c.old c.new c.keys refl t.keys in
+    let own = c.earlier (codes "name") refl ∙ t.own_there in
+    let listed = later_there (codes "payoffs") key c.old c.new t.listed c.keys refl t.listed_there in
+    rw is (security_prior_fails place scaled targets others c.new t.own c.value listed.0 t.text r keys own c.here listed.1 t.name_read
+    (number_fails place (pos 1) (if scaled then pos 1 else pos (2 ^ 20)) c.value r (rw (sym c.agree) at e)))
 security_part_fails place scaled targets others first second x (type_actions part) value r h c e = no_reason r e
 security_part_fails place scaled targets others first second x (type_pays of_leader part) value r h c e = no_reason r e
 security_part_fails place scaled targets others first second x (type_pays of_follower part) value r h c e = no_reason r e
@@ -272,11 +294,11 @@ security_part_fails place scaled targets others first second x (type_pays of_tar
     let was : first ≡ table c.old = only first (table c.old) c.was in
     let t = security_table place scaled targets others c.old x (rw was at h) in
     let is = c.is in
-    let keys = changed_only is_security_type_key key (Some c.value) c.old c.new c.differs refl t.keys in
-    let own = stays (codes "name") key (Some c.value) t.own c.old c.new refl c.differs t.own_there in
-    let weight = stays (codes "prior") key (Some c.value) t.weight c.old c.new refl c.differs t.weight_there in
-    let broken = pays_part_fails place targets 4 t.listed c.value t.rows part value r t.rows_read (rw t.listed_there at c.change) e in
-    rw is (security_pays_fail place scaled targets others c.new t.own t.weight c.value t.text t.prior r keys own weight c.differs.here t.name_read t.prior_read broken)
+    let keys = agreed_only is_security_type_key key c.old c.new c.keys refl t.keys in
+    let own = c.earlier (codes "name") refl ∙ t.own_there in
+    let weight = c.earlier (codes "prior") refl ∙ t.weight_there in
+    let broken = pays_part_fails place targets 4 t.listed c.value t.rows part value r t.rows_read (rw t.listed_there at c.agree) e in
+    rw is (security_pays_fail place scaled targets others c.new t.own t.weight c.value t.text t.prior r keys own weight c.here t.name_read t.prior_read broken)
 
 -- what stands at the keys of a type in matrix form
 record IsMatrixTable (place : Place) (rows : ℕ) (others : List Attacker) (t : Members) (x : Attacker) : Type 0 where
@@ -398,7 +420,7 @@ one_place place names = refl
 one_place place (name n) = refl
 
 pub matrix_part_fails : (place : Place) (rows : ℕ) (others : List Attacker) (first second : Data) (x : Attacker) (part : TypePart) (value : Data) (r : ℕ)
-    → matrix_type_at place rows others first ≡ Ok x → Changes (type_path part) value (Some first) second
+    → matrix_type_at place rows others first ≡ Ok x → Agrees (type_path part) value (Some first) second
     → reason_of (matrix_type_rule rows x.actions (map (λ (x : Attacker). x.name) others) part) value ≡ Some r → matrix_type_at place rows others second ≡ refused r place
 matrix_part_fails place rows others first second x whole_type value r h c e =
     rw c (matrix_table_fails place rows others value r e)
@@ -407,77 +429,87 @@ matrix_part_fails place rows others first second x type_name value r h c e =
     let was : first ≡ table c.old = only first (table c.old) c.was in
     let t = matrix_table place rows others c.old x (rw was at h) in
     let is = c.is in
-    let has : HasMatrixKeys c.new c.value t.weight t.named t.one t.two = record {
-      keys = changed_only is_matrix_type_key key (Some c.value) c.old c.new c.differs refl t.keys;
-      own_there = c.differs.here;
-      weight_there = stays (codes "prior") key (Some c.value) t.weight c.old c.new refl c.differs t.weight_there;
-      named_there = stays (codes "actions") key (Some c.value) t.named c.old c.new refl c.differs t.named_there;
-      one_there = stays (codes "leader") key (Some c.value) t.one c.old c.new refl c.differs t.one_there;
-      two_there = stays (codes "follower") key (Some c.value) t.two c.old c.new refl c.differs t.two_there;
+    let weight = later_there (codes "prior") key c.old c.new t.weight c.keys refl t.weight_there in
+    let named = later_there (codes "actions") key c.old c.new t.named c.keys refl t.named_there in
+    let one = later_there (codes "leader") key c.old c.new t.one c.keys refl t.one_there in
+    let two = later_there (codes "follower") key c.old c.new t.two c.keys refl t.two_there in
+    let has : HasMatrixKeys c.new c.value weight.0 named.0 one.0 two.0 = record {
+      keys = agreed_only is_matrix_type_key key c.old c.new c.keys refl t.keys;
+      own_there = c.here;
+      weight_there = weight.1;
+      named_there = named.1;
+      one_there = one.1;
+      two_there = two.1;
     } in
-    rw is (matrix_steps place rows others c.new c.value t.weight t.named t.one t.two has
-    ∙ matrix_name_fails place rows others c.value t.weight t.named t.one t.two r (new_name_fails place (map (λ (x : Attacker). x.name) others) c.value r (rw (sym c.change) at e)))
+    rw is (matrix_steps place rows others c.new c.value weight.0 named.0 one.0 two.0 has
+    ∙ matrix_name_fails place rows others c.value weight.0 named.0 one.0 two.0 r (new_name_fails place (map (λ (x : Attacker). x.name) others) c.value r (rw (sym c.agree) at e)))
 matrix_part_fails place rows others first second x type_prior value r h c e =
     let key = codes "prior" in
     let was : first ≡ table c.old = only first (table c.old) c.was in
     let t = matrix_table place rows others c.old x (rw was at h) in
     let is = c.is in
-    let has : HasMatrixKeys c.new t.own c.value t.named t.one t.two = record {
-      keys = changed_only is_matrix_type_key key (Some c.value) c.old c.new c.differs refl t.keys;
-      own_there = stays (codes "name") key (Some c.value) t.own c.old c.new refl c.differs t.own_there;
-      weight_there = c.differs.here;
-      named_there = stays (codes "actions") key (Some c.value) t.named c.old c.new refl c.differs t.named_there;
-      one_there = stays (codes "leader") key (Some c.value) t.one c.old c.new refl c.differs t.one_there;
-      two_there = stays (codes "follower") key (Some c.value) t.two c.old c.new refl c.differs t.two_there;
+    let named = later_there (codes "actions") key c.old c.new t.named c.keys refl t.named_there in
+    let one = later_there (codes "leader") key c.old c.new t.one c.keys refl t.one_there in
+    let two = later_there (codes "follower") key c.old c.new t.two c.keys refl t.two_there in
+    let has : HasMatrixKeys c.new t.own c.value named.0 one.0 two.0 = record {
+      keys = agreed_only is_matrix_type_key key c.old c.new c.keys refl t.keys;
+      own_there = c.earlier (codes "name") refl ∙ t.own_there;
+      weight_there = c.here;
+      named_there = named.1;
+      one_there = one.1;
+      two_there = two.1;
     } in
-    rw is (matrix_steps place rows others c.new t.own c.value t.named t.one t.two has
-    ∙ matrix_prior_fails place rows others t.own c.value t.named t.one t.two x.name r t.name_read (number_fails place (pos 1) (pos (2 ^ 20)) c.value r (rw (sym c.change) at e)))
+    rw is (matrix_steps place rows others c.new t.own c.value named.0 one.0 two.0 has
+    ∙ matrix_prior_fails place rows others t.own c.value named.0 one.0 two.0 x.name r t.name_read (number_fails place (pos 1) (pos (2 ^ 20)) c.value r (rw (sym c.agree) at e)))
 matrix_part_fails place rows others first second x (type_actions part) value r h c e =
     let key = codes "actions" in
     let was : first ≡ table c.old = only first (table c.old) c.was in
     let t = matrix_table place rows others c.old x (rw was at h) in
     let is = c.is in
-    let has : HasMatrixKeys c.new t.own t.weight c.value t.one t.two = record {
-      keys = changed_only is_matrix_type_key key (Some c.value) c.old c.new c.differs refl t.keys;
-      own_there = stays (codes "name") key (Some c.value) t.own c.old c.new refl c.differs t.own_there;
-      weight_there = stays (codes "prior") key (Some c.value) t.weight c.old c.new refl c.differs t.weight_there;
-      named_there = c.differs.here;
-      one_there = stays (codes "leader") key (Some c.value) t.one c.old c.new refl c.differs t.one_there;
-      two_there = stays (codes "follower") key (Some c.value) t.two c.old c.new refl c.differs t.two_there;
+    let one = later_there (codes "leader") key c.old c.new t.one c.keys refl t.one_there in
+    let two = later_there (codes "follower") key c.old c.new t.two c.keys refl t.two_there in
+    let has : HasMatrixKeys c.new t.own t.weight c.value one.0 two.0 = record {
+      keys = agreed_only is_matrix_type_key key c.old c.new c.keys refl t.keys;
+      own_there = c.earlier (codes "name") refl ∙ t.own_there;
+      weight_there = c.earlier (codes "prior") refl ∙ t.weight_there;
+      named_there = c.here;
+      one_there = one.1;
+      two_there = two.1;
     } in
-    let broken = names_part_fails place (λ n. place) 64 t.named c.value x.actions part value r t.actions_read (rw t.named_there at c.change) e in
-    rw is (matrix_steps place rows others c.new t.own t.weight c.value t.one t.two has
-    ∙ matrix_actions_fail place rows others t.own t.weight c.value t.one t.two x.name x.prior r t.name_read t.prior_read (rw (one_place place part) at broken))
+    let broken = names_part_fails place (λ n. place) 64 t.named c.value x.actions part value r t.actions_read (rw t.named_there at c.agree) e in
+    rw is (matrix_steps place rows others c.new t.own t.weight c.value one.0 two.0 has
+    ∙ matrix_actions_fail place rows others t.own t.weight c.value one.0 two.0 x.name x.prior r t.name_read t.prior_read (rw (one_place place part) at broken))
 matrix_part_fails place rows others first second x (type_pays of_targets part) value r h c e = no_reason r e
 matrix_part_fails place rows others first second x (type_pays of_leader part) value r h c e =
     let key = codes "leader" in
     let was : first ≡ table c.old = only first (table c.old) c.was in
     let t = matrix_table place rows others c.old x (rw was at h) in
     let is = c.is in
-    let has : HasMatrixKeys c.new t.own t.weight t.named c.value t.two = record {
-      keys = changed_only is_matrix_type_key key (Some c.value) c.old c.new c.differs refl t.keys;
-      own_there = stays (codes "name") key (Some c.value) t.own c.old c.new refl c.differs t.own_there;
-      weight_there = stays (codes "prior") key (Some c.value) t.weight c.old c.new refl c.differs t.weight_there;
-      named_there = stays (codes "actions") key (Some c.value) t.named c.old c.new refl c.differs t.named_there;
-      one_there = c.differs.here;
-      two_there = stays (codes "follower") key (Some c.value) t.two c.old c.new refl c.differs t.two_there;
+    let two = later_there (codes "follower") key c.old c.new t.two c.keys refl t.two_there in
+    let has : HasMatrixKeys c.new t.own t.weight t.named c.value two.0 = record {
+      keys = agreed_only is_matrix_type_key key c.old c.new c.keys refl t.keys;
+      own_there = c.earlier (codes "name") refl ∙ t.own_there;
+      weight_there = c.earlier (codes "prior") refl ∙ t.weight_there;
+      named_there = c.earlier (codes "actions") refl ∙ t.named_there;
+      one_there = c.here;
+      two_there = two.1;
     } in
-    let broken = pays_part_fails place rows (length x.actions) t.one c.value x.leader part value r t.leader_read (rw t.one_there at c.change) e in
-    rw is (matrix_steps place rows others c.new t.own t.weight t.named c.value t.two has
-    ∙ matrix_leader_fails place rows others t.own t.weight t.named c.value t.two x.name x.prior x.actions r t.name_read t.prior_read t.actions_read broken)
+    let broken = pays_part_fails place rows (length x.actions) t.one c.value x.leader part value r t.leader_read (rw t.one_there at c.agree) e in
+    rw is (matrix_steps place rows others c.new t.own t.weight t.named c.value two.0 has
+    ∙ matrix_leader_fails place rows others t.own t.weight t.named c.value two.0 x.name x.prior x.actions r t.name_read t.prior_read t.actions_read broken)
 matrix_part_fails place rows others first second x (type_pays of_follower part) value r h c e =
     let key = codes "follower" in
     let was : first ≡ table c.old = only first (table c.old) c.was in
     let t = matrix_table place rows others c.old x (rw was at h) in
     let is = c.is in
     let has : HasMatrixKeys c.new t.own t.weight t.named t.one c.value = record {
-      keys = changed_only is_matrix_type_key key (Some c.value) c.old c.new c.differs refl t.keys;
-      own_there = stays (codes "name") key (Some c.value) t.own c.old c.new refl c.differs t.own_there;
-      weight_there = stays (codes "prior") key (Some c.value) t.weight c.old c.new refl c.differs t.weight_there;
-      named_there = stays (codes "actions") key (Some c.value) t.named c.old c.new refl c.differs t.named_there;
-      one_there = stays (codes "leader") key (Some c.value) t.one c.old c.new refl c.differs t.one_there;
-      two_there = c.differs.here;
+      keys = agreed_only is_matrix_type_key key c.old c.new c.keys refl t.keys;
+      own_there = c.earlier (codes "name") refl ∙ t.own_there;
+      weight_there = c.earlier (codes "prior") refl ∙ t.weight_there;
+      named_there = c.earlier (codes "actions") refl ∙ t.named_there;
+      one_there = c.earlier (codes "leader") refl ∙ t.one_there;
+      two_there = c.here;
     } in
-    let broken = pays_part_fails place rows (length x.actions) t.two c.value x.follower part value r t.follower_read (rw t.two_there at c.change) e in
+    let broken = pays_part_fails place rows (length x.actions) t.two c.value x.follower part value r t.follower_read (rw t.two_there at c.agree) e in
     rw is (matrix_steps place rows others c.new t.own t.weight t.named t.one c.value has
     ∙ matrix_follower_fails place rows others t.own t.weight t.named t.one c.value x.name x.prior x.actions x.leader r t.name_read t.prior_read t.actions_read t.leader_read broken)

@@ -13,7 +13,7 @@ use Rattle.sg_format.specs.Steps.{refused, missing_key, wrong_kind, unknown_key,
 use Rattle.sg_format.specs.Documents.{has_only}
 use Rattle.sg_format.specs.Lists.{item_count}
 use Rattle.sg_format.specs.GameFiles.{game_of_table}
-use Rattle.sg_format.specs.Parts.{Part, Rule, DiffersIn, part_place, part_rule, no_rule, number_within, name_besides, known_besides, few_entries, some_entries, entries_exactly, table_with, scale, typed, type_pays, of_targets, pay_row}
+use Rattle.sg_format.specs.Parts.{AgreesUpTo, Part, Rule, DiffersIn, part_place, part_rule, no_rule, number_within, name_besides, known_besides, few_entries, some_entries, entries_exactly, table_with, scale, typed, type_pays, of_targets, pay_row}
 
 -- the document is refused for this reason, at the place of this part
 abbrev pub IsRefusedAt : Game → Part → ℕ → Members → Type 0
@@ -54,48 +54,48 @@ most_entries (table_with keys) = None
 
 -- a value of another kind
 abbrev pub WrongKindIsRefused : Type 0
-WrongKindIsRefused = (first second : Members) (g : Game) (part : Part) (value : Data) → game_of_table first ≡ Ok g → DiffersIn g part value first second
+WrongKindIsRefused = (first second : Members) (g : Game) (part : Part) (value : Data) → game_of_table first ≡ Ok g → AgreesUpTo g part value first second
     → is_of_kind (part_rule g part) value ≡ false → IsRefusedAt g part wrong_kind second
 
 -- a table with a key that isn't one of its own
 abbrev pub UnknownFieldIsRefused : Type 0
 UnknownFieldIsRefused = (first second members : Members) (g : Game) (part : Part) (keys : List (List ℕ)) (key : List ℕ) (value : Data) → game_of_table first ≡ Ok g
-    → DiffersIn g part (table members) first second → part_rule g part ≡ table_with keys → get_member key members ≡ Some value → list_any (bytes_eq key) keys ≡ false
+    → AgreesUpTo g part (table members) first second → part_rule g part ≡ table_with keys → get_member key members ≡ Some value → list_any (bytes_eq key) keys ≡ false
     → IsRefusedAt g part unknown_key second
 
 -- a table without one of its keys, and with no other key
 abbrev pub MissingFieldIsRefused : Type 0
 MissingFieldIsRefused = (first second members : Members) (g : Game) (part : Part) (keys : List (List ℕ)) (key : List ℕ) → game_of_table first ≡ Ok g
-    → DiffersIn g part (table members) first second → part_rule g part ≡ table_with keys → has_only (λ k. list_any (bytes_eq k) keys) members ≡ true
+    → AgreesUpTo g part (table members) first second → part_rule g part ≡ table_with keys → has_only (λ k. list_any (bytes_eq k) keys) members ≡ true
     → list_any (bytes_eq key) keys ≡ true → get_member key members ≡ None → IsRefusedAt g part missing_key second
 
 -- no entries in an array that needs one
 abbrev pub EmptyPartIsRefused : Type 0
-EmptyPartIsRefused = (first second : Members) (g : Game) (part : Part) (limit : ℕ) → game_of_table first ≡ Ok g → DiffersIn g part (array no_items) first second
+EmptyPartIsRefused = (first second : Members) (g : Game) (part : Part) (limit : ℕ) → game_of_table first ≡ Ok g → AgreesUpTo g part (array no_items) first second
     → part_rule g part ≡ some_entries limit → IsRefusedAt g part empty_list second
 
 -- a name that nothing has
 abbrev pub UnknownNameIsRefused : Type 0
 UnknownNameIsRefused = (first second : Members) (g : Game) (part : Part) (known others : List (List ℕ)) (text : List ℕ) → game_of_table first ≡ Ok g
-    → DiffersIn g part (string text) first second → part_rule g part ≡ known_besides known others → All (λ other. text ≢ other) known → IsRefusedAt g part unknown_name second
+    → AgreesUpTo g part (string text) first second → part_rule g part ≡ known_besides known others → All (λ other. text ≢ other) known → IsRefusedAt g part unknown_name second
 
 -- a name that stands before it in its list
 abbrev pub RepeatedNameIsRefused : Type 0
-RepeatedNameIsRefused = (first second : Members) (g : Game) (part : Part) (text : List ℕ) → game_of_table first ≡ Ok g → DiffersIn g part (string text) first second
+RepeatedNameIsRefused = (first second : Members) (g : Game) (part : Part) (text : List ℕ) → game_of_table first ≡ Ok g → AgreesUpTo g part (string text) first second
     → Contains (names_before (part_rule g part)) text → IsRefusedAt g part repeated_name second
 
 -- a number outside its range, a name in a wrong spelling, or an array of a wrong length
 pub record OutOfRangeIsRefused : Type 0 where
-  pub number : (first second : Members) (g : Game) (part : Part) (low high z : ℤ) → game_of_table first ≡ Ok g → DiffersIn g part (integer z) first second
+  pub number : (first second : Members) (g : Game) (part : Part) (low high z : ℤ) → game_of_table first ≡ Ok g → AgreesUpTo g part (integer z) first second
       → part_rule g part ≡ number_within low high → (z <ℤ low) ⊎ (high <ℤ z) → IsRefusedAt g part out_of_range second
-  pub spelling : (first second : Members) (g : Game) (part : Part) (others : List (List ℕ)) (text : List ℕ) → game_of_table first ≡ Ok g → DiffersIn g part (string text) first second
+  pub spelling : (first second : Members) (g : Game) (part : Part) (others : List (List ℕ)) (text : List ℕ) → game_of_table first ≡ Ok g → AgreesUpTo g part (string text) first second
       → part_rule g part ≡ name_besides others → is_name text ≡ false → IsRefusedAt g part out_of_range second
-  pub size : (first second : Members) (g : Game) (part : Part) (n : ℕ) (items : Items) → game_of_table first ≡ Ok g → DiffersIn g part (array items) first second
+  pub size : (first second : Members) (g : Game) (part : Part) (n : ℕ) (items : Items) → game_of_table first ≡ Ok g → AgreesUpTo g part (array items) first second
       → part_rule g part ≡ entries_exactly n → item_count items ≢ n → IsRefusedAt g part out_of_range second
 
 -- more entries than the array may have
 abbrev pub LongPartIsRefused : Type 0
-LongPartIsRefused = (first second : Members) (g : Game) (part : Part) (limit : ℕ) (items : Items) → game_of_table first ≡ Ok g → DiffersIn g part (array items) first second
+LongPartIsRefused = (first second : Members) (g : Game) (part : Part) (limit : ℕ) (items : Items) → game_of_table first ≡ Ok g → AgreesUpTo g part (array items) first second
     → most_entries (part_rule g part) ≡ Some limit → limit < item_count items → IsRefusedAt g part too_large second
 
 -- the payoffs at a target as they stand in a file

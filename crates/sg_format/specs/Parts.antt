@@ -1,5 +1,6 @@
 -- The parts of a game's document, each with the rule that its value keeps and the place at which a fault of it is told: the table of the format.
-use Rattle.std.specs.Prelude.{◌≡◌, ℕ, zero, suc, ◌-◌, ◌^◌, Bool, false, if◌then◌else◌, List, [], ◌∷◌, map, length, take, ℤ, pos, ◌-ℤ◌, Option, Some, None, codes}
+use Rattle.sg_format.specs.Lists.{item_count}
+use Rattle.std.specs.Prelude.{◌≡◌, ◌≢◌, ◌<◌, is_some, true, bytes_eq, ℕ, zero, suc, ◌-◌, ◌^◌, Bool, false, if◌then◌else◌, List, [], ◌∷◌, map, length, take, ℤ, pos, ◌-ℤ◌, Option, Some, None, codes}
 use Rattle.toml.specs.Data.{Data, Items, Members, no_items, item, get_item, get_member, array, table}
 use Rattle.sg_model.specs.declared.fault.Place.{Place}
 use Rattle.sg_model.specs.declared.fault.Place.TheVariants as place_of
@@ -289,3 +290,56 @@ Changes (at_number n ∷ path) value first second = ChangesEntry n (Changes path
 -- a document that differs from that of a game in one part alone, and has this value there
 abbrev pub DiffersIn : Game → Part → Data → Members → Members → Type 0
 DiffersIn g part value first second = Changes (part_path g.kind part) value (Some (table first)) (table second)
+
+-- the keys of all tables, each behind those that are read before it
+abbrev pub reading_order : List (List ℕ)
+reading_order =
+    codes "version" ∷ codes "form" ∷ codes "name" ∷ codes "prior" ∷ codes "targets" ∷ codes "rows" ∷ codes "scale" ∷ codes "patrols" ∷ codes "schedule" ∷ codes "resource" ∷ codes "type"
+    ∷ codes "payoffs" ∷ codes "actions" ∷ codes "leader" ∷ codes "follower" ∷ codes "schedules" ∷ []
+
+-- the first key stands before the second one among these
+abbrev pub stands_before : List ℕ → List ℕ → List (List ℕ) → Bool
+stands_before first second [] = false
+stands_before first second (key ∷ keys) = if bytes_eq second key then false else if bytes_eq first key then true else stands_before first second keys
+
+-- whether a key is read before another one
+abbrev pub is_read_before : List ℕ → List ℕ → Bool
+is_read_before first second = stands_before first second reading_order
+
+-- the second value is a table with the other keys of the first one and with its values at the keys that are read before this one; at this key the two agree in their way
+pub record AgreesAtKey (key : List ℕ) (Agree : Option Data → Data → Type 0) (first : Option Data) (second : Data) : Type 0 where
+  pub old : Members
+  pub new : Members
+  pub was : first ≡ Some (table old)
+  pub is : second ≡ table new
+  pub value : Data
+  pub here : get_member key new ≡ Some value
+  pub earlier : (other : List ℕ) → is_read_before other key ≡ true → get_member other new ≡ get_member other old
+  pub keys : (other : List ℕ) → other ≢ key → is_some (get_member other new) ≡ is_some (get_member other old)
+  pub agree : Agree (get_member key old) value
+
+-- the second value is an array with as many entries as the first one and with the same entries before the n-th; at the n-th the two agree in their way
+pub record AgreesAtEntry (n : ℕ) (Agree : Option Data → Data → Type 0) (first : Option Data) (second : Data) : Type 0 where
+  pub index : ℕ
+  pub number : n ≡ suc index
+  pub old : Items
+  pub new : Items
+  pub was : first ≡ Some (array old)
+  pub is : second ≡ array new
+  pub entry : Data
+  pub there : get_item index old ≡ Some entry
+  pub value : Data
+  pub here : get_item index new ≡ Some value
+  pub earlier : (i : ℕ) → i < index → get_item i new ≡ get_item i old
+  pub size : item_count new ≡ item_count old
+  pub agree : Agree (Some entry) value
+
+-- the second value agrees with the first one in all that is read before the end of a path, and has this value there
+abbrev pub Agrees : List Step → Data → Option Data → Data → Type 0
+Agrees [] value first second = second ≡ value
+Agrees (at_key key ∷ path) value first second = AgreesAtKey key (Agrees path value) first second
+Agrees (at_number n ∷ path) value first second = AgreesAtEntry n (Agrees path value) first second
+
+-- a document that agrees with that of a game in all that is read before one part, and has this value there, whatever comes behind it
+abbrev pub AgreesUpTo : Game → Part → Data → Members → Members → Type 0
+AgreesUpTo g part value first second = Agrees (part_path g.kind part) value (Some (table first)) (table second)
