@@ -128,3 +128,15 @@ few_other place limit items others found same e = after_test (nat_le (item_count
 pub few_is : (place : Place) (limit : ℕ) (items found : Items) → few_at place limit (array items) ≡ Ok found → found ≡ items
 unfolding few_at
 few_is place limit items found e = after_test (nat_le (item_count items) limit) _ _ e (λ few last. cc)
+
+-- the entries before a changed one, and that one
+pub before_set : (k : ℕ) (value : Data) (items : Items) (i : ℕ) → i < k → get_item i (set_item k value items) ≡ get_item i items
+before_set k value no_items i low = refl
+before_set zero value (item first rest) i low = absurd (omega (arith, low))
+before_set (suc k) value (item first rest) zero low = refl
+before_set (suc k) value (item first rest) (suc i) low = before_set k value rest i (omega (arith, low))
+
+pub at_set : (k : ℕ) (value old : Data) (items : Items) → get_item k items ≡ Some old → get_item k (set_item k value items) ≡ Some value
+at_set k value old no_items there = absurd (cc)
+at_set zero value old (item first rest) there = refl
+at_set (suc k) value old (item first rest) there = at_set k value old rest there

@@ -1,7 +1,8 @@
 -- The document of a game in which one part breaks its rule is refused for it, at the place of the part.
-use Rattle.std.proofs.Common.{◌≡◌, ◌≢◌, ℕ, suc, ◌+◌, ◌^◌, Bool, true, false, nat_le, nat_lt, List, [], ◌∷◌, length, map, take, get_or, ℤ, pos, Option, Some, None, Result, Ok, Err, is_some, refl, sym, ap, subst, ◌∙◌, arith}
+use Rattle.std.proofs.Common.{◌≡◌, ◌≢◌, ℕ, suc, ◌+◌, ◌^◌, Bool, true, false, nat_le, nat_lt, List, [], ◌∷◌, length, map, take, get_or, ℤ, pos, Option, Some, None, Result, Ok, Err, is_some, refl, sym, ap, subst, ◌∙◌, arith, inl, inr}
 use Rattle.std.specs.Prelude.{bytes_eq, codes, if◌then◌else◌}
 use Rattle.std.specs.List.{AllPairs}
+use Rattle.std.proofs.lemmas.Bool.{cases_Bool, true≢false}
 use Rattle.std.proofs.lemmas.Bool.Decides.{nat_tests}
 use Rattle.toml.specs.Data.{Data, Items, Members, array, get_member, table}
 use Rattle.sg_model.specs.declared.fault.Place.{Place}
@@ -17,18 +18,18 @@ use Rattle.sg_format.specs.Documents.{has_only, items_at, number_at}
 use Rattle.sg_format.specs.Lists.{each, few_at, item_count, named_at, resources_at, schedules_at, named_lists_at, names_at, some_at}
 use Rattle.sg_format.specs.Types.{matrix_type_at, matrix_types_at, security_type_at, security_types_at}
 use Rattle.sg_format.specs.GameFiles.{form_of, game_of_form, game_of_table, is_matrix_key, is_resources_key, resources_game, version_of, is_patrols_key, patrols_game, scale_at}
-use Rattle.sg_format.specs.Changes.{DiffersAt, fault_in}
-use Rattle.sg_format.specs.Parts.{Agrees, AgreesUpTo, is_read_before, Changes, at_key, at_number, DiffersIn, Group, NamedPart, NamesPart, Part, TypePart, before, goal_place, goals, grouped, groups, listed_rule, matrix_rule, matrix_type_rule, members_key, name, named_path, named_rule, names, names_of, part_path, part_place, part_rule, patrols, patrols_rule, resources, scale, schedules, security_type_rule, number_within, type_path, typed, types, Step, names_path}
-use Rattle.sg_format.specs.PartLaws.{IsRefusedAt}
+use Rattle.sg_format.specs.Changes.{DiffersAt}
+use Rattle.sg_format.specs.Parts.{set_item, reading_order, stands_before, Agrees, AgreesUpTo, is_read_before, Changes, at_key, at_number, Group, NamedPart, NamesPart, Part, TypePart, before, goals, grouped, groups, listed_rule, matrix_rule, matrix_type_rule, members_key, name, named_path, named_rule, names, names_of, part_path, part_place, part_rule, patrols, patrols_rule, resources, scale, schedules, security_type_rule, number_within, type_path, typed, types, Step, names_path}
+use Rattle.sg_format.specs.PartLaws.{IsRefusedAt, SingleChangeAgrees}
 use Rattle.sg_format.proofs.Inversion.{after, after_test}
-use Rattle.sg_format.proofs.Keys.{apart, changed_only}
+use Rattle.sg_format.proofs.Keys.{apart}
 use Rattle.sg_format.proofs.Listed.{named_lists_at-lists, names_at-names}
 use Rattle.sg_format.proofs.Files.{IsHeaded, IsListedFile, IsMatrixFile, IsPatrolsFile, by_file}
 use Rattle.sg_format.proofs.Faults.{form_same, version_same}
 use Rattle.sg_format.proofs.FaultyLists.{IsListedTable, listed_steps, listed_targets_fail, listed_types_fail, matrix_types_fail, patrols_types_fail, resources_fail, rows_fail, schedules_fail, targets_fail}
 use Rattle.sg_format.proofs.TopLists.{matrix_begin, named_begin, security_begin}
 use Rattle.sg_format.proofs.Broken.{few_fails, no_reason, number_fails, reason_of, some_fails}
-use Rattle.sg_format.proofs.Entries.{entry_at, few_is, few_other, some_is, some_other}
+use Rattle.sg_format.proofs.Entries.{at_set, before_set, count_set, entry_at, few_is, few_other, some_is, some_other}
 use Rattle.sg_format.proofs.Parted.{front_is, names_part_fails, names_place, only, place_is}
 use Rattle.sg_format.proofs.Tables.{agreed_only, later_there, matrix_part_fails, named_part_fails, security_part_fails}
 
@@ -418,3 +419,45 @@ faulty_part first second g part value r h d e =
     (λ head m. rw m.kind (matrix_part first second g part value r head m (rw m.kind at d) (rw m.kind at e)))
     (λ head given there p. rw p.kind (patrols_part first second g part value given r p.patrols head there p (rw p.kind at d) (rw (p.kind, p.identical) at e)))
     (λ head there l. rw l.kind (listed_part first second g part value r head there l (rw l.kind at d) (rw (l.kind, l.no_patrols) at e)))
+
+not_before : (key : List ℕ) (keys : List (List ℕ)) → stands_before key key keys ≡ false
+not_before key [] = refl
+not_before key (first ∷ keys) = elim (cases_Bool (bytes_eq key first)) [
+  | inl is ↦ rw is refl
+  | inr isnt ↦ rw isnt (not_before key keys)
+]
+
+other_key : (other key : List ℕ) → is_read_before other key ≡ true → other ≢ key
+other_key other key holds e = true≢false (sym holds ∙ (ap (λ (k : List ℕ). is_read_before k key) e ∙ not_before key reading_order))
+
+changes_agree : (path : List Step) (value : Data) (first : Option Data) (second : Data) → Changes path value first second → Agrees path value first second
+changes_agree [] value first second c = c
+changes_agree (at_key key ∷ path) value first second c = record {
+  old = c.old;
+  new = c.new;
+  was = c.was;
+  is = c.is;
+  value = c.value;
+  here = c.differs.here;
+  earlier = λ other holds. c.differs.elsewhere other (other_key other key holds);
+  keys = λ other ne. ap is_some (c.differs.elsewhere other ne);
+  agree = changes_agree path value (get_member key c.old) c.value c.change;
+}
+changes_agree (at_number n ∷ path) value first second c = record {
+  index = c.index;
+  number = c.number;
+  old = c.items;
+  new = set_item c.index c.value c.items;
+  was = c.was;
+  is = c.is;
+  entry = c.entry;
+  there = c.there;
+  value = c.value;
+  here = at_set c.index c.value c.entry c.items c.there;
+  earlier = λ i low. before_set c.index c.value c.items i low;
+  size = count_set c.index c.value c.items;
+  agree = changes_agree path value (Some c.entry) c.value c.change;
+}
+
+pub single_change : SingleChangeAgrees
+single_change first second g part value d = changes_agree (part_path g.kind part) value (Some (table first)) (table second) d

@@ -15,12 +15,12 @@ use Rattle.sg_format.specs.Steps.{◌>>=◌, needed, passed, refused, wrong_kind
 use Rattle.sg_format.specs.Documents.{items_at}
 use Rattle.sg_format.specs.Lists.{each, item_count, known_at, member_at, members_at, names_at, new_name, number_of, some_at}
 use Rattle.sg_format.specs.Types.{pay_at, pay_table_at, pays_at}
-use Rattle.sg_format.specs.Parts.{Agrees, NamesPart, PaysPart, before, entries_exactly, known_besides, members_rule, name, names, names_path, names_rule, pay, pay_row, pays, pays_path, pays_rule, set_item}
+use Rattle.sg_format.specs.Parts.{Agrees, NamesPart, PaysPart, before, entries_exactly, known_besides, members_rule, name, names, names_path, names_rule, pay, pay_row, pays, pays_path, pays_rule}
 use Rattle.sg_format.proofs.Inversion.{after, after_test}
 use Rattle.sg_format.proofs.Keys.{same}
 use Rattle.sg_format.proofs.Listed.{members_at-members}
 use Rattle.sg_format.proofs.Broken.{asked, need_fails, new_name_fails, no_reason, number_fails, reason_of, some_fails, test_fails, tested}
-use Rattle.sg_format.proofs.Entries.{count_set, entry_at, some_is, some_other}
+use Rattle.sg_format.proofs.Entries.{entry_at, some_is, some_other}
 
 -- the value that some give is that one
 pub only : {A : Type 0} (x y : A) → Some x ≡ Some y → x ≡ y

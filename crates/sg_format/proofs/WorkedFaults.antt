@@ -24,4 +24,9 @@ worked = record {
   same_member = refl;
   strange_key = refl;
   no_name = refl;
+  target_before_type = refl;
+  scale_before_type = refl;
+  name_before_prior = refl;
+  name_before_members = refl;
+  schedule_before_resource = refl;
 }

@@ -1,4 +1,4 @@
--- Small documents with one fault each, and what they are refused for, worked out by hand.
+-- Small documents with a fault or two, and what they are refused for, worked out by hand.
 use Rattle.std.specs.Prelude.{◌≡◌, ℕ, ◌+◌, ◌^◌, List, [], ◌∷◌, codes, ℤ, pos, Ok}
 use Rattle.toml.specs.Data.{Data, Items, Members, no_items, item, no_members, member, array, integer, string, table}
 use Rattle.sg_model.specs.declared.fault.Place.TheVariants.{Document, Target, Schedule, Resource, Attacker}
@@ -49,7 +49,7 @@ listed_file schedules resources =
     member (codes "form") (string (codes "security")) (member (codes "resource") (listed resources) (member (codes "schedule") (listed schedules)
     (member (codes "targets") (listed two_names) (member (codes "type") (listed (one_thief two_payoffs)) (member (codes "version") (integer (pos 1)) no_members)))))
 
--- one that is right, and what each fault is refused for
+-- one that is right, and what each fault, or the first of two, is refused for
 pub record WorkedFaults : Type 0 where
   pub right : game_of_table (patrol_file two_names (pos 4) (one_thief two_payoffs)) ≡ Ok two_targets
   pub same_target : game_of_table (patrol_file (string (codes "a") ∷ string (codes "a") ∷ []) (pos 4) (one_thief two_payoffs)) ≡ refused repeated_name (Target 2)
@@ -65,3 +65,8 @@ pub record WorkedFaults : Type 0 where
   pub same_member : game_of_table (listed_file (named_file (codes "targets") (string (codes "s")) (string (codes "b") ∷ string (codes "b") ∷ []) ∷ []) []) ≡ refused repeated_name (Schedule 1)
   pub strange_key : game_of_table (listed_file [] (named_file (codes "targets") (string (codes "r")) [] ∷ [])) ≡ refused unknown_key (Resource 1)
   pub no_name : game_of_table (listed_file [] (table (member (codes "schedules") (listed []) no_members) ∷ [])) ≡ refused missing_key (Resource 1)
+  pub target_before_type : game_of_table (patrol_file (string (codes "a") ∷ string (codes "a") ∷ []) (pos 0) []) ≡ refused repeated_name (Target 2)
+  pub scale_before_type : game_of_table (patrol_file two_names (pos 0) []) ≡ refused out_of_range Document
+  pub name_before_prior : game_of_table (patrol_file two_names (pos 4) (type_of (integer (pos 7)) (integer (pos 0)) [] ∷ [])) ≡ refused wrong_kind (Attacker 1)
+  pub name_before_members : game_of_table (listed_file (named_file (codes "targets") (string (codes "s t")) (string (codes "c") ∷ []) ∷ []) []) ≡ refused out_of_range (Schedule 1)
+  pub schedule_before_resource : game_of_table (listed_file (named_file (codes "targets") (string (codes "s")) (string (codes "c") ∷ []) ∷ []) (integer (pos 1) ∷ [])) ≡ refused unknown_name (Schedule 1)

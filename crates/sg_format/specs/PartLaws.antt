@@ -1,4 +1,4 @@
--- What each reason means, over all parts of a document: the document of a game in which one value breaks its rule is refused for it, at the part's place.
+-- What each reason means, over all parts of a document: where the first value that isn't the one of a game's document breaks its rule, the document is refused for it, at the part's place.
 use Rattle.std.specs.Prelude.{◌≡◌, ◌≢◌, ◌⊎◌, ℕ, ◌+◌, ◌-◌, ◌*◌, ◌^◌, ◌<◌, ◌≤◌, Bool, true, false, List, [], length, ℤ, pos, ◌<ℤ◌, Option, Some, None, is_some, Ok, All, Contains, bytes_eq, codes}
 use Rattle.std.specs.List.{list_any}
 use Rattle.toml.specs.Data.{Data, Items, Members, array, as_array, as_integer, as_str, as_table, get_member, integer, item, no_items, string, table}
@@ -14,6 +14,10 @@ use Rattle.sg_format.specs.Documents.{has_only}
 use Rattle.sg_format.specs.Lists.{item_count}
 use Rattle.sg_format.specs.GameFiles.{game_of_table}
 use Rattle.sg_format.specs.Parts.{AgreesUpTo, Part, Rule, DiffersIn, part_place, part_rule, no_rule, number_within, name_besides, known_besides, few_entries, some_entries, entries_exactly, table_with, scale, typed, type_pays, of_targets, pay_row}
+
+-- a document that differs from that of a game in one part alone agrees with it up to that part
+abbrev pub SingleChangeAgrees : Type 0
+SingleChangeAgrees = (first second : Members) (g : Game) (part : Part) (value : Data) → DiffersIn g part value first second → AgreesUpTo g part value first second
 
 -- the document is refused for this reason, at the place of this part
 abbrev pub IsRefusedAt : Game → Part → ℕ → Members → Type 0

@@ -1,10 +1,16 @@
 //! What each reason means over all parts of a document, each law as the contract of a function that does nothing.
 //!
 //! The parts, their rules and their places stand in `specs/Parts`: the table of the format. Each law starts from the document
-//! of a game and changes the value of one part.
+//! of a game, and speaks of one that agrees with it in all that is read before one part and has another value there, whatever
+//! comes behind it: so the first value that breaks its rule decides.
 
 ghost use Rattle.sg_format.specs.FaultExamples.{WorkedFaults};
-ghost use Rattle.sg_format.specs.PartLaws.{BadScaleIsRefused, EmptyPartIsRefused, LongPartIsRefused, LongProgramIsRefused, MissingFieldIsRefused, OtherHeadIsRefused, OutOfRangeIsRefused, RepeatedNameIsRefused, UnknownFieldIsRefused, UnknownNameIsRefused, WrongKindIsRefused};
+ghost use Rattle.sg_format.specs.PartLaws.{BadScaleIsRefused, EmptyPartIsRefused, LongPartIsRefused, LongProgramIsRefused, MissingFieldIsRefused, OtherHeadIsRefused, OutOfRangeIsRefused, RepeatedNameIsRefused, SingleChangeAgrees, UnknownFieldIsRefused, UnknownNameIsRefused, WrongKindIsRefused};
+
+/// A document that differs from that of a game in one part alone is one that agrees with it up to that part.
+pub fn single_change_agrees()
+    ensures { SingleChangeAgrees }
+{}
 
 /// A schedule, a resource or a type without one of its keys is refused for that, at its own place.
 pub fn missing_field_is_refused()
@@ -63,8 +69,8 @@ pub fn other_head_is_refused()
     ensures { OtherHeadIsRefused }
 {}
 
-/// Thirteen small documents are refused as was worked out by hand, each for its one fault, and the one without a fault gives
-/// its game.
+/// Small documents are refused as was worked out by hand, each for its one fault or the first of its two, and the one without
+/// a fault gives its game.
 pub fn worked_faults()
     ensures { WorkedFaults }
 {}
