@@ -19,3 +19,4 @@ pub mod PartReasons
 pub mod Scales
 pub mod Programs
 pub mod WorkedFaults
+pub mod Heads

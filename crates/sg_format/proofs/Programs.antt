@@ -1,25 +1,24 @@
--- A linear program that is too large is refused, and a version or a form of another kind.
+-- A linear program that is too large is refused.
 use Rattle.std.proofs.Common.{◌≡◌, ℕ, ◌<◌, ◌≤◌, ◌+◌, Bool, false, nat_le, List, [], length, map, pos, Some, None, Result, Ok, Err, is_some, refl, sym, ap, ◌∙◌, arith}
 use Rattle.std.specs.Prelude.{codes, if◌then◌else◌}
 use Rattle.std.proofs.lemmas.Bool.{true≢false}
 use Rattle.std.proofs.lemmas.Bool.Decides.{nat_tests}
-use Rattle.toml.specs.Data.{Data, Items, Members, array, as_integer, as_str, get_member, integer}
+use Rattle.toml.specs.Data.{Data, Items, Members, array, get_member, integer}
 use Rattle.sg_model.specs.declared.fault.Place.TheVariants as place_of
 use Rattle.sg_model.specs.declared.fault.GameFault.{GameFault}
-use Rattle.sg_model.specs.declared.kind.Kind.{Kind}
 use Rattle.sg_model.specs.declared.kind.Kind.TheVariants.{Security, Matrix}
 use Rattle.sg_model.specs.Games.{Attacker, Game, Named, is_kind_matrix, resource_count}
 use Rattle.sg_model.specs.Limits.{is_scaled, program_rows}
-use Rattle.sg_format.specs.Steps.{refused, too_large, wrong_kind}
+use Rattle.sg_format.specs.Steps.{refused, too_large}
 use Rattle.sg_format.specs.Lists.{each, few_at, item_count, named_at, named_lists_at, names_at, resources_at, schedules_at, some_at}
 use Rattle.sg_format.specs.Types.{security_type_at, security_types_at}
-use Rattle.sg_format.specs.GameFiles.{count_of, form_of, game_of_table, is_patrols_key, is_resources_key, limits_of, listed_game, version_of}
+use Rattle.sg_format.specs.GameFiles.{count_of, game_of_table, is_patrols_key, is_resources_key, limits_of, listed_game}
 use Rattle.sg_format.specs.Changes.{DiffersAt, fault_in}
-use Rattle.sg_format.specs.PartLaws.{LongProgramIsRefused, OtherHeadIsRefused, rows_for}
+use Rattle.sg_format.specs.PartLaws.{LongProgramIsRefused, rows_for}
 use Rattle.sg_format.proofs.Inversion.{after}
 use Rattle.sg_format.proofs.Keys.{apart, changed_only}
 use Rattle.sg_format.proofs.Files.{IsHeaded, IsListedFile, IsPatrolsFile, by_file}
-use Rattle.sg_format.proofs.Faults.{headed, version_same}
+use Rattle.sg_format.proofs.Faults.{headed}
 use Rattle.sg_format.proofs.FaultyLists.{IsListedTable, kept, listed_steps, listed_to, unscaled}
 use Rattle.sg_format.proofs.Listed.{length-each}
 use Rattle.sg_format.proofs.Entries.{few_is, some_is}
@@ -193,25 +192,4 @@ programs = record {
       (λ head m. other_form g m.kind kind)
       (λ head given there p. absurd (let e : None ≡ Some p.patrols = sym none ∙ p.identical in cc))
       (λ head there l. more_resources first second g items head there l d (rw (l.kind, l.no_patrols) at fine) many);
-}
-
-version_kind : (document : Members) (value : Data) → get_member (codes "version") document ≡ Some value → as_integer value ≡ None → game_of_table document ≡ refused wrong_kind place_of.Document
-unfolding game_of_table version_of
-version_kind document value there none = rw (there, none) refl
-
-form_kind : (first second : Members) (kind : Kind) (value : Data) → IsHeaded first kind → DiffersAt (codes "form") (Some value) first second → as_str value ≡ None
-    → game_of_table second ≡ refused wrong_kind place_of.Document
-unfolding game_of_table form_of
-form_kind first second kind value head d none =
-    let a : version_of second ≡ Ok tt = version_same first second (d.elsewhere (codes "version") (apart (codes "version") (codes "form") refl)) ∙ head.version in
-    let here = d.here in
-    rw (a, here, none) refl
-
-pub heads : OtherHeadIsRefused
-heads = record {
-  version = version_kind;
-  form = λ first second g value h d none. by_file first g (game_of_table second ≡ refused wrong_kind place_of.Document) h
-      (λ head m. form_kind first second Matrix value head d none)
-      (λ head given there p. form_kind first second Security value head d none)
-      (λ head there l. form_kind first second Security value head d none);
 }

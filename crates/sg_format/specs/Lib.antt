@@ -10,4 +10,5 @@ pub mod Changes
 pub mod FaultLaws
 pub mod Parts
 pub mod PartLaws
+pub mod HeadLaws
 pub mod FaultExamples

@@ -133,9 +133,3 @@ pub record LongProgramIsRefused : Type 0 where
   pub resources : (first second : Members) (g : Game) (items : Items) → game_of_table first ≡ Ok g → g.kind ≡ Security → g.patrols ≡ None
       → DiffersAt (codes "resource") (Some (array items)) first second → list_fault g.kind g.patrols g (codes "resource") (array items) ≡ None
       → 1536 < rows_for (item_count items) (length g.goals) (length g.types) → game_of_table second ≡ refused too_large place_of.Document
-
--- a version that is no integer, or a form that is no text
-pub record OtherHeadIsRefused : Type 0 where
-  pub version : (document : Members) (value : Data) → get_member (codes "version") document ≡ Some value → as_integer value ≡ None → game_of_table document ≡ refused wrong_kind place_of.Document
-  pub form : (first second : Members) (g : Game) (value : Data) → game_of_table first ≡ Ok g → DiffersAt (codes "form") (Some value) first second → as_str value ≡ None
-      → game_of_table second ≡ refused wrong_kind place_of.Document

@@ -14,8 +14,8 @@ pub use laws::{
     other_version_is_refused, unknown_key_is_refused, worked_texts,
 };
 pub use part_laws::{
-    bad_scale_is_refused, empty_part_is_refused, long_part_is_refused, long_program_is_refused,
-    missing_field_is_refused, other_head_is_refused, out_of_range_is_refused,
+    bad_scale_is_refused, empty_part_is_refused, head_is_refused, long_part_is_refused,
+    long_program_is_refused, missing_field_is_refused, out_of_range_is_refused,
     repeated_name_is_refused, single_change_agrees, unknown_field_is_refused,
     unknown_name_is_refused, worked_faults, wrong_kind_is_refused,
 };

@@ -5,7 +5,8 @@
 //! comes behind it: so the first value that breaks its rule decides.
 
 ghost use Rattle.sg_format.specs.FaultExamples.{WorkedFaults};
-ghost use Rattle.sg_format.specs.PartLaws.{BadScaleIsRefused, EmptyPartIsRefused, LongPartIsRefused, LongProgramIsRefused, MissingFieldIsRefused, OtherHeadIsRefused, OutOfRangeIsRefused, RepeatedNameIsRefused, SingleChangeAgrees, UnknownFieldIsRefused, UnknownNameIsRefused, WrongKindIsRefused};
+ghost use Rattle.sg_format.specs.HeadLaws.{HeadIsRefused};
+ghost use Rattle.sg_format.specs.PartLaws.{BadScaleIsRefused, EmptyPartIsRefused, LongPartIsRefused, LongProgramIsRefused, MissingFieldIsRefused, OutOfRangeIsRefused, RepeatedNameIsRefused, SingleChangeAgrees, UnknownFieldIsRefused, UnknownNameIsRefused, WrongKindIsRefused};
 
 /// A document that differs from that of a game in one part alone is one that agrees with it up to that part.
 pub fn single_change_agrees()
@@ -64,9 +65,10 @@ pub fn bad_scale_is_refused()
     ensures { BadScaleIsRefused }
 {}
 
-/// A version that is no integer and a form that is no text are refused for that.
-pub fn other_head_is_refused()
-    ensures { OtherHeadIsRefused }
+/// A document that fails a test of the version, the form or the top keys is refused for the first one that it fails, whatever
+/// else stands in it.
+pub fn head_is_refused()
+    ensures { HeadIsRefused }
 {}
 
 /// Small documents are refused as was worked out by hand, each for its one fault or the first of its two, and the one without
