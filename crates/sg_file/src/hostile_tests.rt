@@ -1,4 +1,5 @@
 use crate::tests::{FOUR_TARGETS, MATRIX, TWO_TARGETS, refused, refused_with};
+use crate::writing_tests::TWO_TYPES;
 use sg_game::Place;
 use std::alloc::{AllocError, Global};
 use std::test::*;
@@ -247,4 +248,65 @@ fn refuses_long_lists(rt: HostRuntime) -> Result<(), Fail> {
         );
     }
     Ok(())
+}
+
+/// Faults of the second type in both forms, of a resource's keys, and of nine types in matrix form.
+#[test]
+fn refuses_second_types(rt: HostRuntime) {
+    let cases = [
+        (TWO_TYPES, "\"b\"", "\"a\"", 8, Place::Attacker(2)),
+        (TWO_TYPES, "\"b\"", "\"b b\"", 9, Place::Attacker(2)),
+        (TWO_TYPES, "\"b\"", "2", 4, Place::Attacker(2)),
+        (
+            TWO_TYPES,
+            "\"b\"\nprior = 2",
+            "\"a\"\nprior = 0",
+            8,
+            Place::Attacker(2),
+        ),
+        (TWO_TYPES, "= 2\n", "= 1048577\n", 9, Place::Attacker(2)),
+        (TWO_TYPES, "prior = 2\n", "", 3, Place::Attacker(2)),
+        (
+            TWO_TYPES,
+            "prior = 2",
+            "prior = 2\nactions = []",
+            5,
+            Place::Attacker(2),
+        ),
+        (TWO_TYPES, "[[-4, -3, -2, -1]]", "[]", 9, Place::Attacker(2)),
+        (TWO_TYPES, "-3, -2, -1", "-3, -2", 9, Place::Attacker(2)),
+        (TWO_TYPES, "-3", "-1073741825", 9, Place::Attacker(2)),
+        (TWO_TYPES, "-3", "-3.0", 4, Place::Attacker(2)),
+        (
+            MATRIX,
+            "[[type]]\n",
+            "[[type]]\nname = \"thief\"\nprior = 1\nactions = [\"x\"]\nleader = [[1], [1]]\nfollower = [[1], [1]]\n\n[[type]]\n",
+            8,
+            Place::Attacker(2),
+        ),
+        (
+            MATRIX,
+            "[[type]]\nname = \"thief\"",
+            "[[type]]\nname = \"spy\"\nprior = 1\nactions = [\"x\"]\nleader = [[1], [1]]\nfollower = [[1], [1]]\n\n[[type]]\nname = \"a b\"",
+            9,
+            Place::Attacker(2),
+        ),
+        (
+            FOUR_TARGETS,
+            "name = \"r1\"",
+            "name = \"r1\"\ncolour = 1",
+            5,
+            Place::Resource(1),
+        ),
+    ];
+    let alloc = rt.alloc();
+    for (text, old, new, reason, place) in cases {
+        let as_expected = refused_with(alloc, text, old, new, reason, place).ok();
+        assert_eq!(rt; as_expected, Some(true), "{old} to {new}");
+    }
+    let nine =
+        "version = 1\nform = \"matrix\"\nrows = [\"A\"]\ntype = [1, 2, 3, 4, 5, 6, 7, 8, 9]\n";
+    assert!(rt; refused(alloc, nine.as_bytes(), 10, Place::Document));
+    let eight = "version = 1\nform = \"matrix\"\nrows = [\"A\"]\ntype = [1, 2, 3, 4, 5, 6, 7, 8]\n";
+    assert!(rt; refused(alloc, eight.as_bytes(), 4, Place::Attacker(1)));
 }

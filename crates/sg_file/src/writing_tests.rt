@@ -19,7 +19,7 @@ const ORDERED: &str =
     "version = 1\nform = \"security\"\ntargets = [\"x_-9\"]\nschedule = []\nresource = []\n\n[[type]]\nname = \"a1\"\nprior = 16\npayoffs = [[0, -1, 0, 1]]\n";
 
 /// Patrols without a scale, and two types.
-const TWO_TYPES: &str =
+pub(crate) const TWO_TYPES: &str =
     "version = 1\nform = \"security\"\npatrols = 0\ntargets = [\"x\"]\n\n[[type]]\nname = \"a\"\nprior = 1\npayoffs = [[1, 2, 3, 4]]\n\n[[type]]\nname = \"b\"\nprior = 2\npayoffs = [[-4, -3, -2, -1]]\n";
 
 /// The canonical text of the game of a file.

@@ -48,7 +48,7 @@ zero_is : (z : ℤ) → is_zero z ≡ true → z ≡ pos 0
 zero_is (pos n) e = ap (λ (k : ℕ). pos k) (eqb-true n 0 e)
 zero_is (negsuc n) e = absurd (cc)
 
-fits_scale-scaled : (scale : ℤ) (p : Payoff) → fits_scale scale p ≡ true → IsScaled scale p
+pub fits_scale-scaled : (scale : ℤ) (p : Payoff) → fits_scale scale p ≡ true → IsScaled scale p
 fits_scale-scaled scale p e =
     let q = and_parts (int_lt p.du p.dc && int_lt p.ac p.au) (is_zero (int_rem scale (gap p))) e in
     let r = and_parts (int_lt p.du p.dc) (int_lt p.ac p.au) q.0 in
@@ -213,7 +213,7 @@ game_of_form-game : (kind : Kind) (table : Members) (g : Game) → game_of_form 
 game_of_form-game Security table g h = security_game-game (get_member (codes "patrols") table) table g h
 game_of_form-game Matrix table g h = matrix_game-game table g h
 
-game_of_table-game : (table : Members) (g : Game) → game_of_table table ≡ Ok g → IsGame g
+pub game_of_table-game : (table : Members) (g : Game) → game_of_table table ≡ Ok g → IsGame g
 unfolding game_of_table
 game_of_table-game table g h =
     after (version_of table) h (λ version e1 h1.

@@ -35,11 +35,11 @@ pub other_version : OtherVersionIsRefused
 unfolding game_of_table version_of
 other_version table z e ne = let q = not_one z ne in rw (e, q) refl
 
-version_same : (first second : Members) → get_member (codes "version") second ≡ get_member (codes "version") first → version_of second ≡ version_of first
+pub version_same : (first second : Members) → get_member (codes "version") second ≡ get_member (codes "version") first → version_of second ≡ version_of first
 unfolding version_of
 version_same first second e = rw e refl
 
-form_same : (first second : Members) → get_member (codes "form") second ≡ get_member (codes "form") first → form_of second ≡ form_of first
+pub form_same : (first second : Members) → get_member (codes "form") second ≡ get_member (codes "form") first → form_of second ≡ form_of first
 unfolding form_of
 form_same first second e = rw e refl
 
@@ -56,15 +56,15 @@ headed key value first second kind d head v f =
 other_than : (p : List ℕ → Bool) (known key : List ℕ) → p known ≡ true → p key ≡ false → known ≢ key
 other_than p known key holds unknown q = true≢false (sym holds ∙ (ap p q ∙ unknown))
 
-matrix_unknown : (t : Members) → has_only is_matrix_key t ≡ false → matrix_game t ≡ refused unknown_key Document
+pub matrix_unknown : (t : Members) → has_only is_matrix_key t ≡ false → matrix_game t ≡ refused unknown_key Document
 unfolding matrix_game
 matrix_unknown t e = rw e refl
 
-patrols_unknown : (given : Data) (t : Members) → has_only is_patrols_key t ≡ false → patrols_game given t ≡ refused unknown_key Document
+pub patrols_unknown : (given : Data) (t : Members) → has_only is_patrols_key t ≡ false → patrols_game given t ≡ refused unknown_key Document
 unfolding patrols_game
 patrols_unknown given t e = rw e refl
 
-listed_unknown : (t : Members) → has_only is_resources_key t ≡ false → resources_game t ≡ refused unknown_key Document
+pub listed_unknown : (t : Members) → has_only is_resources_key t ≡ false → resources_game t ≡ refused unknown_key Document
 unfolding resources_game
 listed_unknown t e = rw e refl
 
@@ -104,29 +104,29 @@ no_form first second kind head d =
     let none = d.here in
     rw (a, none) refl
 
-no_rows : (t : Members) → has_only is_matrix_key t ≡ true → get_member (codes "rows") t ≡ None → matrix_game t ≡ refused missing_key Document
+pub no_rows : (t : Members) → has_only is_matrix_key t ≡ true → get_member (codes "rows") t ≡ None → matrix_game t ≡ refused missing_key Document
 unfolding matrix_game
 no_rows t a b = rw (a, b) refl
 
-no_matrix_types : (t : Members) (x : Data) → has_only is_matrix_key t ≡ true → get_member (codes "rows") t ≡ Some x → get_member (codes "type") t ≡ None
+pub no_matrix_types : (t : Members) (x : Data) → has_only is_matrix_key t ≡ true → get_member (codes "rows") t ≡ Some x → get_member (codes "type") t ≡ None
     → matrix_game t ≡ refused missing_key Document
 unfolding matrix_game
 no_matrix_types t x a b e = rw (a, b, e) refl
 
-no_patrols_targets : (given : Data) (t : Members) → has_only is_patrols_key t ≡ true → get_member (codes "targets") t ≡ None → patrols_game given t ≡ refused missing_key Document
+pub no_patrols_targets : (given : Data) (t : Members) → has_only is_patrols_key t ≡ true → get_member (codes "targets") t ≡ None → patrols_game given t ≡ refused missing_key Document
 unfolding patrols_game
 no_patrols_targets given t a b = rw (a, b) refl
 
-no_patrols_types : (given : Data) (t : Members) (x : Data) → has_only is_patrols_key t ≡ true → get_member (codes "targets") t ≡ Some x → get_member (codes "type") t ≡ None
+pub no_patrols_types : (given : Data) (t : Members) (x : Data) → has_only is_patrols_key t ≡ true → get_member (codes "targets") t ≡ Some x → get_member (codes "type") t ≡ None
     → patrols_game given t ≡ refused missing_key Document
 unfolding patrols_game
 no_patrols_types given t x a b e = rw (a, b, e) refl
 
-no_targets : (t : Members) → has_only is_resources_key t ≡ true → get_member (codes "targets") t ≡ None → resources_game t ≡ refused missing_key Document
+pub no_targets : (t : Members) → has_only is_resources_key t ≡ true → get_member (codes "targets") t ≡ None → resources_game t ≡ refused missing_key Document
 unfolding resources_game
 no_targets t a b = rw (a, b) refl
 
-no_schedules : (t : Members) (x : Data) → has_only is_resources_key t ≡ true → get_member (codes "targets") t ≡ Some x → get_member (codes "schedule") t ≡ None
+pub no_schedules : (t : Members) (x : Data) → has_only is_resources_key t ≡ true → get_member (codes "targets") t ≡ Some x → get_member (codes "schedule") t ≡ None
     → resources_game t ≡ refused missing_key Document
 unfolding resources_game
 no_schedules t x a b e = elim (cases_Bool (is_some (get_member (codes "scale") t))) [
@@ -134,12 +134,12 @@ no_schedules t x a b e = elim (cases_Bool (is_some (get_member (codes "scale") t
   | inr other ↦ rw (a, b, other, e) refl
 ]
 
-no_resources : (t : Members) (x y : Data) → has_only is_resources_key t ≡ true → get_member (codes "targets") t ≡ Some x → is_some (get_member (codes "scale") t) ≡ false
+pub no_resources : (t : Members) (x y : Data) → has_only is_resources_key t ≡ true → get_member (codes "targets") t ≡ Some x → is_some (get_member (codes "scale") t) ≡ false
     → get_member (codes "schedule") t ≡ Some y → get_member (codes "resource") t ≡ None → resources_game t ≡ refused missing_key Document
 unfolding resources_game
 no_resources t x y a b n e f = rw (a, b, n, e, f) refl
 
-no_types : (t : Members) (x y z : Data) → has_only is_resources_key t ≡ true → get_member (codes "targets") t ≡ Some x → is_some (get_member (codes "scale") t) ≡ false
+pub no_types : (t : Members) (x y z : Data) → has_only is_resources_key t ≡ true → get_member (codes "targets") t ≡ Some x → is_some (get_member (codes "scale") t) ≡ false
     → get_member (codes "schedule") t ≡ Some y → get_member (codes "resource") t ≡ Some z → get_member (codes "type") t ≡ None → resources_game t ≡ refused missing_key Document
 unfolding resources_game
 no_types t x y z a b n e f u = rw (a, b, n, e, f, u) refl
@@ -296,13 +296,13 @@ missing table other g key h needed d =
     (λ head given there p. patrols_missing table other g key given head there p d unscaled (rw (p.kind, p.identical) at top))
     (λ head there l. listed_missing table other g key head there l d unscaled (rw (l.kind, l.no_patrols) at top))
 
-differs : (a b : List ℕ) → a ≢ b → bytes_eq a b ≡ false
+pub differs : (a b : List ℕ) → a ≢ b → bytes_eq a b ≡ false
 differs a b ne = elim (cases_Bool (bytes_eq a b)) [
   | inl is ↦ absurd (ne (same a b is))
   | inr isnt ↦ isnt
 ]
 
-form_fails : (first second : Members) (kind : Kind) (text : List ℕ) → IsHeaded first kind → text ≢ codes "security" → text ≢ codes "matrix"
+pub form_fails : (first second : Members) (kind : Kind) (text : List ℕ) → IsHeaded first kind → text ≢ codes "security" → text ≢ codes "matrix"
     → DiffersAt (codes "form") (Some (string text)) first second → game_of_table second ≡ refused out_of_range Document
 unfolding game_of_table form_of
 form_fails first second kind text head s m d =

@@ -24,17 +24,17 @@ fails_by (Err other) fault e = cc
 at_name : (key name : List ℕ) (value : Option Data) (first second : Members) → bytes_eq key name ≡ true → DiffersAt key value first second → DiffersAt name value first second
 at_name key name value first second e d = subst (λ (k : List ℕ). DiffersAt k value first second) (same key name e) d
 
-rows_fail : (t : Members) (value x : Data) (fault : GameFault) → has_only is_matrix_key t ≡ true → get_member (codes "rows") t ≡ Some value → get_member (codes "type") t ≡ Some x
+pub rows_fail : (t : Members) (value x : Data) (fault : GameFault) → has_only is_matrix_key t ≡ true → get_member (codes "rows") t ≡ Some value → get_member (codes "type") t ≡ Some x
     → names_at place_of.Document place_of.Row 4096 value ≡ Err fault → matrix_game t ≡ Err fault
 unfolding matrix_game
 rows_fail t value x fault a b e f = rw (a, b, e, f) refl
 
-matrix_types_fail : (t : Members) (l value : Data) (rows : List (List ℕ)) (fault : GameFault) → has_only is_matrix_key t ≡ true → get_member (codes "rows") t ≡ Some l
+pub matrix_types_fail : (t : Members) (l value : Data) (rows : List (List ℕ)) (fault : GameFault) → has_only is_matrix_key t ≡ true → get_member (codes "rows") t ≡ Some l
     → get_member (codes "type") t ≡ Some value → names_at place_of.Document place_of.Row 4096 l ≡ Ok rows → matrix_types_at (length rows) value ≡ Err fault → matrix_game t ≡ Err fault
 unfolding matrix_game
 matrix_types_fail t l value rows fault a b e r f = rw (a, b, e, r, f) refl
 
-matrix_faulty : (table other : Members) (g : Game) (key : List ℕ) (value : Data) (fault : GameFault) → IsHeaded table Matrix → IsMatrixFile table g → DiffersAt key (Some value) table other
+pub matrix_faulty : (table other : Members) (g : Game) (key : List ℕ) (value : Data) (fault : GameFault) → IsHeaded table Matrix → IsMatrixFile table g → DiffersAt key (Some value) table other
     → list_fault Matrix g.patrols g key value ≡ Some fault → game_of_table other ≡ Err fault
 matrix_faulty table other g key value fault head m d e =
     elim (cases_Bool (bytes_eq key (codes "rows"))) [
@@ -53,13 +53,13 @@ matrix_faulty table other g key value fault head m d e =
       ]
     ]
 
-targets_fail : (given : Data) (t : Members) (value x : Data) (o : Option Data) (fault : GameFault) → has_only is_patrols_key t ≡ true → get_member (codes "targets") t ≡ Some value
+pub targets_fail : (given : Data) (t : Members) (value x : Data) (o : Option Data) (fault : GameFault) → has_only is_patrols_key t ≡ true → get_member (codes "targets") t ≡ Some value
     → get_member (codes "type") t ≡ Some x → get_member (codes "scale") t ≡ o
     → names_at place_of.Document place_of.Target (if is_some o then 10000 else 200) value ≡ Err fault → patrols_game given t ≡ Err fault
 unfolding patrols_game
 targets_fail given t value x o fault a b e s f = rw (a, b, e, s, f) refl
 
-patrols_types_fail : (given : Data) (t : Members) (l value : Data) (o : Option Data) (targets : List (List ℕ)) (scale : Option ℤ) (count : ℤ) (fault : GameFault)
+pub patrols_types_fail : (given : Data) (t : Members) (l value : Data) (o : Option Data) (targets : List (List ℕ)) (scale : Option ℤ) (count : ℤ) (fault : GameFault)
     → has_only is_patrols_key t ≡ true → get_member (codes "targets") t ≡ Some l → get_member (codes "type") t ≡ Some value → get_member (codes "scale") t ≡ o
     → names_at place_of.Document place_of.Target (if is_some o then 10000 else 200) l ≡ Ok targets → scale_at o ≡ Ok scale
     → number_at place_of.Document (pos 0) (pos (if is_some o then 200 else 32)) given ≡ Ok count
@@ -67,7 +67,7 @@ patrols_types_fail : (given : Data) (t : Members) (l value : Data) (o : Option D
 unfolding patrols_game
 patrols_types_fail given t l value o targets scale count fault a b e s n q c f = rw (a, b, e, s, n, q, c, f) refl
 
-patrols_faulty : (table other : Members) (g : Game) (key : List ℕ) (value given : Data) (fault : GameFault) (n : ℕ) → IsHeaded table Security
+pub patrols_faulty : (table other : Members) (g : Game) (key : List ℕ) (value given : Data) (fault : GameFault) (n : ℕ) → IsHeaded table Security
     → get_member (codes "patrols") table ≡ Some given → IsPatrolsFile given table g → DiffersAt key (Some value) table other
     → list_fault Security (Some n) g key value ≡ Some fault → game_of_table other ≡ Err fault
 patrols_faulty table other g key value given fault n head there p d e =
@@ -93,15 +93,15 @@ patrols_faulty table other g key value given fault n head there p d e =
     ]
 
 -- what the document of a game with listed resources has at its keys
-record IsListedTable (t : Members) (listed given manned attackers : Data) : Type 0 where
-  known : has_only is_resources_key t ≡ true
-  no_scale : is_some (get_member (codes "scale") t) ≡ false
-  targets : get_member (codes "targets") t ≡ Some listed
-  schedules : get_member (codes "schedule") t ≡ Some given
-  resources : get_member (codes "resource") t ≡ Some manned
-  types : get_member (codes "type") t ≡ Some attackers
+pub record IsListedTable (t : Members) (listed given manned attackers : Data) : Type 0 where
+  pub known : has_only is_resources_key t ≡ true
+  pub no_scale : is_some (get_member (codes "scale") t) ≡ false
+  pub targets : get_member (codes "targets") t ≡ Some listed
+  pub schedules : get_member (codes "schedule") t ≡ Some given
+  pub resources : get_member (codes "resource") t ≡ Some manned
+  pub types : get_member (codes "type") t ≡ Some attackers
 
-listed_steps : (t : Members) (listed given manned attackers : Data) → IsListedTable t listed given manned attackers → resources_game t ≡ listed_game listed given manned attackers
+pub listed_steps : (t : Members) (listed given manned attackers : Data) → IsListedTable t listed given manned attackers → resources_game t ≡ listed_game listed given manned attackers
 unfolding resources_game
 listed_steps t listed given manned attackers h =
     let a = h.known in
@@ -112,42 +112,42 @@ listed_steps t listed given manned attackers h =
     let u = h.types in
     rw (a, b, s, e, f, u) refl
 
-listed_targets_fail : (listed given manned attackers : Data) (fault : GameFault) → names_at place_of.Document place_of.Target 200 listed ≡ Err fault
+pub listed_targets_fail : (listed given manned attackers : Data) (fault : GameFault) → names_at place_of.Document place_of.Target 200 listed ≡ Err fault
     → listed_game listed given manned attackers ≡ Err fault
 unfolding listed_game
 listed_targets_fail listed given manned attackers fault f = rw f refl
 
-schedules_fail : (listed given manned attackers : Data) (targets : List (List ℕ)) (fault : GameFault) → names_at place_of.Document place_of.Target 200 listed ≡ Ok targets
+pub schedules_fail : (listed given manned attackers : Data) (targets : List (List ℕ)) (fault : GameFault) → names_at place_of.Document place_of.Target 200 listed ≡ Ok targets
     → schedules_at targets given ≡ Err fault → listed_game listed given manned attackers ≡ Err fault
 unfolding listed_game
 schedules_fail listed given manned attackers targets fault n f = rw (n, f) refl
 
-resources_fail : (listed given manned attackers : Data) (targets : List (List ℕ)) (schedules : List Named) (fault : GameFault) → names_at place_of.Document place_of.Target 200 listed ≡ Ok targets
+pub resources_fail : (listed given manned attackers : Data) (targets : List (List ℕ)) (schedules : List Named) (fault : GameFault) → names_at place_of.Document place_of.Target 200 listed ≡ Ok targets
     → schedules_at targets given ≡ Ok schedules → resources_at schedules manned ≡ Err fault → listed_game listed given manned attackers ≡ Err fault
 unfolding listed_game
 resources_fail listed given manned attackers targets schedules fault n s f = rw (n, s, f) refl
 
-listed_types_fail : (listed given manned attackers : Data) (targets : List (List ℕ)) (schedules resources : List Named) (fault : GameFault)
+pub listed_types_fail : (listed given manned attackers : Data) (targets : List (List ℕ)) (schedules resources : List Named) (fault : GameFault)
     → names_at place_of.Document place_of.Target 200 listed ≡ Ok targets → schedules_at targets given ≡ Ok schedules → resources_at schedules manned ≡ Ok resources
     → security_types_at false (length targets) attackers ≡ Err fault → listed_game listed given manned attackers ≡ Err fault
 unfolding listed_game
 listed_types_fail listed given manned attackers targets schedules resources fault n s r f = rw (n, s, r, f) refl
 
-listed_to : (key : List ℕ) (value : Data) (table other : Members) → IsHeaded table Security → get_member (codes "patrols") table ≡ None → DiffersAt key (Some value) table other
+pub listed_to : (key : List ℕ) (value : Data) (table other : Members) → IsHeaded table Security → get_member (codes "patrols") table ≡ None → DiffersAt key (Some value) table other
     → codes "version" ≢ key → codes "form" ≢ key → codes "patrols" ≢ key → game_of_table other ≡ resources_game other
 listed_to key value table other head there c v f p =
     let still = c.elsewhere (codes "patrols") p ∙ there in
     headed key (Some value) table other Security c head v f ∙ (rw still refl)
 
 -- the value at a key that stays
-kept : (name key : List ℕ) (value : Option Data) (x : Data) (table other : Members) → DiffersAt key value table other → bytes_eq name key ≡ false → get_member name table ≡ Some x → get_member name other ≡ Some x
+pub kept : (name key : List ℕ) (value : Option Data) (x : Data) (table other : Members) → DiffersAt key value table other → bytes_eq name key ≡ false → get_member name table ≡ Some x → get_member name other ≡ Some x
 kept name key value x table other c e there = c.elsewhere name (apart name key e) ∙ there
 
-unscaled : (key : List ℕ) (value : Option Data) (table other : Members) → DiffersAt key value table other → bytes_eq (codes "scale") key ≡ false → is_some (get_member (codes "scale") table) ≡ false
+pub unscaled : (key : List ℕ) (value : Option Data) (table other : Members) → DiffersAt key value table other → bytes_eq (codes "scale") key ≡ false → is_some (get_member (codes "scale") table) ≡ false
     → is_some (get_member (codes "scale") other) ≡ false
 unscaled key value table other c e there = ap is_some (c.elsewhere (codes "scale") (apart (codes "scale") key e)) ∙ there
 
-listed_faulty : (table other : Members) (g : Game) (key : List ℕ) (value : Data) (fault : GameFault) → IsHeaded table Security → get_member (codes "patrols") table ≡ None
+pub listed_faulty : (table other : Members) (g : Game) (key : List ℕ) (value : Data) (fault : GameFault) → IsHeaded table Security → get_member (codes "patrols") table ≡ None
     → IsListedFile table g → DiffersAt key (Some value) table other → list_fault Security None g key value ≡ Some fault → game_of_table other ≡ Err fault
 listed_faulty table other g key value fault head there l d e =
     elim (cases_Bool (bytes_eq key (codes "targets"))) [

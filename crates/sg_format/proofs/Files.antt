@@ -58,6 +58,8 @@ pub record IsPatrolsFile (given : Data) (table : Members) (g : Game) : Type 0 wh
   pub identical : g.patrols ≡ Some patrols
   pub scale : Option ℤ
   pub count : ℤ
+  pub counted : patrols ≡ count_of count
+  pub scale_is : g.scale ≡ unwrap_or scale (pos 0)
   pub scaled : is_scaled g ≡ is_some (get_member (codes "scale") table)
   pub known : has_only is_patrols_key table ≡ true
   pub targets_there : get_member (codes "targets") table ≡ Some listed
@@ -88,6 +90,8 @@ patrols_file given table g h =
       patrols = count_of patrols;
       scale = scale;
       count = patrols;
+      counted = refl;
+      scale_is = refl;
       scaled = (scale_at-scale declared scale e5).is;
       scale_read = e5;
       count_read = e6;
@@ -109,6 +113,7 @@ pub record IsListedFile (table : Members) (g : Game) : Type 0 where
   pub attackers : Data
   pub kind : g.kind ≡ Security
   pub no_patrols : g.patrols ≡ None
+  pub scale_is : g.scale ≡ pos 0
   pub known : has_only is_resources_key table ≡ true
   pub no_scale : is_some (get_member (codes "scale") table) ≡ false
   pub targets_there : get_member (codes "targets") table ≡ Some listed
@@ -143,6 +148,7 @@ listed_file table g h =
       attackers = attackers;
       kind = refl;
       no_patrols = refl;
+      scale_is = refl;
       known = e1;
       no_scale = not-true (is_some (get_member (codes "scale") table)) e3;
       targets_there = needed_is (get_member (codes "targets") table) _ _ listed e2;

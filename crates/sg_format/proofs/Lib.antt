@@ -10,3 +10,13 @@ pub mod Files
 pub mod Faults
 pub mod FaultyLists
 pub mod TopLists
+pub mod Broken
+pub mod Entries
+pub mod Parted
+pub mod Tables
+pub mod PartFaults
+pub mod PartReasons
+pub mod Scales
+pub mod Programs
+pub mod WorkedFaults
+pub mod Heads

@@ -39,20 +39,20 @@ is_filled kind key = bytes_eq key (goals_key kind) || bytes_eq key (codes "type"
 abbrev pub is_list : Kind → Option ℕ → List ℕ → Bool
 is_list kind patrols key = is_filled kind key || ((not (is_kind_matrix kind) && is_none patrols) && (bytes_eq key (codes "schedule") || bytes_eq key (codes "resource")))
 
-names_begin : (whole : Place) (place : ℕ → Place) (limit : ℕ) (value : Data) (fault : GameFault) → some_at whole limit value ≡ Err fault → names_at whole place limit value ≡ Err fault
+pub names_begin : (whole : Place) (place : ℕ → Place) (limit : ℕ) (value : Data) (fault : GameFault) → some_at whole limit value ≡ Err fault → names_at whole place limit value ≡ Err fault
 unfolding names_at
 names_begin whole place limit value fault e = rw e refl
 
-named_begin : (place : ℕ → Place) (key : List ℕ) (known : List (List ℕ)) (limit members : ℕ) (value : Data) (fault : GameFault) → few_at place_of.Document limit value ≡ Err fault
+pub named_begin : (place : ℕ → Place) (key : List ℕ) (known : List (List ℕ)) (limit members : ℕ) (value : Data) (fault : GameFault) → few_at place_of.Document limit value ≡ Err fault
     → named_lists_at place key known limit members value ≡ Err fault
 unfolding named_lists_at
 named_begin place key known limit members value fault e = rw e refl
 
-matrix_begin : (rows : ℕ) (value : Data) (fault : GameFault) → some_at place_of.Document 8 value ≡ Err fault → matrix_types_at rows value ≡ Err fault
+pub matrix_begin : (rows : ℕ) (value : Data) (fault : GameFault) → some_at place_of.Document 8 value ≡ Err fault → matrix_types_at rows value ≡ Err fault
 unfolding matrix_types_at
 matrix_begin rows value fault e = rw e refl
 
-security_begin : (scaled : Bool) (targets : ℕ) (value : Data) (fault : GameFault) → some_at place_of.Document (if scaled then 1 else 8) value ≡ Err fault
+pub security_begin : (scaled : Bool) (targets : ℕ) (value : Data) (fault : GameFault) → some_at place_of.Document (if scaled then 1 else 8) value ≡ Err fault
     → security_types_at scaled targets value ≡ Err fault
 unfolding security_types_at
 security_begin scaled targets value fault e = rw e refl

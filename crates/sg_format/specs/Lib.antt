@@ -8,3 +8,7 @@ pub mod GameFileLaws
 pub mod GameTextLaws
 pub mod Changes
 pub mod FaultLaws
+pub mod Parts
+pub mod PartLaws
+pub mod HeadLaws
+pub mod FaultExamples
