@@ -1,8 +1,8 @@
 //! Reads and writes game files.
 //!
 //! `read_game` answers exactly what the definition of a game file in `sg_format` gives: the game, or the first reason
-//! for which the bytes are none, with its place. `read_parts` gives the parts of that game. Each step of the definition
-//! is a small function here. `write_game` gives exactly the canonical text of a game, which is defined there too.
+//! for which the bytes are none, with its place. Each step of the definition is
+//! a small function here. `write_game` gives exactly the canonical text of a game, which is defined there too.
 #![tactic(auto)]
 
 mod document;
@@ -20,7 +20,7 @@ mod value;
 mod write;
 
 pub use fault::GameError;
-pub use game::{read_game, read_parts};
+pub use game::read_game;
 pub use write::write_game;
 
 #[cfg(test)]

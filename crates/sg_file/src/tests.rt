@@ -1,4 +1,5 @@
 use super::*;
+use crate::game::read_parts;
 use sg_game::{GameFault, Kind, ListParts, Parts, Place};
 use std::alloc::{AllocError, Global};
 use std::test::*;
