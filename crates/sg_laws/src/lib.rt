@@ -1,0 +1,8 @@
+//! Laws that join the definitions of several crates.
+//!
+//! The functions have empty bodies: the contract of each is a statement of a module of `specs/`.
+#![tactic(auto)]
+
+mod stop_laws;
+
+pub use stop_laws::stop_lines;
