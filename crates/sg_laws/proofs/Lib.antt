@@ -1,0 +1,8 @@
+pub mod Rows
+pub mod Nodes
+pub mod Stops
+pub mod LineFaults
+pub mod Cuts
+pub mod Steady
+pub mod Readers
+pub mod Faults

@@ -1,0 +1,10 @@
+//! Laws that join the definitions of several crates.
+//!
+//! The functions have empty bodies: the contract of each is a statement of a module of `specs/`.
+#![tactic(auto)]
+
+mod fault_laws;
+mod stop_laws;
+
+pub use fault_laws::{early_end, fault_stays};
+pub use stop_laws::stop_lines;
