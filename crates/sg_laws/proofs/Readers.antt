@@ -1,30 +1,24 @@
 -- Each reader of a report tells the same where more bytes stand behind.
-use Rattle.std.proofs.Common.{◌≡◌, ◌≢◌, ℕ, zero, suc, ◌+◌, ◌<◌, ◌≤◌, Bool, true, false, cond, List, [], ◌∷◌, ◌++◌, length, Option, Some, None, Result, Ok, Err, inl, inr, refl, sym, ap, subst, ◌∙◌, arith, length-append}
+use Rattle.std.proofs.Common.{◌≡◌, ℕ, zero, suc, ◌+◌, ◌≤◌, Bool, true, false, cond, List, [], ◌∷◌, ◌++◌, length, Option, Some, None, Ok, Err, inl, inr, refl, sym, ap, subst, arith, length-append}
 use Rattle.std.specs.Prelude.{codes, ◌==◌, bytes_eq}
 use Rattle.std.specs.Option.{option_map}
 use Rattle.std.proofs.lemmas.Bool.Decides.{nat_tests}
-use Rattle.sg_frac.specs.Fractions.{Fraction}
 use Rattle.sg_model.specs.declared.ticket.Ticket.{Ticket}
-use Rattle.sg_tree.specs.Claims.{Claimed}
 use Rattle.sg_tree.specs.declared.fact.Mark.{Mark}
 use Rattle.sg_tree.specs.declared.fact.Line.{Line}
-use Rattle.sg_tree.specs.declared.fact.Fact.{Fact}
 use Rattle.sg_tree.specs.declared.fact.Fact.TheVariants.{Plays, Cover}
 use Rattle.sg_tree.specs.declared.tree.Tree.{Tree}
 use Rattle.sg_tree.specs.declared.tree.Tree.TheVariants.{Split}
 use Rattle.sg_tree.specs.declared.report.Cap.{Cap}
-use Rattle.sg_tree.specs.declared.report.Ending.{Ending}
-use Rattle.sg_tree.specs.declared.report.Report.{Report}
-use Rattle.sg_cert.specs.declared.fault.ReportFault.{ReportFault}
 use Rattle.sg_cert.specs.Place.{Place}
 use Rattle.sg_cert.specs.Fields.{fields, has_word, shaped_as, split_once, ◌>>=◌}
-use Rattle.sg_cert.specs.Lines.{at_line, ended, line_at, line_cut, next_line, start}
+use Rattle.sg_cert.specs.Lines.{ended, line_at, line_cut, next_line, start}
 use Rattle.sg_cert.specs.LineReading.{cap_of, counts_of, fraction_of, header_of, mark_of, row_of, split_of, ticket_of, verdict_of, water_of}
 use Rattle.sg_cert.specs.Reading.{Read, base_at, base_from, cap_at, cap_from, caps_at, claim_at, closed_from, cover_from, deep_from, end_of, fact_at, fact_from, first_at, fraction_at, head_at, last, last_play, leaf_from, leaf_of, line_begins, mark_at, node_at, open_from, plays_from, proof_at, repeat, report_of, row_at, split_from, tail_of, ticket_at, verdict_at, water_from, word_line_at}
 use Rattle.sg_laws.specs.Faults.{newlines}
 use Rattle.sg_laws.proofs.Cuts.{IsCut, Parts, is_cut}
 use Rattle.sg_laws.proofs.LineFaults as other
-use Rattle.sg_laws.proofs.Steady.{Ends, Keeps, Late, LineKeeps, behind, either, ends_as, ends_from, fault_then, here, keeps_from, late_from, late_then, line_keeps, line_late, line_of, lines_to, one_line, refused, repeat_keeps, then, then_ends, within}
+use Rattle.sg_laws.proofs.Steady.{Ends, Keeps, Late, LineKeeps, behind, either, ends_as, fault_then, here, keeps_from, late_from, late_then, line_keeps, line_late, line_of, lines_to, one_line, refused, repeat_keeps, then, then_ends, within}
 
 module _ (more : List ℕ) where
   abbrev Steady : {A : Type 0} → (Place → Read A) → Type 0
