@@ -17,16 +17,16 @@ FaultStays = (bytes more : List ℕ) (f : ReportFault) → report_of bytes ≡ E
 abbrev pub EarlyEnd : Type 0
 EarlyEnd = (bytes : List ℕ) (f : ReportFault) → report_of bytes ≡ Err f → f.reason ≡ 2 → f.line ≡ newlines bytes + 1
 
--- a fault of a line is told as soon as that line is there
+-- a fault is told as soon as its line is ended
 abbrev pub FaultOfItsLine : Type 0
 FaultOfItsLine = (bytes more : List ℕ) (f : ReportFault) → report_of (bytes ++ more) ≡ Err f → f.line ≤ newlines bytes → report_of bytes ≡ Err f
 
--- in what stands before the line of a fault nothing but a line is missing, unless all of it is a report
+-- as long as the line of a fault isn't ended, just a line is missing; but bytes behind a report are refused before their line is ended
 abbrev pub LinesBefore : Type 0
 LinesBefore = (bytes more : List ℕ) (f : ReportFault) → report_of (bytes ++ more) ≡ Err f → f.reason ≢ 9 → newlines bytes < f.line
     → report_of bytes ≡ Err (record { line = newlines bytes + 1; reason = 2 })
 
--- behind a report nothing may stand
+-- bytes behind a report are refused, at the line behind it
 abbrev pub NothingBehind : Type 0
 NothingBehind = (bytes more : List ℕ) (r : Report) → report_of bytes ≡ Ok r → more ≢ [] → report_of (bytes ++ more) ≡ Err (record { line = newlines bytes + 1; reason = 9 })
 

@@ -19,17 +19,18 @@ pub fn early_end()
     ensures { EarlyEnd }
 {}
 
-/// A fault is told as soon as its line is there.
+/// A fault is told as soon as its line is ended.
 pub fn fault_of_its_line()
     ensures { FaultOfItsLine }
 {}
 
-/// In what stands before the line of a fault nothing but a line is missing, unless all of it is a report.
+/// As long as the line of a fault isn't ended, just a line is missing; but bytes behind a report are refused before
+/// their line is ended.
 pub fn lines_before()
     ensures { LinesBefore }
 {}
 
-/// Behind a report nothing may stand.
+/// Bytes behind a report are refused, at the line behind it.
 pub fn nothing_behind()
     ensures { NothingBehind }
 {}
