@@ -1,6 +1,6 @@
 -- The next line, where more bytes stand behind.
-use Rattle.std.proofs.Common.{◌≡◌, ℕ, zero, suc, ◌+◌, ◌<◌, ◌≤◌, Bool, true, false, not, cond, List, [], ◌∷◌, ◌++◌, length, take, drop, Option, Some, None, inl, inr, refl, sym, ap, subst, ◌∙◌, arith}
-use Rattle.std.specs.Prelude.{◌==◌, nat_lt, position}
+use Rattle.std.proofs.Common.{◌≡◌, ℕ, suc, ◌+◌, ◌≤◌, Bool, true, false, not, cond, List, [], ◌∷◌, ◌++◌, length, take, drop, Option, Some, None, inl, inr, refl, sym, ap, subst, ◌∙◌, arith}
+use Rattle.std.specs.Prelude.{◌==◌, nat_lt}
 use Rattle.std.specs.List.{position_or_len}
 use Rattle.std.specs.Option.{option_map}
 use Rattle.std.proofs.lemmas.Bool.{cases_lt, le-ltb, lt-ltb}
@@ -53,3 +53,18 @@ is_cut (b ∷ bs) more = subst (IsCut (b ∷ bs) more) (sym (split_step b bs)) (
     by_test : (t : Bool) → (b == 10) ≡ t → IsCut bs more (split_once 10 bs) → IsCut (b ∷ bs) more (cond t (Some ([], bs)) (option_map (push b) (split_once 10 bs)))
     by_test true e h = (split_step b (bs ++ more) ∙ rw e refl, (rw e (omega arith), omega arith))
     by_test false e h = later e (split_once 10 bs) h
+
+-- a line, and what stands behind it
+pub line_cut_off : (line more : List ℕ) → newlines line ≡ 0 → split_once 10 (line ++ 10 ∷ more) ≡ Some (line, more)
+line_cut_off [] more h = split_step 10 more
+line_cut_off (b ∷ bs) more h = by_test (b == 10) refl (λ rest. line_cut_off bs more rest)
+  where
+    by_test : (t : Bool) → (b == 10) ≡ t → (newlines bs ≡ 0 → split_once 10 (bs ++ 10 ∷ more) ≡ Some (bs, more)) → split_once 10 ((b ∷ bs) ++ 10 ∷ more) ≡ Some (b ∷ bs, more)
+    by_test true e again = let some : suc (newlines bs) ≡ 0 = sym (newline_here e) ∙ h in absurd (omega (arith, some))
+      where
+        newline_here : (b == 10) ≡ true → newlines (b ∷ bs) ≡ suc (newlines bs)
+        newline_here e = rw e refl
+    by_test false e again = split_step b (bs ++ 10 ∷ more) ∙ rw (e, again (sym (none_here e) ∙ h)) refl
+      where
+        none_here : (b == 10) ≡ false → newlines (b ∷ bs) ≡ newlines bs
+        none_here e = rw e refl

@@ -1,5 +1,5 @@
 -- What stands within a line is never refused as a missing line.
-use Rattle.std.proofs.Common.{◌≡◌, ◌≢◌, ℕ, zero, suc, ◌-◌, ◌^◌, Bool, true, false, cond, List, [], ◌∷◌, ◌++◌, length, drop, Option, Some, None, Result, Ok, Err, arith}
+use Rattle.std.proofs.Common.{◌≢◌, ℕ, ◌-◌, ◌^◌, Bool, true, false, cond, List, [], ◌∷◌, ◌++◌, length, drop, Option, Some, None, Result, Ok, Err, arith}
 use Rattle.std.specs.Prelude.{ℤ, pos, negsuc, codes, nat_le, ◌&&◌, slice_get, bytes_eq, ◌||◌, unsigned_abs}
 use Rattle.std.specs.Int.Signed.{le_z}
 use Rattle.sg_num.specs.declared.step.Op.{Op}
@@ -7,7 +7,7 @@ use Rattle.sg_num.specs.declared.step.Op.TheVariants.{Sum, Less, Times}
 use Rattle.sg_tree.specs.declared.fact.Mark.{Mark}
 use Rattle.sg_tree.specs.declared.fact.Line.{Line}
 use Rattle.sg_cert.specs.Fields.{count_follows, count_is, fields, fitting, has_word, natural_next, natural_of, numbers_of, shaped_as, shaped_if, shaped_to, spelled_of, whole_next, whole_of, word_at, words_of, ◌>>=◌}
-use Rattle.sg_cert.specs.LineReading.{bound_next, cap_of, cause_of, counts_of, fix_of, fraction_next, fraction_of, follows, gap_of, header_of, highest, in_order, looks_head_of, looks_of, lowest, mark_follows, mark_of, nodes_of, optimal_of, pivots_head_of, pivots_of, plain_of, proved_of, reduced_of, row_follows, row_of, shares, spent_of, split_of, target_of, ticket_end_of, ticket_head_of, ticket_of, verdict_of, water_of, wide_as, wide_head_of, wide_of}
+use Rattle.sg_cert.specs.LineReading.{cap_of, cause_of, counts_of, fix_of, fraction_next, fraction_of, follows, gap_of, header_of, highest, in_order, looks_head_of, looks_of, lowest, mark_follows, mark_of, nodes_of, optimal_of, pivots_head_of, pivots_of, plain_of, proved_of, reduced_of, row_follows, row_of, shares, spent_of, split_of, target_of, ticket_head_of, ticket_of, verdict_of, water_of, wide_as, wide_head_of, wide_of}
 
 abbrev pub IsOther : {A : Type 0} → Result A ℕ → Type 0
 IsOther (Ok x) = Unit {0}

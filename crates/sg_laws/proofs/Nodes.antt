@@ -1,12 +1,12 @@
 -- The rows of a tree, by its nodes.
-use Rattle.std.proofs.Common.{◌≡◌, ℕ, ◌+◌, List, [], ◌∷◌, ◌++◌, length, map, refl, sym, ap, subst, ◌∙◌, arith, length-append, Option, Some, None}
+use Rattle.std.proofs.Common.{◌≡◌, ℕ, List, [], ◌∷◌, ◌++◌, length, map, refl, sym, ap, subst, ◌∙◌, arith, length-append, Option, Some, None}
 use Rattle.std.specs.List.{flat_map}
 use Rattle.std.proofs.lemmas.List.{length-map}
 use Rattle.sg_tree.specs.declared.fact.Fact.{Fact}
 use Rattle.sg_tree.specs.declared.fact.Fact.TheVariants.{Plays, Cover, Water}
 use Rattle.sg_tree.specs.declared.report.Cap.{Cap}
 use Rattle.sg_tree.specs.declared.tree.Tree.{Tree}
-use Rattle.sg_tree.specs.declared.tree.Tree.TheVariants.{Split, Unproved, Closed, rolls-Split, rolls-Unproved, rolls-Closed}
+use Rattle.sg_tree.specs.declared.tree.Tree.TheVariants.{Split, rolls-Split, rolls-Unproved, rolls-Closed}
 use Rattle.sg_tree.specs.declared.tree.Tree.TheOpen.{Tree-F}
 use Rattle.sg_tree.specs.declared.tree.Tree.TheViews.{roll-Tree}
 use Rattle.sg_tree.specs.declared.tree.Tree.TheFolds.{ind-Tree, map-Tree}

@@ -1,30 +1,24 @@
 -- Each reader of a report tells the same where more bytes stand behind.
-use Rattle.std.proofs.Common.{◌≡◌, ◌≢◌, ℕ, zero, suc, ◌+◌, ◌<◌, ◌≤◌, Bool, true, false, cond, List, [], ◌∷◌, ◌++◌, length, Option, Some, None, Result, Ok, Err, inl, inr, refl, sym, ap, subst, ◌∙◌, arith, length-append}
+use Rattle.std.proofs.Common.{◌≡◌, ℕ, zero, suc, ◌+◌, ◌≤◌, Bool, true, false, cond, List, [], ◌∷◌, ◌++◌, length, Option, Some, None, Ok, Err, inl, inr, refl, sym, ap, subst, arith, length-append}
 use Rattle.std.specs.Prelude.{codes, ◌==◌, bytes_eq}
 use Rattle.std.specs.Option.{option_map}
 use Rattle.std.proofs.lemmas.Bool.Decides.{nat_tests}
-use Rattle.sg_frac.specs.Fractions.{Fraction}
 use Rattle.sg_model.specs.declared.ticket.Ticket.{Ticket}
-use Rattle.sg_tree.specs.Claims.{Claimed}
 use Rattle.sg_tree.specs.declared.fact.Mark.{Mark}
 use Rattle.sg_tree.specs.declared.fact.Line.{Line}
-use Rattle.sg_tree.specs.declared.fact.Fact.{Fact}
 use Rattle.sg_tree.specs.declared.fact.Fact.TheVariants.{Plays, Cover}
 use Rattle.sg_tree.specs.declared.tree.Tree.{Tree}
 use Rattle.sg_tree.specs.declared.tree.Tree.TheVariants.{Split}
 use Rattle.sg_tree.specs.declared.report.Cap.{Cap}
-use Rattle.sg_tree.specs.declared.report.Ending.{Ending}
-use Rattle.sg_tree.specs.declared.report.Report.{Report}
-use Rattle.sg_cert.specs.declared.fault.ReportFault.{ReportFault}
 use Rattle.sg_cert.specs.Place.{Place}
 use Rattle.sg_cert.specs.Fields.{fields, has_word, shaped_as, split_once, ◌>>=◌}
-use Rattle.sg_cert.specs.Lines.{at_line, ended, line_at, line_cut, next_line, start}
+use Rattle.sg_cert.specs.Lines.{ended, line_at, line_cut, next_line, start}
 use Rattle.sg_cert.specs.LineReading.{cap_of, counts_of, fraction_of, header_of, mark_of, row_of, split_of, ticket_of, verdict_of, water_of}
 use Rattle.sg_cert.specs.Reading.{Read, base_at, base_from, cap_at, cap_from, caps_at, claim_at, closed_from, cover_from, deep_from, end_of, fact_at, fact_from, first_at, fraction_at, head_at, last, last_play, leaf_from, leaf_of, line_begins, mark_at, node_at, open_from, plays_from, proof_at, repeat, report_of, row_at, split_from, tail_of, ticket_at, verdict_at, water_from, word_line_at}
 use Rattle.sg_laws.specs.Faults.{newlines}
 use Rattle.sg_laws.proofs.Cuts.{IsCut, Parts, is_cut}
 use Rattle.sg_laws.proofs.LineFaults as other
-use Rattle.sg_laws.proofs.Steady.{Ends, FaultKeeps, IsOn, Keeps, LineKeeps, behind, either, ends_as, ends_from, fault_then, here, keeps_from, line_keeps, line_of, lines_to, one_line, refused, repeat_keeps, then, then_ends, within}
+use Rattle.sg_laws.proofs.Steady.{Ends, Keeps, Late, LineKeeps, behind, either, ends_as, fault_then, here, keeps_from, late_from, late_then, line_keeps, line_late, line_of, lines_to, one_line, refused, repeat_keeps, then, then_ends, within}
 
 module _ (more : List ℕ) where
   abbrev Steady : {A : Type 0} → (Place → Read A) → Type 0
@@ -180,16 +174,19 @@ module _ (more : List ℕ) where
       by_rest : (s : Place) (fs : List (List ℕ)) (r later : Read Cap) → Keeps s more r later → r ≡ Ok (c, q) → suc (length s.rest) ≤ length p.rest → suc (length q.rest) ≤ length p.rest
       by_rest s fs (Ok y) later h e low =
           let same : length y.1.rest ≡ length q.rest = ap (λ (z : Cap × Place). length z.1.rest) (let k : y ≡ (c, q) = cc in k) in
-          omega (arith, h.1.1, same, low)
+          omega (arith, h.1.1.1, same, low)
       by_rest s fs (Err f) later h e low = absurd cc
 
       by_line : (r later : Read (List ℕ)) → LineKeeps p more r later → (r >>= λ l. cap_from (fields l.0) l.1) ≡ Ok (c, q) → suc (length q.rest) ≤ length p.rest
       by_line (Ok y) later h e = by_rest y.1 (fields y.0) (cap_from (fields y.0) y.1) (cap_from (fields y.0) (behind y.1 more)) (cap_then (fields y.0) y.1) e h.1.1
       by_line (Err f) later h e = absurd cc
 
-  -- what follows the caps, where no line is left
+  -- what follows the caps: reads a line at least, so where none is left its fault is told
+  abbrev ReadsLine : {B : Type 0} → (List Cap × Place → Read B) → Type 0
+  ReadsLine k = (cs : List Cap) (q : Place) → Late (q.line + 1) (k (cs, q))
+
   abbrev WantsLine : {B : Type 0} → (List Cap × Place → Read B) → Type 0
-  WantsLine {B = B} k = (cs : List Cap) (q : Place) → split_once 10 q.rest ≡ None → (later : Read B) → Keeps q more (k (cs, q)) later
+  WantsLine {B = B} k = (cs : List Cap) (q : Place) → split_once 10 q.rest ≡ None → (later : Read B) → Late (q.line + 1) later → Keeps q more (k (cs, q)) later
 
   abbrev Follows : {B : Type 0} → (List Cap × Place → Read B) → Type 0
   Follows k = (cs : List Cap) (q : Place) → Keeps q more (k (cs, q)) (k (cs, behind q more))
@@ -198,27 +195,51 @@ module _ (more : List ℕ) where
   empty [] h = refl
   empty (b ∷ bs) h = absurd (omega (arith, h))
 
+  cap_late : (p : Place) → Late (p.line + 1) (cap_at p)
+  unfolding cap_at
+  cap_late p = late_then (p.line + 1) (line_at p) (λ l. cap_from (fields l.0) l.1) (line_late p) (λ l. (cap_then (fields l.0) l.1).0)
+
+  -- one cap, and those that follow it
+  late_caps : {A B C : Type 0} (n : ℕ) (r : Read A) (f : A × Place → Read B) (k : B × Place → Read C) → Late n r → ((y : A × Place) → Late (y.1.line + 1) (f y >>= k)) → Late n ((r >>= f) >>= k)
+  late_caps n (Ok y) f k h next = late_from n (y.1.line + 1) (f y >>= k) (omega (arith, h)) (next y)
+  late_caps n (Err f) g k h next = h
+
+  caps_late : {B : Type 0} (k : List Cap × Place → Read B) → ReadsLine k → (n : ℕ) (done : List Cap) (p : Place) → Late (p.line + 1) (caps_at done n p >>= k)
+  unfolding caps_at
+  caps_late k reads zero done p = reads done p
+  caps_late k reads (suc n) done p = by_word (λ (cs : List Cap) (q : Place). caps_late k reads n cs q) (line_begins (codes "cap") (next_line p))
+    where
+      by_word : ((cs : List Cap) (q : Place) → Late (q.line + 1) (caps_at cs n q >>= k)) → (b : Bool)
+          → Late (p.line + 1) (cond b (cap_at p >>= λ c. caps_at (done ++ c.0 ∷ []) n c.1) (Ok (done, p)) >>= k)
+      by_word again true = late_caps (p.line + 1) (cap_at p) (λ c. caps_at (done ++ c.0 ∷ []) n c.1) k (cap_late p) (λ c. again (done ++ c.0 ∷ []) c.1)
+      by_word again false = reads done p
+
   -- caps and what follows them, with so many lines at most
   abbrev CapsKeep : {B : Type 0} → (List Cap × Place → Read B) → ℕ → ℕ → Type 0
   CapsKeep k n m = (done : List Cap) (p : Place) → length p.rest ≤ n → length (p.rest ++ more) ≤ m → Keeps p more (caps_at done n p >>= k) (caps_at done m (behind p more) >>= k)
 
   -- one cap, and those that follow it
-  cap_and : {B : Type 0} (k : List Cap × Place → Read B) (n m : ℕ) → CapsKeep k n m → (done : List Cap) (p : Place) → length p.rest ≤ suc n → length (p.rest ++ more) ≤ suc m
+  cap_and : {B : Type 0} (k : List Cap × Place → Read B) → ReadsLine k → (n m : ℕ) → CapsKeep k n m → (done : List Cap) (p : Place) → length p.rest ≤ suc n → length (p.rest ++ more) ≤ suc m
       → (r later : Read Cap) → cap_at p ≡ r → Keeps p more r later
       → Keeps p more ((r >>= λ c. caps_at (done ++ c.0 ∷ []) n c.1) >>= k) ((later >>= λ c. caps_at (done ++ c.0 ∷ []) m c.1) >>= k)
-  cap_and k n m again done p low high (Ok y) later e h =
+  cap_and k reads n m again done p low high (Ok y) later e h =
       let fewer = cap_takes p y.1 y.0 e in
       let rest = done ++ y.0 ∷ [] in
       let next = again rest y.1 (omega (arith, fewer, low)) (omega (arith, fewer, high, length-append p.rest more, length-append y.1.rest more)) in
-      subst (λ l. Keeps p more (caps_at rest n y.1 >>= k) ((l >>= λ c. caps_at (done ++ c.0 ∷ []) m c.1) >>= k)) (sym h.0)
-      (keeps_from p y.1 more (caps_at rest n y.1 >>= k) (caps_at rest m (behind y.1 more) >>= k) h.1 next)
-  cap_and k n m again done p low high (Err f) later e h =
-      fault_then p f (later >>= λ c. caps_at (done ++ c.0 ∷ []) m c.1) k (fault_then p f later (λ c. caps_at (done ++ c.0 ∷ []) m c.1) h)
+      subst (λ l. Keeps p more (caps_at rest n y.1 >>= k) ((l >>= λ c. caps_at (done ++ c.0 ∷ []) m c.1) >>= k)) (sym h.1.0)
+      (keeps_from p y.1 more (caps_at rest n y.1 >>= k) (caps_at rest m (behind y.1 more) >>= k) h.1.1 h.0 next)
+  cap_and k reads n m again done p low high (Err f) later e h =
+      let more_caps : Cap × Place → Read (List Cap) = λ c. caps_at (done ++ c.0 ∷ []) m c.1 in (
+        h.0,
+        fault_then p f (Late (lines_to p + 1) later) (Late (lines_to p + 1) ((later >>= more_caps) >>= k)) (later ≡ Err f) (((later >>= more_caps) >>= k) ≡ Err f)
+            (λ x. late_caps (lines_to p + 1) later more_caps k x (λ c. caps_late k reads m (done ++ c.0 ∷ []) c.1))
+            (λ x. ap (λ l. (l >>= more_caps) >>= k) x) h.1,
+      )
 
   -- where a line is left
-  caps_step : {B : Type 0} (k : List Cap × Place → Read B) → WantsLine k → Follows k → (n m : ℕ) → CapsKeep k n m → CapsKeep k (suc n) (suc m)
+  caps_step : {B : Type 0} (k : List Cap × Place → Read B) → ReadsLine k → WantsLine k → Follows k → (n m : ℕ) → CapsKeep k n m → CapsKeep k (suc n) (suc m)
   unfolding caps_at
-  caps_step k wants follows n m again done p low high = by_line (split_once 10 p.rest) refl (is_cut p.rest more)
+  caps_step k reads wants follows n m again done p low high = by_line (split_once 10 p.rest) refl (is_cut p.rest more)
     where
       found : Bool → Read (List Cap)
       found b = cond b (cap_at p >>= λ c. caps_at (done ++ c.0 ∷ []) n c.1) (Ok (done, p))
@@ -227,22 +248,22 @@ module _ (more : List ℕ) where
       found_later b = cond b (cap_at (behind p more) >>= λ c. caps_at (done ++ c.0 ∷ []) m c.1) (Ok (done, behind p more))
 
       by_word : (b : Bool) → Keeps p more (found b >>= k) (found_later b >>= k)
-      by_word true = cap_and k n m again done p low high (cap_at p) (cap_at (behind p more)) refl (cap p)
+      by_word true = cap_and k reads n m again done p low high (cap_at p) (cap_at (behind p more)) refl (cap p)
       by_word false = follows done p
 
       by_line : (o : Option Parts) → split_once 10 p.rest ≡ o → IsCut p.rest more o
           → Keeps p more (found (line_begins (codes "cap") (option_map (λ x. x.0) o)) >>= k) (found_later (line_begins (codes "cap") (option_map (λ x. x.0) (split_once 10 (p.rest ++ more)))) >>= k)
-      by_line None e h = wants done p e _
+      by_line None e h = wants done p e (caps_at done (suc m) (behind p more) >>= k) (caps_late k reads (suc m) done (behind p more))
       by_line (Some parts) e h = rw h.0 (by_word (line_begins (codes "cap") (Some parts.0)))
 
-  caps : {B : Type 0} (k : List Cap × Place → Read B) → WantsLine k → Follows k → (n m : ℕ) → CapsKeep k n m
+  caps : {B : Type 0} (k : List Cap × Place → Read B) → ReadsLine k → WantsLine k → Follows k → (n m : ℕ) → CapsKeep k n m
   unfolding caps_at
-  caps k wants follows zero m done p low high = wants done p (empty p.rest low) (caps_at done m (behind p more) >>= k)
-  caps k wants follows (suc n) zero done p low high =
+  caps k reads wants follows zero m done p low high = wants done p (empty p.rest low) (caps_at done m (behind p more) >>= k) (caps_late k reads m done (behind p more))
+  caps k reads wants follows (suc n) zero done p low high =
       let none : split_once 10 p.rest ≡ None = empty p.rest (omega (arith, high, length-append p.rest more)) in
       subst (λ o. Keeps p more (cond (line_begins (codes "cap") (option_map (λ x. x.0) o)) (cap_at p >>= λ c. caps_at (done ++ c.0 ∷ []) n c.1) (Ok (done, p)) >>= k) (Ok (done, behind p more) >>= k)) (sym none)
-      (wants done p none (Ok (done, behind p more) >>= k))
-  caps k wants follows (suc n) (suc m) done p low high = caps_step k wants follows n m (caps k wants follows n m) done p low high
+      (wants done p none (Ok (done, behind p more) >>= k) (reads done (behind p more)))
+  caps k reads wants follows (suc n) (suc m) done p low high = caps_step k reads wants follows n m (caps k reads wants follows n m) done p low high
 
   -- ---- the report
 
@@ -258,46 +279,53 @@ module _ (more : List ℕ) where
   unfolding node_at
   node_missing p e = rw e refl
 
+  node_late : (p : Place) → Late (p.line + 1) (node_at 8 p)
+  unfolding node_at
+  node_late p =
+      late_then (p.line + 1) (line_at p) _ (line_late p)
+      (λ l. (either l.1 more (has_word 0 (codes "split") (fields l.0)) (split_from (node_at 7) (fields l.0) l.1) (leaf_from (fields l.0) l.1) (split_from (node_at 7) (fields l.0) (behind l.1 more))
+      (leaf_from (fields l.0) (behind l.1 more))
+      (split (node_at 7) (node 7) (fields l.0) l.1) (leaf (fields l.0) l.1)).0)
+
+  reads_line : ReadsLine behind_caps
+  reads_line cs q = late_then (q.line + 1) (node_at 8 q) (λ t. Ok ((cs, t.0), t.1)) (node_late q) (λ t. omega arith)
+
   wants_line : WantsLine behind_caps
-  wants_line cs q e later =
+  wants_line cs q e later late =
       let missing = line_missing q e (is_cut q.rest more) in
-      rw (node_missing q missing.0) (inl (refl, omega (arith, missing.1)))
+      let last : q.line + 1 ≡ lines_to q + 1 = omega (arith, missing.1) in
+      rw (node_missing q missing.0) (omega arith, inl (refl, (last, subst (λ (n : ℕ). Late n later) last late)))
 
   proof : Steady proof_at
   unfolding proof_at
   proof p =
-      caps behind_caps wants_line (λ cs q. then q more (node_at 8 q) (node_at 8 (behind q more)) _ (node 8 q) (λ t s. here s more (cs, t)))
+      caps behind_caps reads_line wants_line (λ cs q. then q more (node_at 8 q) (node_at 8 (behind q more)) _ (node 8 q) (λ t s. here s more (cs, t)))
       (length p.rest) (length (p.rest ++ more)) [] p (omega arith) (omega arith)
 
-  ending : (p : Place) → Ends p (ended p) (ended (behind p more))
-  ending p = by_test (length p.rest == 0) refl
+  ended_at : (bs : List ℕ) (line : ℕ) → Ends (record { rest = bs; line = line }) more (ended (record { rest = bs; line = line })) (ended (record { rest = bs ++ more; line = line }))
+  ended_at [] line = let z : line + 0 ≡ line = omega arith in (tt, rw z refl)
+  ended_at (b ∷ bs) line =
+      let some : (length (b ∷ bs) == 0) ≡ false = filled (length (b ∷ bs)) (omega arith) in
+      let more_some : (length ((b ∷ bs) ++ more) == 0) ≡ false = filled (length ((b ∷ bs) ++ more)) (omega arith) in
+      rw (some, more_some) (omega arith, inr ((λ e. omega (arith, e)), ((λ other. absurd (other refl)), refl)))
     where
-      longer : (n m : ℕ) → (n == 0) ≡ false → n ≤ m → (m == 0) ≡ false
-      longer n m e h = grind (arith, nat_tests)
+      filled : (n : ℕ) → 1 ≤ n → (n == 0) ≡ false
+      filled n h = grind (arith, nat_tests)
 
-      nine : Result (Unit {0}) ReportFault
-      nine = Err (record { line = p.line + 1; reason = 9 })
-
-      by_test : (b : Bool) → (length p.rest == 0) ≡ b → Ends p (cond b (Ok tt) nine) (cond (length (p.rest ++ more) == 0) (Ok tt) nine)
-      by_test true e = tt
-      by_test false e =
-          let k : (length (p.rest ++ more) == 0) ≡ false = longer (length p.rest) (length (p.rest ++ more)) e (omega (arith, length-append p.rest more)) in
-          rw k (inr ((λ e. omega (arith, e)), refl))
-
-  last_line : (p : Place) → Ends p (end_of p) (end_of (behind p more))
+  last_line : (p : Place) → Ends p more (end_of p) (end_of (behind p more))
   unfolding end_of
-  last_line p = then_ends p more (word_line_at (codes "end") p) (word_line_at (codes "end") (behind p more)) (λ e. ended e.1) (word_line (codes "end") p) (λ x q. ending q)
+  last_line p = then_ends p more (word_line_at (codes "end") p) (word_line_at (codes "end") (behind p more)) (λ e. ended e.1) (word_line (codes "end") p) (λ x q. ended_at q.rest q.line)
 
-  tail : (p : Place) → Ends p (tail_of p) (tail_of (behind p more))
+  tail : (p : Place) → Ends p more (tail_of p) (tail_of (behind p more))
   unfolding tail_of
   tail p =
       then_ends p more (fraction_at (codes "upper") p) (fraction_at (codes "upper") (behind p more)) _ (fraction (codes "upper") p)
       (λ u q. then_ends q more (verdict_at q) (verdict_at (behind q more)) _ (verdict q)
-      (λ v s. ends_as s (end_of s) (end_of (behind s more)) (λ e. (u, v)) (last_line s)))
+      (λ v s. ends_as s more (end_of s) (end_of (behind s more)) (λ e. (u, v)) (last_line s)))
 
-  pub report : (bytes : List ℕ) → Ends (start bytes) (report_of bytes) (report_of (bytes ++ more))
+  pub report : (bytes : List ℕ) → Ends (start bytes) more (report_of bytes) (report_of (bytes ++ more))
   unfolding report_of
   report bytes =
       then_ends (start bytes) more (head_at (start bytes)) (head_at (start (bytes ++ more))) _ (head (start bytes))
       (λ h q. then_ends q more (proof_at q) (proof_at (behind q more)) _ (proof q)
-      (λ t s. ends_as s (tail_of s) (tail_of (behind s more)) (λ e. record { tickets = h.0; value = h.1; caps = t.0; tree = t.1; upper = e.0; ending = e.1 }) (tail s)))
+      (λ t s. ends_as s more (tail_of s) (tail_of (behind s more)) (λ e. record { tickets = h.0; value = h.1; caps = t.0; tree = t.1; upper = e.0; ending = e.1 }) (tail s)))

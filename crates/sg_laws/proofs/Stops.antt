@@ -1,9 +1,9 @@
 -- The row on the line that each test of a report names.
-use Rattle.std.proofs.Common.{◌≡◌, ℕ, ◌+◌, Bool, true, false, cond, List, [], ◌∷◌, ◌++◌, length, map, refl, sym, ap, ◌∙◌, arith, length-append, Option, Some, None}
-use Rattle.std.specs.Prelude.{codes, All}
+use Rattle.std.proofs.Common.{◌≡◌, ℕ, ◌+◌, Bool, true, false, cond, List, [], ◌∷◌, ◌++◌, length, map, refl, sym, ap, ◌∙◌, arith, length-append, append_assoc, subst, Option, Some, None}
+use Rattle.std.specs.Prelude.{codes, All, Contains}
 use Rattle.std.specs.List.{flat_map}
 use Rattle.std.proofs.lemmas.List.{length-map}
-use Rattle.std.proofs.lemmas.List.Elements.{All-nil, All-cons, All-append}
+use Rattle.std.proofs.lemmas.List.Elements.{All-nil, All-cons, All-append, Contains-append_right}
 use Rattle.sg_model.specs.declared.ticket.Ticket.{Ticket}
 use Rattle.sg_model.specs.Sums.{nth}
 use Rattle.sg_model.specs.Games.{Game}
@@ -12,7 +12,7 @@ use Rattle.sg_tree.specs.declared.fact.Fact.{Fact}
 use Rattle.sg_tree.specs.declared.fact.Fact.TheVariants.{Plays, Cover, Water}
 use Rattle.sg_tree.specs.declared.report.Cap.{Cap}
 use Rattle.sg_tree.specs.declared.report.Report.{Report}
-use Rattle.sg_cert.specs.Text.{Row, base_rows, cap_row, cap_rows, claim_rows, fact_rows, fraction_row, head_rows, node_rows, report_rows, split_row, tail_rows, ticket_row, verdict_row}
+use Rattle.sg_cert.specs.Text.{Row, base_rows, cap_row, cap_rows, fact_rows, fraction_row, head_rows, node_rows, report_rows, split_row, tail_rows, ticket_row, verdict_row}
 use Rattle.sg_bounds.specs.Regions.{alone, prefix}
 use Rattle.sg_bounds.specs.Trees.{Node, unproved, closed, split, Parts, end, part, node_of, part_count}
 use Rattle.sg_bounds.specs.Checking.{Stop, base_lines, base_stops, bound_stops, bounded, cap_stops, cap_within, capped, caps_end, caps_stops, end_stops, fact_lines, fact_stops, forks, holds, judged, legal, leveled, lowest, part_stops, proof_lines, proof_stops, root_line, root_stops, rooted, sized, stops_of, ticket_stops, topped, totalled, tree_lines, tree_stops, upper_line, value_fits, value_line, value_stops, valued, weights_fit}
@@ -20,16 +20,20 @@ use Rattle.sg_laws.specs.Stops.{IsRowOf, first_row, total_row}
 use Rattle.sg_laws.proofs.Rows.{StandsAt, all_at, first_at, left_at, right_at, same_at}
 use Rattle.sg_laws.proofs.Nodes.{base_count, caps_count, fact_count, part_rows, proof_count, rows_are, rows_of, tree_count}
 
+-- an item among others
+among : {X : Type 0} (before : List X) (x : X) (xs : List X) → Contains (before ++ x ∷ xs) x
+among before x xs = Contains-append_right before (x ∷ xs) x (0, omega arith, refl)
+
 module _ (r : Report) (rows : List Row) where
   abbrev Good : Stop → Type 0
   Good s = IsRowOf r s.test (nth rows s.line [])
 
-  tickets : (line : ℕ) (ts : List Ticket) → StandsAt rows line (map ticket_row ts) → All Good (ticket_stops line ts)
-  tickets line [] h = All-nil Good
-  tickets line (x ∷ xs) h =
+  tickets : (line : ℕ) (before ts : List Ticket) → before ++ ts ≡ r.tickets.tickets → StandsAt rows line (map ticket_row ts) → All Good (ticket_stops line ts)
+  tickets line before [] e h = All-nil Good
+  tickets line before (x ∷ xs) e h =
       All-cons Good (record { line = line; reason = 1; test = legal x.play.code }) (ticket_stops (line + 1) xs)
-      (x, refl, first_at rows line (ticket_row x) (map ticket_row xs) h)
-      (tickets (line + 1) xs (right_at rows line (line + 1) (ticket_row x ∷ []) (map ticket_row xs) refl h))
+      (x, subst (λ (ts : List Ticket). Contains ts x) e (among before x xs), refl, first_at rows line (ticket_row x) (map ticket_row xs) h)
+      (tickets (line + 1) (before ++ x ∷ []) xs (append_assoc before (x ∷ []) xs ∙ e) (right_at rows line (line + 1) (ticket_row x ∷ []) (map ticket_row xs) refl h))
 
   -- ---- facts and caps
 
@@ -48,21 +52,22 @@ module _ (r : Report) (rows : List Row) where
       let inequalities : Stop = record { line = line; reason = 6; test = holds (alone l a) f } in
       All-cons Good (record { line = line; reason = 9; test = sized (alone l a) f }) (inequalities ∷ more) first (All-cons Good inequalities more first rest)
 
-  one_cap : (l line : ℕ) (c : Cap) → StandsAt rows line (cap_rows c) → All Good (cap_stops l line c)
-  one_cap l line c h =
+  one_cap : (l line : ℕ) (c : Cap) → Contains r.caps c → StandsAt rows line (cap_rows c) → All Good (cap_stops l line c)
+  one_cap l line c is h =
       let first = first_at rows line (cap_row c) (flat_map fact_rows c.proof) h in
       let facts = proof_stops l 1 (line + 1) c.proof in
       let last : Stop = record { line = line; reason = 4; test = cap_within l c.v c.proof } in
-      All-cons Good (record { line = line; reason = 4; test = capped l c }) (facts ++ last ∷ []) first
+      All-cons Good (record { line = line; reason = 4; test = capped l c }) (facts ++ last ∷ []) (is, first)
       (All-append Good facts (last ∷ []) (proof_facts l 1 (line + 1) c.proof (right_at rows line (line + 1) (cap_row c ∷ []) (flat_map fact_rows c.proof) refl h))
-      (All-cons Good last [] (c, refl, refl, first) (All-nil Good)))
+      (All-cons Good last [] (c, is, refl, refl, first) (All-nil Good)))
 
-  caps : (l line : ℕ) (cs : List Cap) → StandsAt rows line (flat_map cap_rows cs) → All Good (caps_stops l line cs)
-  caps l line [] h = All-nil Good
-  caps l line (c ∷ cs) h =
+  caps : (l line : ℕ) (before cs : List Cap) → before ++ cs ≡ r.caps → StandsAt rows line (flat_map cap_rows cs) → All Good (caps_stops l line cs)
+  caps l line before [] e h = All-nil Good
+  caps l line before (c ∷ cs) e h =
       let next = line + 1 + proof_lines c.proof in
-      All-append Good (cap_stops l line c) (caps_stops (l + 1) next cs) (one_cap l line c (left_at rows line (cap_rows c) (flat_map cap_rows cs) h))
-      (caps (l + 1) next cs (right_at rows line next (cap_rows c) (flat_map cap_rows cs) (omega (arith, proof_count c.proof)) h))
+      let is : Contains r.caps c = subst (λ (ds : List Cap). Contains ds c) e (among before c cs) in
+      All-append Good (cap_stops l line c) (caps_stops (l + 1) next cs) (one_cap l line c is (left_at rows line (cap_rows c) (flat_map cap_rows cs) h))
+      (caps (l + 1) next (before ++ c ∷ []) cs (append_assoc before (c ∷ []) cs ∙ e) (right_at rows line next (cap_rows c) (flat_map cap_rows cs) (omega (arith, proof_count c.proof)) h))
 
   -- ---- the tree
 
@@ -152,10 +157,10 @@ stop_lines g r =
     let s7 : Stop = record { line = upper_line r + 1; reason = 8; test = judged } in
     let values = All-cons good s1 (s2 ∷ s3 ∷ s4 ∷ s5 ∷ []) total_is (All-cons good s2 (s3 ∷ s4 ∷ s5 ∷ []) total_is (All-cons good s3 (s4 ∷ s5 ∷ []) total_is (All-cons good s4 (s5 ∷ []) value_is (All-cons good s5 [] value_is (All-nil good))))) in
     let each = caps_stops 2 (value_line r + 1) r.caps in
-    let bounds = All-append good each (missing ∷ []) (caps r rows 2 (value_line r + 1) r.caps (left_at rows (value_line r + 1) of_caps (of_tree ++ ends) at_caps)) (All-cons good missing [] root_is (All-nil good)) in
+    let bounds = All-append good each (missing ∷ []) (caps r rows 2 (value_line r + 1) [] r.caps refl (left_at rows (value_line r + 1) of_caps (of_tree ++ ends) at_caps)) (All-cons good missing [] root_is (All-nil good)) in
     let last = All-cons good s6 (s7 ∷ []) upper_is (All-cons good s7 [] verdict_is (All-nil good)) in
     let roots = root_stops g (root_line r) t in
-    All-append good (ticket_stops 3 k) (value_stops r ++ (bound_stops r ++ (roots ++ end_stops r))) (tickets r rows 3 k (left_at rows 3 (map ticket_row k) (value ∷ []) at_tickets))
+    All-append good (ticket_stops 3 k) (value_stops r ++ (bound_stops r ++ (roots ++ end_stops r))) (tickets r rows 3 [] k refl (left_at rows 3 (map ticket_row k) (value ∷ []) at_tickets))
     (All-append good (value_stops r) (bound_stops r ++ (roots ++ end_stops r)) values
     (All-append good (bound_stops r) (roots ++ end_stops r) bounds
     (All-append good roots (end_stops r) (root r rows g (root_line r) t node root_is) last)))

@@ -1,10 +1,9 @@
 -- What stands in a report's text at the line that each test of the report names.
-use Rattle.std.specs.Prelude.{◌≡◌, ℕ, List, [], ◌∷◌, length, All, codes, decimal}
+use Rattle.std.specs.Prelude.{◌≡◌, List, [], ◌∷◌, length, All, Contains, codes, decimal}
 use Rattle.std.specs.Fmt.{signed_decimal}
 use Rattle.sg_model.specs.declared.ticket.Ticket.{Ticket}
 use Rattle.sg_model.specs.Sums.{nth}
 use Rattle.sg_model.specs.Games.{Game}
-use Rattle.sg_tree.specs.declared.fact.Fact.{Fact}
 use Rattle.sg_tree.specs.declared.report.Cap.{Cap}
 use Rattle.sg_tree.specs.declared.report.Report.{Report}
 use Rattle.sg_cert.specs.Text.{Row, ticket_row, fact_rows, cap_row, fraction_row, node_rows, report_rows, split_row, verdict_row}
@@ -18,16 +17,16 @@ first_row rows = nth rows 1 []
 abbrev pub total_row : Report → Row
 total_row r = codes "tickets" ∷ decimal (length r.tickets.tickets) ∷ signed_decimal r.tickets.total ∷ []
 
--- what a row is where a test names its line
+-- what the row is on the line that a test names
 abbrev pub IsRowOf : Report → Test → Row → Type 0
-IsRowOf r (legal play) row = (t : Ticket) × (t.play.code ≡ play) × (row ≡ ticket_row t)
+IsRowOf r (legal play) row = (t : Ticket) × Contains r.tickets.tickets t × (t.play.code ≡ play) × (row ≡ ticket_row t)
 IsRowOf r weights_fit row = row ≡ total_row r
 IsRowOf r totalled row = row ≡ total_row r
 IsRowOf r lowest row = row ≡ total_row r
 IsRowOf r value_fits row = row ≡ fraction_row (codes "value") r.value
 IsRowOf r valued row = row ≡ fraction_row (codes "value") r.value
-IsRowOf r (capped l c) row = row ≡ cap_row c
-IsRowOf r (cap_within l v fs) row = (c : Cap) × (c.v ≡ v) × (c.proof ≡ fs) × (row ≡ cap_row c)
+IsRowOf r (capped l c) row = Contains r.caps c × (row ≡ cap_row c)
+IsRowOf r (cap_within l v fs) row = (c : Cap) × Contains r.caps c × (c.v ≡ v) × (c.proof ≡ fs) × (row ≡ cap_row c)
 IsRowOf r caps_end row = row ≡ first_row (node_rows r.tree)
 IsRowOf r rooted row = row ≡ first_row (node_rows r.tree)
 IsRowOf r leveled row = row ≡ first_row (node_rows r.tree)

@@ -6,5 +6,7 @@
 mod fault_laws;
 mod stop_laws;
 
-pub use fault_laws::{early_end, fault_stays};
+pub use fault_laws::{
+    early_end, fault_of_its_line, fault_stays, lines_before, nothing_behind, other_first_line,
+};
 pub use stop_laws::stop_lines;
