@@ -4,7 +4,9 @@
 #![tactic(auto)]
 
 mod fault_laws;
+mod play_laws;
 mod stop_laws;
 
 pub use fault_laws::{early_end, fault_stays};
+pub use play_laws::{plays_are_counted, plays_are_listed};
 pub use stop_laws::stop_lines;
