@@ -6,3 +6,4 @@ pub mod Cuts
 pub mod Steady
 pub mod Readers
 pub mod Faults
+pub mod Plays

@@ -1,2 +1,3 @@
 pub mod Stops
 pub mod Faults
+pub mod Plays
