@@ -3,8 +3,8 @@
 
     tools/mutate.py [CASES] [SEED]
 
-Each run must end within ten seconds with status 0, 3 or 6. With 0 the report must have the bound for its value, counted again here with Python's
-fractions; with 3 and 6 standard output must be empty and standard error the line of that status. Not part of the gate: it needs
+Each run must end within ten seconds with status 0, 3 or 6. With 0 the report must be accepted by `report_checker.py`, which shares no code
+with the program; with 3 and 6 standard output must be empty and standard error the line of that status. Not part of the gate: it needs
 crates/patrol/out/patrol, as .ci/run leaves it.
 """
 import os
@@ -13,8 +13,8 @@ import re
 import subprocess
 import sys
 import tempfile
-import tomllib
-from fractions import Fraction
+
+from report_checker import Game, answer
 
 TOP = os.path.dirname(os.path.dirname(os.path.abspath(__file__)))
 PROGRAM = os.path.join(TOP, "crates", "patrol", "out", "patrol")
@@ -43,18 +43,9 @@ def mutated(draw, text):
 
 
 def is_right(text, report):
-    """Whether the report's value is that of its tickets, ties to the defender, and is its upper bound."""
-    game = tomllib.loads(text.decode())
-    rows = game["type"][0]["payoffs"]
-    lines = [line.split() for line in report.decode().splitlines()]
-    plays = [(int(weight), int(choice)) for word, weight, choice in (it for it in lines if it[0] == "t")]
-    total = sum(weight for weight, _ in plays)
-    covered = [Fraction(sum(weight for weight, choice in plays if choice == t + 1), total) for t in range(len(rows))]
-    pays = [(u * (1 - c) + k * c, d * (1 - c) + e * c) for (e, d, k, u), c in zip(rows, covered)]
-    most = max(pay for pay, _ in pays)
-    value = max(gain for pay, gain in pays if pay == most)
-    stated = [Fraction(int(it[1]), int(it[2])) for it in lines if it[0] in ("value", "upper")]
-    return stated == [value, value] and lines[-1] == ["end"]
+    """Whether another checker accepts the report, whose bounds meet."""
+    status, _, _ = answer(Game(text.decode()), report)
+    return status == 0
 
 
 def fault_of(text, ran):
