@@ -12,6 +12,8 @@ import subprocess
 import sys
 import tempfile
 
+from report_cases import INSPECTION, SMALL
+
 TOP = os.path.dirname(os.path.dirname(os.path.abspath(__file__)))
 PROGRAM = os.path.join(TOP, "crates", "patrol", "out", "patrol")
 REFUSING = r"""
@@ -58,32 +60,6 @@ int posix_memalign(void **block, size_t alignment, size_t size) {
     return is_refused() ? ENOMEM : real(block, alignment, size);
 }
 """
-GAME = """version = 1
-form = "matrix"
-rows = ["A", "B"]
-
-[[type]]
-name = "thief"
-prior = 1
-actions = ["x", "y"]
-leader = [[2, 4], [1, 3]]
-follower = [[1, 0], [0, 2]]
-"""
-REPORT = """patrol-report 1
-tickets 2 3
-t 2 1
-t 1 2
-value 11 3
-split 1 2
-open
-plays 1 2 0
-plays 3 11 1
-m 1 1 1
-upper 11 3
-verdict optimal
-end
-"""
-
 
 def ran(library, number, words):
     """The status and both outputs with the request of this number refused; 0: none is."""
@@ -112,7 +88,7 @@ def main():
             file.write(REFUSING)
         subprocess.run(["cc", "-O1", "-shared", "-fPIC", "-o", library, source, "-ldl"], check=True)
         game, report, wrong = (os.path.join(work, it) for it in ("game.toml", "report", "wrong"))
-        for path, text in ((game, GAME), (report, REPORT), (wrong, REPORT.replace("value 11 3", "value 4 1"))):
+        for path, text in ((game, INSPECTION), (report, SMALL), (wrong, SMALL.replace("value 11 3", "value 4 1"))):
             with open(path, "w") as file:
                 file.write(text)
         airport = os.path.join(TOP, "examples", "airport.toml")
