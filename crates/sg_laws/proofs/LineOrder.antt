@@ -1,0 +1,269 @@
+-- Each kind of line gives the reason of the first of its tests that fails.
+use Rattle.std.proofs.Common.{◌≡◌, ℕ, suc, ◌-◌, ◌^◌, Bool, true, false, not, cond, List, [], ◌∷◌, length, Option, Some, None, Result, Ok, Err, refl, sym, ap, ◌∙◌, arith}
+use Rattle.std.specs.Prelude.{ℤ, pos, negsuc, codes, nat_le, ◌&&◌, bytes_eq, unsigned_abs}
+use Rattle.std.proofs.lemmas.Bool.Decides.{nat_tests}
+use Rattle.sg_frac.specs.Fractions.{Fraction}
+use Rattle.sg_tree.specs.declared.fact.Mark.{Mark}
+use Rattle.sg_tree.specs.declared.fact.Line.{Line}
+use Rattle.sg_num.specs.Exact.{fits}
+use Rattle.sg_cert.specs.Fields.{count_is, fields, is_number_text, natural_next, natural_of, shaped_if, spelled_of, value_of, whole_next, whole_of, words_of, ◌>>=◌}
+use Rattle.sg_cert.specs.LineReading.{counts_of, fraction_next, fraction_of, header_of, highest, in_order, lowest, mark_of, reduced_of, row_of, shares, split_of}
+use Rattle.sg_laws.specs.LineTests.{CountsInOrder, FractionInOrder, HeaderInOrder, LinesInOrder, MarkInOrder, RowInOrder, Slot, SplitInOrder, counts_slots, each, fixed, fraction_slots, header_slots, is_lowest, is_ranged, is_spelled, is_there, mark_slots, number, row_slots, split_slots, within}
+
+-- ---- the words of a line, and what should stand in it
+
+-- the words name what is fixed, and all behind them are numbers
+abbrev pub Matches : List (List ℕ) → List Slot → Type 0
+Matches [] [] = Unit {0}
+Matches [] (number low high ∷ ss) = Matches [] ss
+Matches [] (fixed v ∷ ss) = false ≡ true
+Matches (w ∷ ws) [] = false ≡ true
+Matches (w ∷ ws) (number low high ∷ ss) = (bytes_eq w (codes "#") ≡ true) × Matches ws ss
+Matches (w ∷ ws) (fixed v ∷ ss) = (w ≡ v) × (bytes_eq w (codes "#") ≡ false) × Matches ws ss
+
+no_fields : (test : Slot → List ℕ → Bool) (ss : List Slot) → each test ss [] ≡ true
+no_fields test [] = refl
+no_fields test (s ∷ ss) = refl
+
+numbers_there : (ss : List Slot) (fs : List (List ℕ)) → Matches [] ss → each is_there ss fs ≡ true
+numbers_there [] fs m = refl
+numbers_there (s ∷ ss) [] m = refl
+numbers_there (number low high ∷ ss) (f ∷ fs) m = numbers_there ss fs m
+numbers_there (fixed v ∷ ss) (f ∷ fs) m = absurd (let w : false ≡ true = m in cc)
+
+abbrev then_four : Unit {0} → Result (Unit {0}) ℕ
+then_four x = Err 4
+
+end_step : (b : Bool) (r : Result (Unit {0}) ℕ) → (r >>= then_four) ≡ Err 4 → ((cond b (Ok tt) (Err 4) >>= (λ (_ : Unit {0}). r)) >>= then_four) ≡ Err 4
+end_step true r h = h
+end_step false r h = refl
+
+short_step : (b c : Bool) (r : Result (Unit {0}) ℕ) → (r >>= then_four) ≡ cond c (Err 4) (Err 3) → ((cond b (Ok tt) (Err 3) >>= (λ (_ : Unit {0}). r)) >>= then_four) ≡ cond (b && c) (Err 4) (Err 3)
+short_step true c r h = h
+short_step false c r h = refl
+
+long_step : (b c : Bool) (r : Result (Unit {0}) ℕ) → r ≡ cond c (Ok tt) (Err 3) → (cond b (Ok tt) (Err 3) >>= (λ (_ : Unit {0}). r)) ≡ cond (b && c) (Ok tt) (Err 3)
+long_step true c r h = h
+long_step false c r h = refl
+
+-- past the end no word is wrong
+words_end : (ws : List (List ℕ)) → (words_of ws [] >>= then_four) ≡ Err 4
+unfolding words_of
+words_end [] = refl
+words_end (w ∷ ws) = end_step (bytes_eq w (codes "#")) (words_of ws []) (words_end ws)
+
+-- the fixed words, where the count of fields is wrong
+words_short : (ws : List (List ℕ)) (ss : List Slot) (fs : List (List ℕ)) → Matches ws ss → (words_of ws fs >>= then_four) ≡ cond (each is_there ss fs) (Err 4) (Err 3)
+unfolding words_of
+words_short [] ss fs m = rw (numbers_there ss fs m) refl
+words_short (w ∷ ws) [] fs m = absurd (let c : false ≡ true = m in cc)
+words_short (w ∷ ws) (s ∷ ss) [] m = words_end (w ∷ ws)
+words_short (w ∷ ws) (number low high ∷ ss) (f ∷ fs) m = rw (m.0) (words_short ws ss fs m.1)
+words_short (w ∷ ws) (fixed v ∷ ss) (f ∷ fs) m = rw (m.1, sym m.0) (short_step (bytes_eq w f) (each is_there ss fs) (words_of ws fs) (words_short ws ss fs m.2))
+
+-- the fixed words, where there are as many fields as should be
+words_long : (ws : List (List ℕ)) (ss : List Slot) (fs : List (List ℕ)) → Matches ws ss → length fs ≡ length ss → words_of ws fs ≡ cond (each is_there ss fs) (Ok tt) (Err 3)
+unfolding words_of
+words_long [] ss fs m e = rw (numbers_there ss fs m) refl
+words_long (w ∷ ws) [] fs m e = absurd (let c : false ≡ true = m in cc)
+words_long (w ∷ ws) (s ∷ ss) [] m e = absurd (omega (arith, e))
+words_long (w ∷ ws) (number low high ∷ ss) (f ∷ fs) m e = rw (m.0) (words_long ws ss fs m.1 (omega (arith, e)))
+words_long (w ∷ ws) (fixed v ∷ ss) (f ∷ fs) m e = rw (m.1, sym m.0) (long_step (bytes_eq w f) (each is_there ss fs) (words_of ws fs) (words_long ws ss fs m.2 (omega (arith, e))))
+
+-- the spelling of the numbers
+spelled_long : (ws : List (List ℕ)) (ss : List Slot) (fs : List (List ℕ)) → Matches ws ss → length fs ≡ length ss → spelled_of ws fs ≡ each is_spelled ss fs
+unfolding spelled_of
+spelled_long ws [] [] m e = refl
+spelled_long ws (s ∷ ss) [] m e = refl
+spelled_long ws [] (f ∷ fs) m e = absurd (omega (arith, e))
+spelled_long [] (number low high ∷ ss) (f ∷ fs) m e = ap (λ (b : Bool). is_number_text f && b) (spelled_long [] ss fs m (omega (arith, e)))
+spelled_long [] (fixed v ∷ ss) (f ∷ fs) m e = absurd (let c : false ≡ true = m in cc)
+spelled_long (w ∷ ws) (number low high ∷ ss) (f ∷ fs) m e = rw (m.0) (ap (λ (b : Bool). is_number_text f && b) (spelled_long ws ss fs m.1 (omega (arith, e))))
+spelled_long (w ∷ ws) (fixed v ∷ ss) (f ∷ fs) m e = rw (m.1) (spelled_long ws ss fs m.2 (omega (arith, e)))
+
+-- ---- the shape of a line, and what is asked besides
+
+-- a wrong count
+short_as : (ws : List ℕ) (ss : List Slot) (fs : List (List ℕ)) → Matches (fields ws) ss → shaped_if false ws fs ≡ cond (each is_there ss fs) (Err 4) (Err 3)
+unfolding shaped_if
+short_as ws ss fs m = words_short (fields ws) ss fs m
+
+words_then : (b : Bool) (r : Result (Unit {0}) ℕ) → (cond b (Ok tt) (Err 3) >>= (λ (_ : Unit {0}). r)) ≡ cond b r (Err 3)
+words_then true r = refl
+words_then false r = refl
+
+-- the right count
+long_as : (ws : List ℕ) (ss : List Slot) (fs : List (List ℕ)) → Matches (fields ws) ss → length fs ≡ length ss
+    → shaped_if true ws fs ≡ cond (each is_there ss fs) (cond (each is_spelled ss fs) (Ok tt) (Err 5)) (Err 3)
+unfolding shaped_if
+long_as ws ss fs m e = rw (words_long (fields ws) ss fs m e, spelled_long (fields ws) ss fs m e) (words_then (each is_there ss fs) (cond (each is_spelled ss fs) (Ok tt) (Err 5)))
+
+-- the first four tests of a line, then the rest
+abbrev pub judged : {A : Type 0} → Bool → List Slot → List (List ℕ) → Result A ℕ → Result A ℕ
+judged counted ss fs y = cond (each is_there ss fs) (cond counted (cond (each is_spelled ss fs) (cond (each is_ranged ss fs) y (Err 6)) (Err 5)) (Err 4)) (Err 3)
+
+pub short : {A : Type 0} (counted : Bool) (ws : List ℕ) (ss : List Slot) (fs : List (List ℕ)) (y : Result A ℕ) (k : Unit {0} → Result A ℕ) → Matches (fields ws) ss → counted ≡ false
+    → (shaped_if counted ws fs >>= k) ≡ judged counted ss fs y
+short true ws ss fs y k m c = absurd cc
+short false ws ss fs y k m c = rw (short_as ws ss fs m) (by_words (each is_there ss fs))
+  where
+    by_words : (b : Bool) → (cond b (Err 4) (Err 3) >>= k) ≡ cond b (Err 4) (Err 3)
+    by_words true = refl
+    by_words false = refl
+
+pub long : {A : Type 0} (counted : Bool) (ws : List ℕ) (ss : List Slot) (fs : List (List ℕ)) (y : Result A ℕ) (k : Unit {0} → Result A ℕ) → Matches (fields ws) ss → counted ≡ true
+    → length fs ≡ length ss → k tt ≡ cond (each is_ranged ss fs) y (Err 6) → (shaped_if counted ws fs >>= k) ≡ judged counted ss fs y
+long false ws ss fs y k m c e h = absurd cc
+long true ws ss fs y k m c e h = rw (long_as ws ss fs m e) (by_tests (each is_there ss fs) (each is_spelled ss fs))
+  where
+    by_tests : (b t : Bool) → (cond b (cond t (Ok tt) (Err 5)) (Err 3) >>= k) ≡ cond b (cond t (cond (each is_ranged ss fs) y (Err 6)) (Err 5)) (Err 3)
+    by_tests true true = h
+    by_tests true false = refl
+    by_tests false t = refl
+
+-- ---- the numbers of a line
+
+-- a step of which a test decides, and the steps behind it
+pub next : {A B : Type 0} (r : Result A ℕ) (b : Bool) (x : A) (k : A → Result B ℕ) (c : Bool) (y : Result B ℕ) → r ≡ cond b (Ok x) (Err 6) → k x ≡ cond c y (Err 6)
+    → (r >>= k) ≡ cond (b && c) y (Err 6)
+next r true x k c y e h = rw e h
+next r false x k c y e h = rw e refl
+
+natural_is : (low high : ℕ) (b : Bool) (v : ℤ) → natural_of low high (cond b (Some v) None) ≡ cond (within (pos low) (pos high) (cond b (Some v) None)) (Ok (unsigned_abs v)) (Err 6)
+natural_is low high true (pos n) = refl
+natural_is low high true (negsuc n) = refl
+natural_is low high false v = refl
+
+whole_is : (low high : ℤ) (b : Bool) (v : ℤ) → whole_of low high (cond b (Some v) None) ≡ cond (within low high (cond b (Some v) None)) (Ok v) (Err 6)
+whole_is low high true v = refl
+whole_is low high false v = refl
+
+moved : {A B : Type 0} (b : Bool) (x : A) (rest : B) (e : ℕ) → ◌>>=◌ {B = A × B} (cond b (Ok x) (Err e)) (λ (y : A). Ok (y, rest)) ≡ cond b (Ok (x, rest)) (Err e)
+moved true x rest e = refl
+moved false x rest e = refl
+
+pub natural : (low high : ℕ) (f : List ℕ) (fs : List (List ℕ))
+    → natural_next low high (f ∷ fs) ≡ cond (is_ranged (number (pos low) (pos high)) f) (Ok (unsigned_abs (value_of f), fs)) (Err 6)
+natural low high f fs =
+    rw (natural_is low high (is_number_text f && fits (value_of f)) (value_of f)) (moved (is_ranged (number (pos low) (pos high)) f) (unsigned_abs (value_of f)) fs 6)
+
+pub whole : (low high : ℤ) (f : List ℕ) (fs : List (List ℕ)) → whole_next low high (f ∷ fs) ≡ cond (is_ranged (number low high) f) (Ok (value_of f, fs)) (Err 6)
+whole low high f fs = rw (whole_is low high (is_number_text f && fits (value_of f)) (value_of f)) (moved (is_ranged (number low high) f) (value_of f) fs 6)
+
+-- ---- lists of a length
+
+by_none : (P : List (List ℕ) → Type 0) → P [] → (fs : List (List ℕ)) → length fs ≡ 0 → P fs
+by_none P h [] e = h
+by_none P h (f ∷ fs) e = absurd (omega (arith, e))
+
+by_more : (n : ℕ) (P : List (List ℕ) → Type 0) → ((f : List ℕ) (fs : List (List ℕ)) → length fs ≡ n → P (f ∷ fs)) → (fs : List (List ℕ)) → length fs ≡ suc n → P fs
+by_more n P h [] e = absurd (omega (arith, e))
+by_more n P h (f ∷ fs) e = h f fs (omega (arith, e))
+
+by_three : (P : List (List ℕ) → Type 0) → ((a b c : List ℕ) → P (a ∷ b ∷ c ∷ [])) → (fs : List (List ℕ)) → length fs ≡ 3 → P fs
+by_three P h = by_more 2 P (λ a. by_more 1 (λ fs. P (a ∷ fs)) (λ b. by_more 0 (λ fs. P (a ∷ b ∷ fs)) (λ c. by_none (λ fs. P (a ∷ b ∷ c ∷ fs)) (h a b c))))
+
+by_four : (P : List (List ℕ) → Type 0) → ((a b c d : List ℕ) → P (a ∷ b ∷ c ∷ d ∷ [])) → (fs : List (List ℕ)) → length fs ≡ 4 → P fs
+by_four P h = by_more 3 P (λ a. by_three (λ fs. P (a ∷ fs)) (h a))
+
+counted_is : (n m : ℕ) → (nat_le n m && nat_le m n) ≡ true → m ≡ n
+counted_is n m e = grind (arith, nat_tests)
+
+-- a line of n fields, or of another count
+by_count : (n : ℕ) (P : List (List ℕ) → Type 0) (fs : List (List ℕ)) → (count_is n n fs ≡ false → P fs) → (length fs ≡ n → P fs) → P fs
+by_count n P fs other same = by_test (count_is n n fs) refl
+  where
+    by_test : (b : Bool) → count_is n n fs ≡ b → P fs
+    by_test true e = same (counted_is n (length fs) e)
+    by_test false e = other e
+
+three_or : (P : List (List ℕ) → Type 0) (fs : List (List ℕ)) → (count_is 3 3 fs ≡ false → P fs) → ((a b c : List ℕ) → P (a ∷ b ∷ c ∷ [])) → P fs
+three_or P fs other same = by_count 3 P fs other (by_three P same fs)
+
+four_or : (P : List (List ℕ) → Type 0) (fs : List (List ℕ)) → (count_is 4 4 fs ≡ false → P fs) → ((a b c d : List ℕ) → P (a ∷ b ∷ c ∷ d ∷ [])) → P fs
+four_or P fs other same = by_count 4 P fs other (by_four P same fs)
+
+-- ---- the kinds of lines
+
+ordered : {A : Type 0} (b : Bool) (x : A) → (in_order b >>= (λ (_ : Unit {0}). Ok x)) ≡ cond b (Ok x) (Err 7)
+ordered true x = refl
+ordered false x = refl
+
+mark : (before : Option Mark) (fs : List (List ℕ)) → MarkInOrder before fs
+unfolding mark_of
+mark before fs =
+    four_or (MarkInOrder before) fs (λ e. short (count_is 4 4 fs) (codes "m") mark_slots fs _ _ (refl, refl, tt) e)
+    (λ a b c d. long true (codes "m") mark_slots (a ∷ b ∷ c ∷ d ∷ []) _ _ (refl, refl, tt) refl refl
+    (next _ _ _ _ _ _ (natural 1 8 b (c ∷ d ∷ [])) (next _ _ _ _ _ _ (natural 1 65535 c (d ∷ [])) (next _ _ _ _ _ _ (whole (pos 1) highest d []) (ordered _ _)))))
+
+row : (before : Option Line) (fs : List (List ℕ)) → RowInOrder before fs
+unfolding row_of
+row before fs =
+    three_or (RowInOrder before) fs (λ e. short (count_is 3 3 fs) (codes "c") row_slots fs _ _ (refl, refl, tt) e)
+    (λ a b c. long true (codes "c") row_slots (a ∷ b ∷ c ∷ []) _ _ (refl, refl, tt) refl refl
+    (next _ _ _ _ _ _ (natural 1 1535 b (c ∷ [])) (next _ _ _ _ _ _ (whole (pos 1) highest c []) (ordered _ _))))
+
+counts : (fs : List (List ℕ)) → CountsInOrder fs
+unfolding counts_of
+counts fs =
+    three_or CountsInOrder fs (λ e. short (count_is 3 3 fs) (codes "tickets") counts_slots fs _ _ (refl, refl, tt) e)
+    (λ a b c. long true (codes "tickets") counts_slots (a ∷ b ∷ c ∷ []) _ _ (refl, refl, tt) refl refl
+    (next _ _ _ _ _ _ (natural 1 (2 ^ 127 - 1) b (c ∷ [])) (next _ _ _ _ _ _ (whole lowest highest c []) refl)))
+
+splits : (fs : List (List ℕ)) → SplitInOrder fs
+unfolding split_of
+splits fs =
+    three_or SplitInOrder fs (λ e. short (count_is 3 3 fs) (codes "split") split_slots fs _ _ (refl, refl, tt) e)
+    (λ a b c. long true (codes "split") split_slots (a ∷ b ∷ c ∷ []) _ _ (refl, refl, tt) refl refl
+    (next _ _ _ _ _ _ (natural 1 8 b (c ∷ [])) (next _ _ _ _ _ _ (natural 1 65535 c []) refl)))
+
+header : (word : List ℕ) → Matches (fields word) (header_slots word) → (fs : List (List ℕ)) → HeaderInOrder word fs
+unfolding header_of
+header word m fs =
+    four_or (HeaderInOrder word) fs (λ e. short (count_is 4 4 fs) word (header_slots word) fs _ _ m e)
+    (λ a b c d. long true word (header_slots word) (a ∷ b ∷ c ∷ d ∷ []) _ _ m refl refl
+    (next _ _ _ _ _ _ (whole (pos 1) highest b (c ∷ d ∷ [])) (next _ _ _ _ _ _ (whole (pos 0) highest c (d ∷ [])) (next _ _ _ _ _ _ (natural 0 (2 ^ 127 - 1) d []) refl))))
+
+-- ---- fractions
+
+reduced_is : (num den : ℤ) (fs : List (List ℕ))
+    → ◌>>=◌ {B = Fraction × List (List ℕ)} {E = ℕ} (reduced_of num den) (λ f. Ok (f, fs)) ≡ cond (is_lowest (unsigned_abs num) (unsigned_abs den)) (Ok (record { num = num; den = den }, fs)) (Err 6)
+reduced_is num den fs = by_test (shares (unsigned_abs num) (unsigned_abs den) (unsigned_abs den))
+  where
+    by_test : (b : Bool) → ◌>>=◌ {B = Fraction × List (List ℕ)} {E = ℕ} (cond b (Err 6) (Ok (record { num = num; den = den }))) (λ f. Ok (f, fs)) ≡ cond (not b) (Ok (record { num = num; den = den }, fs)) (Err 6)
+    by_test true = refl
+    by_test false = refl
+
+fractions : (a b : List ℕ) (fs : List (List ℕ))
+    → fraction_next (a ∷ b ∷ fs)
+    ≡ cond (is_ranged (number lowest highest) a && (is_ranged (number (pos 1) highest) b && is_lowest (unsigned_abs (value_of a)) (unsigned_abs (value_of b))))
+    (Ok (record { num = value_of a; den = value_of b }, fs)) (Err 6)
+unfolding fraction_next
+fractions a b fs = next _ _ _ _ _ _ (whole lowest highest a (b ∷ fs)) (next _ _ _ _ _ _ (whole (pos 1) highest b fs) (reduced_is (value_of a) (value_of b) fs))
+
+-- the range of a number behind may be asked first
+later : {A : Type 0} (a b c d : Bool) (y : Result A ℕ) → cond ((a && (b && c)) && d) y (Err 6) ≡ cond (a && (b && d)) (cond c y (Err 6)) (Err 6)
+later true true true d y = refl
+later true true false true y = refl
+later true true false false y = refl
+later true false c d y = refl
+later false b c d y = refl
+
+fraction : (word : List ℕ) → Matches (fields word) (fraction_slots word) → (fs : List (List ℕ)) → FractionInOrder word fs
+unfolding fraction_of
+fraction word m fs =
+    three_or (FractionInOrder word) fs (λ e. short (count_is 3 3 fs) word (fraction_slots word) fs _ _ m e)
+    (λ a b c. long true word (fraction_slots word) (a ∷ b ∷ c ∷ []) _ _ m refl refl
+    (next _ _ _ _ true _ (fractions b c []) refl ∙ later (is_ranged (number lowest highest) b) _ _ true _))
+
+pub lines : LinesInOrder
+lines = record {
+  value = fraction (codes "value") (refl, refl, tt);
+  upper = fraction (codes "upper") (refl, refl, tt);
+  counts = counts;
+  mark = mark;
+  row = row;
+  plays = header (codes "plays") (refl, refl, tt);
+  cover = header (codes "cover") (refl, refl, tt);
+  split = splits;
+}

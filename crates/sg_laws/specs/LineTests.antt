@@ -1,0 +1,135 @@
+-- What stands in each kind of line of a report, and the order of the tests of a line, whatever reads it.
+use Rattle.std.specs.Prelude.{◌≡◌, ℕ, Bool, true, false, not, ◌&&◌, if◌then◌else◌, List, [], ◌∷◌, Option, Some, None, Result, Ok, Err, ℤ, pos, unsigned_abs, bytes_eq, codes, slice_index_or, map, drop, int_le}
+use Rattle.sg_tree.specs.declared.fact.Mark.{Mark}
+use Rattle.sg_tree.specs.declared.fact.Line.{Line}
+use Rattle.sg_cert.specs.Fields.{count_is, fitting, is_number_text, value_of}
+use Rattle.sg_cert.specs.LineReading.{counts_of, follows, fraction_of, header_of, highest, lowest, mark_follows, mark_of, row_follows, row_of, shares, split_of, ticket_of}
+
+-- ---- the tests of a line
+
+-- what stands at one place of a line: a fixed word, or a number from low to high
+pub data Slot : Type 0 where
+  fixed : List ℕ → Slot
+  number : ℤ → ℤ → Slot
+
+-- whether the fields pass a test, each with what should stand in its place
+abbrev pub each : (Slot → List ℕ → Bool) → List Slot → List (List ℕ) → Bool
+each test [] fs = true
+each test (s ∷ ss) [] = true
+each test (s ∷ ss) (f ∷ fs) = test s f && each test ss fs
+
+-- a fixed word is there
+abbrev pub is_there : Slot → List ℕ → Bool
+is_there (fixed w) f = bytes_eq w f
+is_there (number low high) f = true
+
+-- a number is in the one spelling
+abbrev pub is_spelled : Slot → List ℕ → Bool
+is_spelled (fixed w) f = true
+is_spelled (number low high) f = is_number_text f
+
+abbrev pub within : ℤ → ℤ → Option ℤ → Bool
+within low high None = false
+within low high (Some z) = int_le low z && int_le z high
+
+-- a number is in its range
+abbrev pub is_ranged : Slot → List ℕ → Bool
+is_ranged (fixed w) f = true
+is_ranged (number low high) f = within low high (fitting f)
+
+-- the reason of the first test that fails, else the value
+abbrev pub first_of : {A : Type 0} → List (Bool × ℕ) → A → Result A ℕ
+first_of [] x = Ok x
+first_of (test ∷ tests) x = if test.0 then first_of tests x else Err test.1
+
+-- the tests of a line in their order, each with its reason: all fixed words, the count of fields, the spelling of all
+-- numbers, the ranges of all, and what else is asked of it
+abbrev pub tests_of : Bool → List Slot → List (List ℕ) → List (Bool × ℕ) → List (Bool × ℕ)
+tests_of counted slots fs more = (each is_there slots fs, 3) ∷ (counted, 4) ∷ (each is_spelled slots fs, 5) ∷ (each is_ranged slots fs, 6) ∷ more
+
+-- ---- the kinds of lines
+
+-- the number at this place of a line, from 0
+abbrev pub number_at : ℕ → List (List ℕ) → ℤ
+number_at i fs = value_of (slice_index_or fs i [])
+
+abbrev pub natural_at : ℕ → List (List ℕ) → ℕ
+natural_at i fs = unsigned_abs (number_at i fs)
+
+-- numbers from low to high, one for each of these fields
+abbrev pub numbers : ℕ → ℕ → List (List ℕ) → List Slot
+numbers low high fs = map (λ f. number (pos low) (pos high)) fs
+
+-- the numbers that these fields spell
+abbrev pub naturals : List (List ℕ) → List ℕ
+naturals fs = map (λ f. unsigned_abs (value_of f)) fs
+
+-- WORD num den, in lowest terms
+abbrev pub fraction_slots : List ℕ → List Slot
+fraction_slots word = fixed word ∷ number lowest highest ∷ number (pos 1) highest ∷ []
+
+abbrev pub is_lowest : ℕ → ℕ → Bool
+is_lowest num den = not (shares num den den)
+
+abbrev pub FractionInOrder : List ℕ → List (List ℕ) → Type 0
+FractionInOrder word fs = fraction_of word fs ≡
+    first_of (tests_of (count_is 3 3 fs) (fraction_slots word) fs ((is_lowest (natural_at 1 fs) (natural_at 2 fs), 6) ∷ []))
+    (record { num = number_at 1 fs; den = number_at 2 fs })
+
+-- tickets plays total
+abbrev pub counts_slots : List Slot
+counts_slots = fixed (codes "tickets") ∷ number (pos 1) highest ∷ number lowest highest ∷ []
+
+abbrev pub CountsInOrder : List (List ℕ) → Type 0
+CountsInOrder fs = counts_of fs ≡ first_of (tests_of (count_is 3 3 fs) counts_slots fs []) (natural_at 1 fs, number_at 2 fs)
+
+-- t weight and the choices, behind the choices before
+abbrev pub ticket_slots : List (List ℕ) → List Slot
+ticket_slots fs = fixed (codes "t") ∷ number (pos 1) highest ∷ numbers 0 65535 (drop 2 fs)
+
+abbrev pub TicketInOrder : Option (List ℕ) → List (List ℕ) → Type 0
+TicketInOrder before fs = ticket_of before fs ≡
+    first_of (tests_of (count_is 2 202 fs) (ticket_slots fs) fs ((follows before (naturals (drop 2 fs)), 7) ∷ []))
+    (record { play = record { code = naturals (drop 2 fs) }; weight = number_at 1 fs })
+
+-- m l a v, behind the mark before
+abbrev pub mark_slots : List Slot
+mark_slots = fixed (codes "m") ∷ number (pos 1) (pos 8) ∷ number (pos 1) (pos 65535) ∷ number (pos 1) highest ∷ []
+
+abbrev pub MarkInOrder : Option Mark → List (List ℕ) → Type 0
+MarkInOrder before fs = mark_of before fs ≡
+    first_of (tests_of (count_is 4 4 fs) mark_slots fs ((mark_follows before (natural_at 1 fs) (natural_at 2 fs), 7) ∷ []))
+    (record { l = natural_at 1 fs; a = natural_at 2 fs; v = number_at 3 fs })
+
+-- c row v, behind the row before
+abbrev pub row_slots : List Slot
+row_slots = fixed (codes "c") ∷ number (pos 1) (pos 1535) ∷ number (pos 1) highest ∷ []
+
+abbrev pub RowInOrder : Option Line → List (List ℕ) → Type 0
+RowInOrder before fs = row_of before fs ≡
+    first_of (tests_of (count_is 3 3 fs) row_slots fs ((row_follows before (natural_at 1 fs), 7) ∷ [])) (record { row = natural_at 1 fs; v = number_at 2 fs })
+
+-- WORD rho mu k
+abbrev pub header_slots : List ℕ → List Slot
+header_slots word = fixed word ∷ number (pos 1) highest ∷ number (pos 0) highest ∷ number (pos 0) highest ∷ []
+
+abbrev pub HeaderInOrder : List ℕ → List (List ℕ) → Type 0
+HeaderInOrder word fs = header_of word fs ≡ first_of (tests_of (count_is 4 4 fs) (header_slots word) fs []) (number_at 1 fs, number_at 2 fs, natural_at 3 fs)
+
+-- split l n
+abbrev pub split_slots : List Slot
+split_slots = fixed (codes "split") ∷ number (pos 1) (pos 8) ∷ number (pos 1) (pos 65535) ∷ []
+
+abbrev pub SplitInOrder : List (List ℕ) → Type 0
+SplitInOrder fs = split_of fs ≡ first_of (tests_of (count_is 3 3 fs) split_slots fs []) (natural_at 1 fs, natural_at 2 fs)
+
+-- each kind of line gives the reason of the first of its tests that fails, and else its numbers
+pub record LinesInOrder : Type 0 where
+  pub value : (fs : List (List ℕ)) → FractionInOrder (codes "value") fs
+  pub upper : (fs : List (List ℕ)) → FractionInOrder (codes "upper") fs
+  pub counts : (fs : List (List ℕ)) → CountsInOrder fs
+  pub mark : (before : Option Mark) (fs : List (List ℕ)) → MarkInOrder before fs
+  pub row : (before : Option Line) (fs : List (List ℕ)) → RowInOrder before fs
+  pub plays : (fs : List (List ℕ)) → HeaderInOrder (codes "plays") fs
+  pub cover : (fs : List (List ℕ)) → HeaderInOrder (codes "cover") fs
+  pub split : (fs : List (List ℕ)) → SplitInOrder fs
