@@ -1,14 +1,15 @@
 -- Each kind of line gives the reason of the first of its tests that fails.
-use Rattle.std.proofs.Common.{◌≡◌, ℕ, suc, ◌-◌, ◌^◌, Bool, true, false, not, cond, List, [], ◌∷◌, length, Option, Some, None, Result, Ok, Err, refl, sym, ap, ◌∙◌, arith}
+use Rattle.std.proofs.Common.{◌≡◌, ℕ, zero, suc, ◌-◌, ◌^◌, ◌≤◌, Bool, true, false, not, cond, List, [], ◌∷◌, ◌++◌, length, map, drop, Option, Some, None, Result, Ok, Err, refl, sym, ap, ◌∙◌, arith, append_assoc}
+use Rattle.std.proofs.lemmas.List.{append-nil, length-map}
 use Rattle.std.specs.Prelude.{ℤ, pos, negsuc, codes, nat_le, ◌&&◌, bytes_eq, unsigned_abs}
 use Rattle.std.proofs.lemmas.Bool.Decides.{nat_tests}
 use Rattle.sg_frac.specs.Fractions.{Fraction}
 use Rattle.sg_tree.specs.declared.fact.Mark.{Mark}
 use Rattle.sg_tree.specs.declared.fact.Line.{Line}
 use Rattle.sg_num.specs.Exact.{fits}
-use Rattle.sg_cert.specs.Fields.{count_is, fields, is_number_text, natural_next, natural_of, shaped_if, spelled_of, value_of, whole_next, whole_of, words_of, ◌>>=◌}
-use Rattle.sg_cert.specs.LineReading.{counts_of, fraction_next, fraction_of, header_of, highest, in_order, lowest, mark_of, reduced_of, row_of, shares, split_of}
-use Rattle.sg_laws.specs.LineTests.{CountsInOrder, FractionInOrder, HeaderInOrder, LinesInOrder, MarkInOrder, RowInOrder, Slot, SplitInOrder, counts_slots, each, fixed, fraction_slots, header_slots, is_lowest, is_ranged, is_spelled, is_there, mark_slots, number, row_slots, split_slots, within}
+use Rattle.sg_cert.specs.Fields.{count_is, fields, fitting, has_word, is_number_text, natural_next, natural_of, numbers_of, shaped_as, shaped_if, spelled_of, value_of, whole_next, whole_of, word_at, words_of, ◌>>=◌}
+use Rattle.sg_cert.specs.LineReading.{counts_of, follows, fraction_next, fraction_of, header_of, highest, in_order, lowest, mark_of, plain_of, proved_of, reduced_of, row_of, shares, spent_of, split_of, target_of, ticket_head_of, ticket_of}
+use Rattle.sg_laws.specs.LineTests.{CapInOrder, CountsInOrder, FractionInOrder, HeaderInOrder, LinesInOrder, MarkInOrder, RowInOrder, Slot, SplitInOrder, TicketInOrder, WaterInOrder, counts_slots, each, first_of, fixed, fraction_slots, header_slots, is_lowest, is_ranged, is_spelled, is_there, mark_slots, naturals, number, numbers, plain_line, plain_slots, proved_line, proved_slots, row_slots, spent_line, spent_slots, split_slots, target_line, target_slots, ticket_slots, within}
 
 -- ---- the words of a line, and what should stand in it
 
@@ -183,6 +184,9 @@ three_or P fs other same = by_count 3 P fs other (by_three P same fs)
 four_or : (P : List (List ℕ) → Type 0) (fs : List (List ℕ)) → (count_is 4 4 fs ≡ false → P fs) → ((a b c d : List ℕ) → P (a ∷ b ∷ c ∷ d ∷ [])) → P fs
 four_or P fs other same = by_count 4 P fs other (by_four P same fs)
 
+five_or : (P : List (List ℕ) → Type 0) (fs : List (List ℕ)) → (count_is 5 5 fs ≡ false → P fs) → ((a b c d e : List ℕ) → P (a ∷ b ∷ c ∷ d ∷ e ∷ [])) → P fs
+five_or P fs other same = by_count 5 P fs other (by_more 4 P (λ a. by_four (λ fs. P (a ∷ fs)) (same a)) fs)
+
 -- ---- the kinds of lines
 
 ordered : {A : Type 0} (b : Bool) (x : A) → (in_order b >>= (λ (_ : Unit {0}). Ok x)) ≡ cond b (Ok x) (Err 7)
@@ -256,14 +260,129 @@ fraction word m fs =
     (λ a b c. long true word (fraction_slots word) (a ∷ b ∷ c ∷ []) _ _ m refl refl
     (next _ _ _ _ true _ (fractions b c []) refl ∙ later (is_ranged (number lowest highest) b) _ _ true _))
 
+-- ---- water levels and caps
+
+either : {A : Type 0} (b : Bool) (x x' y y' : Result A ℕ) → x ≡ x' → y ≡ y' → cond b x y ≡ cond b x' y'
+either true x x' y y' e f = e
+either false x x' y y' e f = f
+
+spent : (fs : List (List ℕ)) → spent_of fs ≡ spent_line fs
+unfolding spent_of
+spent fs =
+    four_or (λ fs. spent_of fs ≡ spent_line fs) fs
+    (λ e. short (count_is 4 4 fs) (codes "water # # resources") spent_slots fs _ _ (refl, refl, (refl, (refl, (refl, refl, tt)))) e)
+    (λ a b c d. long true (codes "water # # resources") spent_slots (a ∷ b ∷ c ∷ d ∷ []) _ _ (refl, refl, (refl, (refl, (refl, refl, tt)))) refl refl
+    (next _ _ _ _ true _ (fractions b c (d ∷ [])) refl ∙ later (is_ranged (number lowest highest) b) _ _ true _))
+
+target : (fs : List (List ℕ)) → target_of fs ≡ target_line fs
+unfolding target_of
+target fs =
+    five_or (λ fs. target_of fs ≡ target_line fs) fs
+    (λ e. short (count_is 5 5 fs) (codes "water # # target #") target_slots fs _ _ (refl, refl, (refl, (refl, (refl, refl, (refl, tt))))) e)
+    (λ a b c d e. long true (codes "water # # target #") target_slots (a ∷ b ∷ c ∷ d ∷ e ∷ []) _ _ (refl, refl, (refl, (refl, (refl, refl, (refl, tt))))) refl refl
+    (next _ _ _ _ _ _ (fractions b c (d ∷ e ∷ [])) (next _ _ _ _ true _ (natural 1 65535 e []) refl)
+    ∙ later (is_ranged (number lowest highest) b) _ _ (is_ranged (number (pos 1) (pos 65535)) e && true) _))
+
+water : (fs : List (List ℕ)) → WaterInOrder fs
+water fs = either (has_word 3 (codes "resources") fs) (spent_of fs) (spent_line fs) (target_of fs) (target_line fs) (spent fs) (target fs)
+
+plain : (fs : List (List ℕ)) → plain_of fs ≡ plain_line fs
+unfolding plain_of
+plain fs =
+    four_or (λ fs. plain_of fs ≡ plain_line fs) fs
+    (λ e. short (count_is 4 4 fs) (codes "cap # plain #") plain_slots fs _ _ (refl, refl, (refl, (refl, refl, (refl, tt)))) e)
+    (λ a b c d. long true (codes "cap # plain #") plain_slots (a ∷ b ∷ c ∷ d ∷ []) _ _ (refl, refl, (refl, (refl, refl, (refl, tt)))) refl refl
+    (next _ _ _ _ _ _ (natural 1 8 b (c ∷ d ∷ [])) (next _ _ _ _ _ _ (whole (negsuc (2 ^ 63 - 1)) (pos (2 ^ 63 - 1)) d []) refl)))
+
+proved : (fs : List (List ℕ)) → proved_of fs ≡ proved_line fs
+unfolding proved_of
+proved fs =
+    five_or (λ fs. proved_of fs ≡ proved_line fs) fs
+    (λ e. short (count_is 5 5 fs) (codes "cap # proved # #") proved_slots fs _ _ (refl, refl, (refl, (refl, refl, (refl, (refl, tt))))) e)
+    (λ a b c d e. long true (codes "cap # proved # #") proved_slots (a ∷ b ∷ c ∷ d ∷ e ∷ []) _ _ (refl, refl, (refl, (refl, refl, (refl, (refl, tt))))) refl refl
+    (next _ _ _ _ _ _ (natural 1 8 b (c ∷ d ∷ e ∷ []))
+    (next _ _ _ _ _ _ (whole (negsuc (2 ^ 63 - 1)) (pos (2 ^ 63 - 1)) d (e ∷ [])) (next _ _ _ _ _ _ (natural 1 65535 e []) refl))))
+
+cap : (fs : List (List ℕ)) → CapInOrder fs
+cap fs = either (has_word 2 (codes "plain") fs) (plain_of fs) (plain_line fs) (proved_of fs) (proved_line fs) (plain fs) (proved fs)
+
+-- ---- tickets
+
+together : {A B C : Type 0} (r : Result A ℕ) (f : A → Result B ℕ) (g : B → Result C ℕ) → ((r >>= f) >>= g) ≡ (r >>= (λ x. f x >>= g))
+together (Ok x) f g = refl
+together (Err e) f g = refl
+
+-- a line that is read in two steps
+short_two : {A B : Type 0} (counted : Bool) (ws : List ℕ) (ss : List Slot) (fs : List (List ℕ)) (y : Result B ℕ) (h : Unit {0} → Result A ℕ) (g : A → Result B ℕ) → Matches (fields ws) ss → counted ≡ false
+    → ((shaped_if counted ws fs >>= h) >>= g) ≡ judged counted ss fs y
+short_two counted ws ss fs y h g m c = together (shaped_if counted ws fs) h g ∙ short counted ws ss fs y (λ x. h x >>= g) m c
+
+long_two : {A B : Type 0} (counted : Bool) (ws : List ℕ) (ss : List Slot) (fs : List (List ℕ)) (y : Result B ℕ) (h : Unit {0} → Result A ℕ) (g : A → Result B ℕ) → Matches (fields ws) ss → counted ≡ true
+    → length fs ≡ length ss → (h tt >>= g) ≡ cond (each is_ranged ss fs) y (Err 6) → ((shaped_if counted ws fs >>= h) >>= g) ≡ judged counted ss fs y
+long_two counted ws ss fs y h g m c e ranges = together (shaped_if counted ws fs) h g ∙ long counted ws ss fs y (λ x. h x >>= g) m c e ranges
+
+-- the last step of which a test decides
+final : {A B : Type 0} (r : Result A ℕ) (b : Bool) (x : A) (k : A → Result B ℕ) (y : Result B ℕ) → r ≡ cond b (Ok x) (Err 6) → k x ≡ y → (r >>= k) ≡ cond b y (Err 6)
+final r true x k y e h = rw e h
+final r false x k y e h = rw e refl
+
+natural_one : (low high : ℕ) (f : List ℕ) → natural_of low high (fitting f) ≡ cond (is_ranged (number (pos low) (pos high)) f) (Ok (unsigned_abs (value_of f))) (Err 6)
+natural_one low high f = natural_is low high (is_number_text f && fits (value_of f)) (value_of f)
+
+all_numbers : (low high : ℕ) (done : List ℕ) (fs : List (List ℕ))
+    → numbers_of low high done fs ≡ cond (each is_ranged (numbers low high fs) fs) (Ok (done ++ naturals fs)) (Err 6)
+unfolding numbers_of
+all_numbers low high done [] = ap (λ (xs : List ℕ). Ok xs) (sym (append-nil done))
+all_numbers low high done (f ∷ fs) =
+    next _ _ _ _ _ _ (natural_one low high f)
+    (all_numbers low high (done ++ unsigned_abs (value_of f) ∷ []) fs
+    ∙ ap (λ (xs : List ℕ). cond (each is_ranged (numbers low high fs) fs) (Ok xs) (Err 6)) (append_assoc done (unsigned_abs (value_of f) ∷ []) (naturals fs)))
+
+numbers_match : (low high : ℕ) (fs : List (List ℕ)) → Matches [] (numbers low high fs)
+numbers_match low high [] = tt
+numbers_match low high (f ∷ fs) = numbers_match low high fs
+
+two_or_more : (n : ℕ) → nat_le 2 n ≡ true → 2 ≤ n
+two_or_more n e = grind (arith, nat_tests)
+
+first_true : (a b : Bool) → (a && b) ≡ true → a ≡ true
+first_true true b e = refl
+first_true false b e = e
+
+ticket_matches : (fs : List (List ℕ)) → Matches (fields (codes "t")) (ticket_slots fs)
+ticket_matches fs = (refl, refl, numbers_match 0 65535 (drop 2 fs))
+
+ticket_long : (before : Option (List ℕ)) (fs : List (List ℕ)) → 2 ≤ length fs → count_is 2 202 fs ≡ true → TicketInOrder before fs
+unfolding ticket_of
+ticket_long before [] h e = absurd (omega (arith, h))
+ticket_long before (a ∷ []) h e = absurd (omega (arith, h))
+ticket_long before (a ∷ b ∷ fs) h e =
+    long_two (count_is 2 202 (a ∷ b ∷ fs)) (codes "t") (ticket_slots (a ∷ b ∷ fs)) (a ∷ b ∷ fs) _ _ _ (ticket_matches (a ∷ b ∷ fs)) e
+    (let same = length-map fs (λ (f : List ℕ). number (pos 0) (pos 65535)) in omega (arith, same))
+    (next _ _ _ _ _ _ (whole (pos 1) highest b fs) (final _ _ _ _ _ (all_numbers 0 65535 [] fs) (ordered _ _)))
+
+ticket_short : (before : Option (List ℕ)) (fs : List (List ℕ)) → count_is 2 202 fs ≡ false → TicketInOrder before fs
+unfolding ticket_of
+ticket_short before fs e = short_two (count_is 2 202 fs) (codes "t") (ticket_slots fs) fs _ _ _ (ticket_matches fs) e
+
+ticket : (before : Option (List ℕ)) (fs : List (List ℕ)) → TicketInOrder before fs
+ticket before fs = by_test (count_is 2 202 fs) refl
+  where
+    by_test : (b : Bool) → count_is 2 202 fs ≡ b → TicketInOrder before fs
+    by_test true e = ticket_long before fs (two_or_more (length fs) (first_true (nat_le 2 (length fs)) (nat_le (length fs) 202) e)) e
+    by_test false e = ticket_short before fs e
+
 pub lines : LinesInOrder
 lines = record {
-  value = fraction (codes "value") (refl, refl, tt);
-  upper = fraction (codes "upper") (refl, refl, tt);
   counts = counts;
-  mark = mark;
-  row = row;
-  plays = header (codes "plays") (refl, refl, tt);
-  cover = header (codes "cover") (refl, refl, tt);
+  ticket = ticket;
+  value = fraction (codes "value") (refl, refl, tt);
+  cap = cap;
   split = splits;
+  plays = header (codes "plays") (refl, refl, tt);
+  mark = mark;
+  cover = header (codes "cover") (refl, refl, tt);
+  row = row;
+  water = water;
+  upper = fraction (codes "upper") (refl, refl, tt);
 }

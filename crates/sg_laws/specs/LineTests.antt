@@ -1,9 +1,12 @@
 -- What stands in each kind of line of a report, and the order of the tests of a line, whatever reads it.
-use Rattle.std.specs.Prelude.{◌≡◌, ℕ, Bool, true, false, not, ◌&&◌, if◌then◌else◌, List, [], ◌∷◌, Option, Some, None, Result, Ok, Err, ℤ, pos, unsigned_abs, bytes_eq, codes, slice_index_or, map, drop, int_le}
+use Rattle.std.specs.Prelude.{◌≡◌, ℕ, Bool, true, false, not, ◌&&◌, if◌then◌else◌, List, [], ◌∷◌, Option, Some, None, Result, Ok, Err, ℤ, pos, negsuc, ◌-◌, ◌^◌, unsigned_abs, bytes_eq, codes, slice_index_or, map, drop, int_le}
+use Rattle.sg_model.specs.declared.level.Level.TheVariants.{Resources, Target}
+use Rattle.sg_tree.specs.declared.fact.Fact.{Fact}
+use Rattle.sg_tree.specs.declared.fact.Fact.TheVariants.{Water}
 use Rattle.sg_tree.specs.declared.fact.Mark.{Mark}
 use Rattle.sg_tree.specs.declared.fact.Line.{Line}
-use Rattle.sg_cert.specs.Fields.{count_is, fitting, is_number_text, value_of}
-use Rattle.sg_cert.specs.LineReading.{counts_of, follows, fraction_of, header_of, highest, lowest, mark_follows, mark_of, row_follows, row_of, shares, split_of, ticket_of}
+use Rattle.sg_cert.specs.Fields.{count_is, fitting, has_word, is_number_text, value_of}
+use Rattle.sg_cert.specs.LineReading.{cap_of, counts_of, follows, fraction_of, header_of, highest, lowest, mark_follows, mark_of, row_follows, row_of, shares, split_of, ticket_of, water_of}
 
 -- ---- the tests of a line
 
@@ -116,6 +119,46 @@ header_slots word = fixed word ∷ number (pos 1) highest ∷ number (pos 0) hig
 abbrev pub HeaderInOrder : List ℕ → List (List ℕ) → Type 0
 HeaderInOrder word fs = header_of word fs ≡ first_of (tests_of (count_is 4 4 fs) (header_slots word) fs []) (number_at 1 fs, number_at 2 fs, natural_at 3 fs)
 
+-- water num den resources
+abbrev pub spent_slots : List Slot
+spent_slots = fixed (codes "water") ∷ number lowest highest ∷ number (pos 1) highest ∷ fixed (codes "resources") ∷ []
+
+abbrev pub spent_line : List (List ℕ) → Result Fact ℕ
+spent_line fs = first_of (tests_of (count_is 4 4 fs) spent_slots fs ((is_lowest (natural_at 1 fs) (natural_at 2 fs), 6) ∷ []))
+    (Water (record { num = number_at 1 fs; den = number_at 2 fs }) Resources)
+
+-- water num den target j
+abbrev pub target_slots : List Slot
+target_slots = fixed (codes "water") ∷ number lowest highest ∷ number (pos 1) highest ∷ fixed (codes "target") ∷ number (pos 1) (pos 65535) ∷ []
+
+abbrev pub target_line : List (List ℕ) → Result Fact ℕ
+target_line fs = first_of (tests_of (count_is 5 5 fs) target_slots fs ((is_lowest (natural_at 1 fs) (natural_at 2 fs), 6) ∷ []))
+    (Water (record { num = number_at 1 fs; den = number_at 2 fs }) (Target (natural_at 4 fs)))
+
+abbrev pub WaterInOrder : List (List ℕ) → Type 0
+WaterInOrder fs = water_of fs ≡ (if has_word 3 (codes "resources") fs then spent_line fs else target_line fs)
+
+-- a bound of a cap
+abbrev pub bound_slot : Slot
+bound_slot = number (negsuc (2 ^ 63 - 1)) (pos (2 ^ 63 - 1))
+
+-- cap l plain v
+abbrev pub plain_slots : List Slot
+plain_slots = fixed (codes "cap") ∷ number (pos 1) (pos 8) ∷ fixed (codes "plain") ∷ bound_slot ∷ []
+
+abbrev pub plain_line : List (List ℕ) → Result (ℕ × ℤ × ℕ) ℕ
+plain_line fs = first_of (tests_of (count_is 4 4 fs) plain_slots fs []) (natural_at 1 fs, number_at 3 fs, 0)
+
+-- cap l proved v n
+abbrev pub proved_slots : List Slot
+proved_slots = fixed (codes "cap") ∷ number (pos 1) (pos 8) ∷ fixed (codes "proved") ∷ bound_slot ∷ number (pos 1) (pos 65535) ∷ []
+
+abbrev pub proved_line : List (List ℕ) → Result (ℕ × ℤ × ℕ) ℕ
+proved_line fs = first_of (tests_of (count_is 5 5 fs) proved_slots fs []) (natural_at 1 fs, number_at 3 fs, natural_at 4 fs)
+
+abbrev pub CapInOrder : List (List ℕ) → Type 0
+CapInOrder fs = cap_of fs ≡ (if has_word 2 (codes "plain") fs then plain_line fs else proved_line fs)
+
 -- split l n
 abbrev pub split_slots : List Slot
 split_slots = fixed (codes "split") ∷ number (pos 1) (pos 8) ∷ number (pos 1) (pos 65535) ∷ []
@@ -125,11 +168,14 @@ SplitInOrder fs = split_of fs ≡ first_of (tests_of (count_is 3 3 fs) split_slo
 
 -- each kind of line gives the reason of the first of its tests that fails, and else its numbers
 pub record LinesInOrder : Type 0 where
-  pub value : (fs : List (List ℕ)) → FractionInOrder (codes "value") fs
-  pub upper : (fs : List (List ℕ)) → FractionInOrder (codes "upper") fs
   pub counts : (fs : List (List ℕ)) → CountsInOrder fs
-  pub mark : (before : Option Mark) (fs : List (List ℕ)) → MarkInOrder before fs
-  pub row : (before : Option Line) (fs : List (List ℕ)) → RowInOrder before fs
-  pub plays : (fs : List (List ℕ)) → HeaderInOrder (codes "plays") fs
-  pub cover : (fs : List (List ℕ)) → HeaderInOrder (codes "cover") fs
+  pub ticket : (before : Option (List ℕ)) (fs : List (List ℕ)) → TicketInOrder before fs
+  pub value : (fs : List (List ℕ)) → FractionInOrder (codes "value") fs
+  pub cap : (fs : List (List ℕ)) → CapInOrder fs
   pub split : (fs : List (List ℕ)) → SplitInOrder fs
+  pub plays : (fs : List (List ℕ)) → HeaderInOrder (codes "plays") fs
+  pub mark : (before : Option Mark) (fs : List (List ℕ)) → MarkInOrder before fs
+  pub cover : (fs : List (List ℕ)) → HeaderInOrder (codes "cover") fs
+  pub row : (before : Option Line) (fs : List (List ℕ)) → RowInOrder before fs
+  pub water : (fs : List (List ℕ)) → WaterInOrder fs
+  pub upper : (fs : List (List ℕ)) → FractionInOrder (codes "upper") fs
