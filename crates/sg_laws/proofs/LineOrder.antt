@@ -1,15 +1,21 @@
 -- Each kind of line gives the reason of the first of its tests that fails.
-use Rattle.std.proofs.Common.{◌≡◌, ℕ, zero, suc, ◌-◌, ◌^◌, ◌≤◌, Bool, true, false, not, cond, List, [], ◌∷◌, ◌++◌, length, map, drop, Option, Some, None, Result, Ok, Err, refl, sym, ap, ◌∙◌, arith, append_assoc}
+use Rattle.std.proofs.Common.{◌≡◌, ℕ, zero, suc, ◌-◌, ◌^◌, ◌≤◌, Bool, true, false, not, cond, List, [], ◌∷◌, ◌++◌, length, drop, Option, Some, None, Result, Ok, Err, refl, sym, ap, ◌∙◌, arith, append_assoc}
 use Rattle.std.proofs.lemmas.List.{append-nil, length-map}
-use Rattle.std.specs.Prelude.{ℤ, pos, negsuc, codes, nat_le, ◌&&◌, bytes_eq, unsigned_abs}
+use Rattle.std.specs.Prelude.{slice_get, ℤ, pos, negsuc, codes, nat_le, ◌&&◌, bytes_eq, unsigned_abs}
 use Rattle.std.proofs.lemmas.Bool.Decides.{nat_tests}
+use Rattle.sg_num.specs.declared.step.Op.{Op}
+use Rattle.sg_num.specs.declared.step.Op.TheVariants.{Sum, Less, Times}
+use Rattle.sg_tree.specs.declared.report.Cause.{Cause}
+use Rattle.sg_tree.specs.declared.report.Cause.TheVariants as causes
+use Rattle.sg_tree.specs.declared.report.Ending.{Ending}
+use Rattle.sg_tree.specs.declared.report.Ending.TheVariants.{Gap}
 use Rattle.sg_frac.specs.Fractions.{Fraction}
 use Rattle.sg_tree.specs.declared.fact.Mark.{Mark}
 use Rattle.sg_tree.specs.declared.fact.Line.{Line}
 use Rattle.sg_num.specs.Exact.{fits}
-use Rattle.sg_cert.specs.Fields.{count_is, fields, fitting, has_word, is_number_text, natural_next, natural_of, numbers_of, shaped_as, shaped_if, spelled_of, value_of, whole_next, whole_of, word_at, words_of, ◌>>=◌}
-use Rattle.sg_cert.specs.LineReading.{counts_of, follows, fraction_next, fraction_of, header_of, highest, in_order, lowest, mark_of, plain_of, proved_of, reduced_of, row_of, shares, spent_of, split_of, target_of, ticket_head_of, ticket_of}
-use Rattle.sg_laws.specs.LineTests.{CapInOrder, CountsInOrder, FractionInOrder, HeaderInOrder, LinesInOrder, MarkInOrder, RowInOrder, Slot, SplitInOrder, TicketInOrder, WaterInOrder, counts_slots, each, first_of, fixed, fraction_slots, header_slots, is_lowest, is_ranged, is_spelled, is_there, mark_slots, naturals, number, numbers, plain_line, plain_slots, proved_line, proved_slots, row_slots, spent_line, spent_slots, split_slots, target_line, target_slots, ticket_slots, within}
+use Rattle.sg_cert.specs.Fields.{count_follows, count_is, fields, fitting, has_word, is_number_text, natural_next, natural_of, numbers_of, shaped_if, spelled_of, value_of, whole_next, whole_of, words_of, ◌>>=◌}
+use Rattle.sg_cert.specs.LineReading.{fix_of, gap_of, looks_head_of, looks_of, nodes_of, optimal_of, pivots_of, wide_as, wide_head_of, counts_of, fraction_next, fraction_of, header_of, highest, in_order, lowest, mark_of, plain_of, proved_of, reduced_of, row_of, shares, spent_of, split_of, target_of, ticket_of}
+use Rattle.sg_laws.specs.LineTests.{VerdictInOrder, counted_slot, fix_at, fix_slots, gap_slots, looks_line, looks_slots, nodes_line, optimal_line, optimal_slots, pivots_line, pivots_slots, step_slot, wide_line, wide_slots, number_at, natural_at, CapInOrder, CountsInOrder, FractionInOrder, HeaderInOrder, LinesInOrder, MarkInOrder, RowInOrder, Slot, SplitInOrder, TicketInOrder, WaterInOrder, counts_slots, each, fixed, fraction_slots, header_slots, is_lowest, is_ranged, is_spelled, is_there, mark_slots, naturals, number, numbers, plain_line, plain_slots, proved_line, proved_slots, row_slots, spent_line, spent_slots, split_slots, target_line, target_slots, ticket_slots, within}
 
 -- ---- the words of a line, and what should stand in it
 
@@ -372,6 +378,208 @@ ticket before fs = by_test (count_is 2 202 fs) refl
     by_test true e = ticket_long before fs (two_or_more (length fs) (first_true (nat_le 2 (length fs)) (nat_le (length fs) 202) e)) e
     by_test false e = ticket_short before fs e
 
+-- ---- the verdict
+
+two_or : (P : List (List ℕ) → Type 0) (fs : List (List ℕ)) → (count_is 2 2 fs ≡ false → P fs) → ((a b : List ℕ) → P (a ∷ b ∷ [])) → P fs
+two_or P fs other same = by_count 2 P fs other (by_more 1 P (λ a. by_more 0 (λ fs. P (a ∷ fs)) (λ b. by_none (λ fs. P (a ∷ b ∷ fs)) (same a b))) fs)
+
+optimal : (fs : List (List ℕ)) → optimal_of fs ≡ optimal_line fs
+unfolding optimal_of
+optimal fs =
+    two_or (λ fs. optimal_of fs ≡ optimal_line fs) fs
+    (λ e. short (count_is 2 2 fs) (codes "verdict optimal") optimal_slots fs _ _ (refl, refl, (refl, refl, tt)) e)
+    (λ a b. long true (codes "verdict optimal") optimal_slots (a ∷ b ∷ []) _ _ (refl, refl, (refl, refl, tt)) refl refl refl)
+
+nodes : (fs : List (List ℕ)) → (nodes_of fs >>= λ c. Ok (Gap c)) ≡ nodes_line fs
+unfolding nodes_of
+nodes fs =
+    four_or (λ fs. (nodes_of fs >>= λ c. Ok (Gap c)) ≡ nodes_line fs) fs
+    (λ e. short_two (count_is 4 4 fs) (codes "verdict gap nodes") (gap_slots (codes "nodes") (counted_slot ∷ [])) fs _ _ _ (refl, refl, (refl, refl, (refl, refl, tt))) e)
+    (λ a b c d. long_two true (codes "verdict gap nodes") (gap_slots (codes "nodes") (counted_slot ∷ [])) (a ∷ b ∷ c ∷ d ∷ []) _ _ _ (refl, refl, (refl, refl, (refl, refl, tt))) refl refl
+    (together (natural_next 1 (2 ^ 64 - 1) (d ∷ [])) _ _ ∙ next _ _ _ _ _ _ (natural 1 (2 ^ 64 - 1) d []) refl))
+
+-- a cause with its gap
+gap_then : (counted : Bool) (ss : List Slot) (fs : List (List ℕ)) (r : Result Cause ℕ) (c : Cause) → r ≡ judged counted ss fs (Ok c) → (r >>= λ x. Ok (Gap x)) ≡ judged counted ss fs (Ok (Gap c))
+gap_then counted ss fs r c e = rw e (by_tests (each is_there ss fs) counted (each is_spelled ss fs) (each is_ranged ss fs))
+  where
+    by_tests : (w n t b : Bool)
+        → ◌>>=◌ {E = ℕ} (cond w (cond n (cond t (cond b (Ok c) (Err 6)) (Err 5)) (Err 4)) (Err 3)) (λ x. Ok (Gap x)) ≡ cond w (cond n (cond t (cond b (Ok (Gap c)) (Err 6)) (Err 5)) (Err 4)) (Err 3)
+    by_tests true true true true = refl
+    by_tests true true true false = refl
+    by_tests true true false b = refl
+    by_tests true false t b = refl
+    by_tests false n t b = refl
+
+fix_is : (a b : List ℕ) (fs : List (List ℕ))
+    → fix_of (a ∷ b ∷ fs) ≡ cond (each is_ranged (fix_slots fs) (a ∷ b ∷ fs)) (Ok (record { first = unsigned_abs (value_of a); acts = naturals fs })) (Err 6)
+unfolding fix_of
+fix_is a b fs = next _ _ _ _ _ _ (natural 1 8 a (b ∷ fs)) (next _ _ _ _ _ _ (natural 1 8 b fs) (final _ _ _ _ _ (all_numbers 1 65535 [] fs) refl))
+
+-- a line of the right count reaches the number of its actions
+reaches : (at n i : ℕ) (fs : List (List ℕ)) → count_follows at n (slice_get fs i) ≡ true → suc i ≤ length fs
+reaches at n i [] e = absurd (let c : false ≡ true = e in cc)
+reaches at n zero (f ∷ fs) e = omega arith
+reaches at n (suc i) (f ∷ fs) e = let h = reaches at n i fs e in omega (arith, h)
+
+by_some : (n : ℕ) (P : List (List ℕ) → Type 0) → ((f : List ℕ) (fs : List (List ℕ)) → n ≤ length fs → P (f ∷ fs)) → (fs : List (List ℕ)) → suc n ≤ length fs → P fs
+by_some n P h [] e = absurd (omega (arith, e))
+by_some n P h (f ∷ fs) e = h f fs (omega (arith, e))
+
+three_more : (n : ℕ) (P : List (List ℕ) → Type 0) → ((a b c : List ℕ) (fs : List (List ℕ)) → n ≤ length fs → P (a ∷ b ∷ c ∷ fs)) → (fs : List (List ℕ)) → suc (suc (suc n)) ≤ length fs → P fs
+three_more n P h = by_some (suc (suc n)) P (λ a. by_some (suc n) (λ fs. P (a ∷ fs)) (λ b. by_some n (λ fs. P (a ∷ b ∷ fs)) (h a b)))
+
+-- ---- pivots
+
+pivots_matches : (fs : List (List ℕ)) → Matches (fields (codes "verdict gap pivots")) (pivots_slots fs)
+pivots_matches fs = (refl, refl, (refl, refl, (refl, refl, numbers_match 1 65535 (drop 6 fs))))
+
+abbrev pivots_counted : List (List ℕ) → Bool
+pivots_counted fs = count_follows 5 (length fs) (slice_get fs 5)
+
+abbrev PivotsJudged : List (List ℕ) → Type 0
+PivotsJudged fs = pivots_of fs ≡ judged (pivots_counted fs) (pivots_slots fs) fs (Ok (causes.Pivots (natural_at 3 fs) (fix_at 4 fs)))
+
+pivots_short : (fs : List (List ℕ)) → pivots_counted fs ≡ false → PivotsJudged fs
+unfolding pivots_of
+pivots_short fs e = short_two (pivots_counted fs) (codes "verdict gap pivots") (pivots_slots fs) fs _ _ _ (pivots_matches fs) e
+
+pivots_fields : (a b c d e f : List ℕ) (fs : List (List ℕ)) → pivots_counted (a ∷ b ∷ c ∷ d ∷ e ∷ f ∷ fs) ≡ true → PivotsJudged (a ∷ b ∷ c ∷ d ∷ e ∷ f ∷ fs)
+unfolding pivots_of
+pivots_fields a b c d e f fs counted =
+    let all = a ∷ b ∷ c ∷ d ∷ e ∷ f ∷ fs in
+    long_two (pivots_counted all) (codes "verdict gap pivots") (pivots_slots all) all _ _ _ (pivots_matches all) counted
+    (let same = length-map fs (λ (x : List ℕ). number (pos 1) (pos 65535)) in omega (arith, same))
+    (next _ _ _ _ _ _ (natural 1 (2 ^ 64 - 1) d (e ∷ f ∷ fs)) (final _ _ _ _ _ (fix_is e f fs) refl))
+
+pivots_long : (fs : List (List ℕ)) → pivots_counted fs ≡ true → PivotsJudged fs
+pivots_long fs e =
+    three_more 3 (λ gs. pivots_counted gs ≡ true → PivotsJudged gs)
+    (λ a b c. three_more 0 (λ gs. pivots_counted (a ∷ b ∷ c ∷ gs) ≡ true → PivotsJudged (a ∷ b ∷ c ∷ gs)) (λ x y z gs h. pivots_fields a b c x y z gs)) fs (reaches 5 (length fs) 5 fs e) e
+
+by_counted : (b : Bool) (P : Type 0) → (b ≡ true → P) → (b ≡ false → P) → P
+by_counted true P h k = h refl
+by_counted false P h k = k refl
+
+pivots : (fs : List (List ℕ)) → (pivots_of fs >>= λ c. Ok (Gap c)) ≡ pivots_line fs
+pivots fs =
+    gap_then (pivots_counted fs) (pivots_slots fs) fs (pivots_of fs) (causes.Pivots (natural_at 3 fs) (fix_at 4 fs))
+    (by_counted (pivots_counted fs) (PivotsJudged fs) (pivots_long fs) (pivots_short fs))
+
+-- ---- looks
+
+looks_matches : (fs : List (List ℕ)) → Matches (fields (codes "verdict gap looks")) (looks_slots fs)
+looks_matches fs = (refl, refl, (refl, refl, (refl, refl, numbers_match 1 65535 (drop 7 fs))))
+
+abbrev looks_counted : List (List ℕ) → Bool
+looks_counted fs = count_follows 6 (length fs) (slice_get fs 6)
+
+abbrev LooksJudged : List (List ℕ) → Type 0
+LooksJudged fs = looks_of fs ≡ judged (looks_counted fs) (looks_slots fs) fs (Ok (causes.Looks (natural_at 3 fs) (natural_at 4 fs) (fix_at 5 fs)))
+
+looks_short : (fs : List (List ℕ)) → looks_counted fs ≡ false → LooksJudged fs
+unfolding looks_of looks_head_of
+looks_short fs e = short_two (looks_counted fs) (codes "verdict gap looks") (looks_slots fs) fs _ _ _ (looks_matches fs) e
+
+-- two tests in front of others, and four
+two_and : {A : Type 0} (a b c : Bool) (y z : A) → cond ((a && (b && true)) && c) y z ≡ cond (a && (b && c)) y z
+two_and true true c y z = refl
+two_and true false c y z = refl
+two_and false b c y z = refl
+
+four_and : {A : Type 0} (a b c d e : Bool) (y z : A) → cond ((a && (b && (c && (d && true)))) && e) y z ≡ cond (a && (b && (c && (d && e)))) y z
+four_and true true true true e y z = refl
+four_and true true true false e y z = refl
+four_and true true false d e y z = refl
+four_and true false c d e y z = refl
+four_and false b c d e y z = refl
+
+looks_fields : (a b c d e f g : List ℕ) (fs : List (List ℕ)) → looks_counted (a ∷ b ∷ c ∷ d ∷ e ∷ f ∷ g ∷ fs) ≡ true → LooksJudged (a ∷ b ∷ c ∷ d ∷ e ∷ f ∷ g ∷ fs)
+unfolding looks_of looks_head_of
+looks_fields a b c d e f g fs counted =
+    let all = a ∷ b ∷ c ∷ d ∷ e ∷ f ∷ g ∷ fs in
+    long_two (looks_counted all) (codes "verdict gap looks") (looks_slots all) all _ _ _ (looks_matches all) counted
+    (let same = length-map fs (λ (x : List ℕ). number (pos 1) (pos 65535)) in omega (arith, same))
+    (next _ _ _ _ _ _ (next _ _ _ _ _ _ (natural 1 (2 ^ 64 - 1) d (e ∷ f ∷ g ∷ fs)) (next _ _ _ _ true _ (natural 0 (2 ^ 64 - 1) e (f ∷ g ∷ fs)) refl))
+    (final _ _ _ _ _ (fix_is f g fs) refl)
+    ∙ two_and (is_ranged counted_slot d) (is_ranged step_slot e) (each is_ranged (fix_slots fs) (f ∷ g ∷ fs)) _ _)
+
+looks_long : (fs : List (List ℕ)) → looks_counted fs ≡ true → LooksJudged fs
+looks_long fs e =
+    three_more 4 (λ gs. looks_counted gs ≡ true → LooksJudged gs)
+    (λ a b c. three_more 1 (λ gs. looks_counted (a ∷ b ∷ c ∷ gs) ≡ true → LooksJudged (a ∷ b ∷ c ∷ gs))
+    (λ x y z. by_some 0 (λ gs. looks_counted (a ∷ b ∷ c ∷ x ∷ y ∷ z ∷ gs) ≡ true → LooksJudged (a ∷ b ∷ c ∷ x ∷ y ∷ z ∷ gs)) (λ w gs h. looks_fields a b c x y z w gs))) fs
+    (reaches 6 (length fs) 6 fs e) e
+
+looks : (fs : List (List ℕ)) → (looks_of fs >>= λ c. Ok (Gap c)) ≡ looks_line fs
+looks fs =
+    gap_then (looks_counted fs) (looks_slots fs) fs (looks_of fs) (causes.Looks (natural_at 3 fs) (natural_at 4 fs) (fix_at 5 fs))
+    (by_counted (looks_counted fs) (LooksJudged fs) (looks_long fs) (looks_short fs))
+
+-- ---- sums and products that don't fit
+
+wide_rest : (fs : List (List ℕ)) → Matches [] (fix_slots (drop 10 fs))
+wide_rest fs = numbers_match 1 65535 (drop 10 fs)
+
+abbrev wide_counted : List (List ℕ) → Bool
+wide_counted fs = count_follows 9 (length fs) (slice_get fs 9)
+
+module _ (op : Op) (words word : List ℕ) (matches : (fs : List (List ℕ)) → Matches (fields words) (wide_slots word fs)) where
+  abbrev wide_cause : List (List ℕ) → Cause
+  wide_cause fs = causes.Wide (natural_at 3 fs) (record { op = op; left = number_at 5 fs; right = number_at 6 fs }) (natural_at 7 fs) (fix_at 8 fs)
+
+  abbrev WideJudged : List (List ℕ) → Type 0
+  WideJudged fs = wide_as op words fs ≡ judged (wide_counted fs) (wide_slots word fs) fs (Ok (wide_cause fs))
+
+  wide_short : (fs : List (List ℕ)) → wide_counted fs ≡ false → WideJudged fs
+  unfolding wide_as wide_head_of
+  wide_short fs e = short_two (wide_counted fs) words (wide_slots word fs) fs _ _ _ (matches fs) e
+
+  wide_fields : (a b c d e f g h i j : List ℕ) (fs : List (List ℕ)) → wide_counted (a ∷ b ∷ c ∷ d ∷ e ∷ f ∷ g ∷ h ∷ i ∷ j ∷ fs) ≡ true → WideJudged (a ∷ b ∷ c ∷ d ∷ e ∷ f ∷ g ∷ h ∷ i ∷ j ∷ fs)
+  unfolding wide_as wide_head_of
+  wide_fields a b c d e f g h i j fs counted =
+      let all = a ∷ b ∷ c ∷ d ∷ e ∷ f ∷ g ∷ h ∷ i ∷ j ∷ fs in
+      long_two (wide_counted all) words (wide_slots word all) all _ _ _ (matches all) counted
+      (let same = length-map fs (λ (x : List ℕ). number (pos 1) (pos 65535)) in omega (arith, same))
+      (next _ _ _ _ _ _
+      (next _ _ _ _ _ _ (natural 1 7 d (e ∷ f ∷ g ∷ h ∷ i ∷ j ∷ fs))
+      (next _ _ _ _ _ _ (whole lowest highest f (g ∷ h ∷ i ∷ j ∷ fs))
+      (next _ _ _ _ _ _ (whole lowest highest g (h ∷ i ∷ j ∷ fs)) (next _ _ _ _ true _ (natural 0 (2 ^ 64 - 1) h (i ∷ j ∷ fs)) refl))))
+      (final _ _ _ _ _ (fix_is i j fs) refl)
+      ∙ four_and (is_ranged (number (pos 1) (pos 7)) d) (is_ranged (number lowest highest) f) (is_ranged (number lowest highest) g) (is_ranged step_slot h)
+      (each is_ranged (fix_slots fs) (i ∷ j ∷ fs)) _ _)
+
+  wide_long : (fs : List (List ℕ)) → wide_counted fs ≡ true → WideJudged fs
+  wide_long fs e =
+      three_more 7 (λ gs. wide_counted gs ≡ true → WideJudged gs)
+      (λ a b c. three_more 4 (λ gs. wide_counted (a ∷ b ∷ c ∷ gs) ≡ true → WideJudged (a ∷ b ∷ c ∷ gs))
+      (λ x y z. three_more 1 (λ gs. wide_counted (a ∷ b ∷ c ∷ x ∷ y ∷ z ∷ gs) ≡ true → WideJudged (a ∷ b ∷ c ∷ x ∷ y ∷ z ∷ gs))
+      (λ u v w. by_some 0 (λ gs. wide_counted (a ∷ b ∷ c ∷ x ∷ y ∷ z ∷ u ∷ v ∷ w ∷ gs) ≡ true → WideJudged (a ∷ b ∷ c ∷ x ∷ y ∷ z ∷ u ∷ v ∷ w ∷ gs))
+      (λ t gs h. wide_fields a b c x y z u v w t gs)))) fs
+      (reaches 9 (length fs) 9 fs e) e
+
+  wide : (fs : List (List ℕ)) → (wide_as op words fs >>= λ c. Ok (Gap c)) ≡ wide_line op word fs
+  wide fs =
+      gap_then (wide_counted fs) (wide_slots word fs) fs (wide_as op words fs) (wide_cause fs)
+      (by_counted (wide_counted fs) (WideJudged fs) (wide_long fs) (wide_short fs))
+
+-- a test before a step
+either_then : (b : Bool) (r s : Result Cause ℕ) (x y : Result Ending ℕ) → (r >>= λ c. Ok (Gap c)) ≡ x → (s >>= λ c. Ok (Gap c)) ≡ y → (cond b r s >>= λ c. Ok (Gap c)) ≡ cond b x y
+either_then true r s x y e f = e
+either_then false r s x y e f = f
+
+verdict : (fs : List (List ℕ)) → VerdictInOrder fs
+unfolding gap_of
+verdict fs =
+    either (has_word 1 (codes "optimal") fs) (optimal_of fs) (optimal_line fs) (gap_of fs) _ (optimal fs)
+    (either_then (has_word 2 (codes "nodes") fs) (nodes_of fs) _ _ _ (nodes fs)
+    (either_then (has_word 2 (codes "pivots") fs) (pivots_of fs) _ _ _ (pivots fs)
+    (either_then (has_word 2 (codes "looks") fs) (looks_of fs) _ _ _ (looks fs)
+    (either_then (has_word 4 (codes "sum") fs) (wide_as Sum (codes "verdict gap wide # sum") fs) _ _ _
+    (wide Sum (codes "verdict gap wide # sum") (codes "sum") (λ gs. (refl, refl, (refl, refl, (refl, refl, (refl, (refl, refl, wide_rest gs)))))) fs)
+    (either_then (has_word 4 (codes "less") fs) (wide_as Less (codes "verdict gap wide # less") fs) (wide_as Times (codes "verdict gap wide # times") fs) _ _
+    (wide Less (codes "verdict gap wide # less") (codes "less") (λ gs. (refl, refl, (refl, refl, (refl, refl, (refl, (refl, refl, wide_rest gs)))))) fs)
+    (wide Times (codes "verdict gap wide # times") (codes "times") (λ gs. (refl, refl, (refl, refl, (refl, refl, (refl, (refl, refl, wide_rest gs)))))) fs))))))
+
 pub lines : LinesInOrder
 lines = record {
   counts = counts;
@@ -384,5 +592,6 @@ lines = record {
   cover = header (codes "cover") (refl, refl, tt);
   row = row;
   water = water;
+  verdict = verdict;
   upper = fraction (codes "upper") (refl, refl, tt);
 }

@@ -1,12 +1,18 @@
 -- What stands in each kind of line of a report, and the order of the tests of a line, whatever reads it.
-use Rattle.std.specs.Prelude.{◌≡◌, ℕ, Bool, true, false, not, ◌&&◌, if◌then◌else◌, List, [], ◌∷◌, Option, Some, None, Result, Ok, Err, ℤ, pos, negsuc, ◌-◌, ◌^◌, unsigned_abs, bytes_eq, codes, slice_index_or, map, drop, int_le}
+use Rattle.std.specs.Prelude.{◌+◌, length, slice_get, ◌≡◌, ℕ, Bool, true, false, not, ◌&&◌, if◌then◌else◌, List, [], ◌∷◌, Option, Some, None, Result, Ok, Err, ℤ, pos, negsuc, ◌-◌, ◌^◌, unsigned_abs, bytes_eq, codes, slice_index_or, map, drop, int_le}
 use Rattle.sg_model.specs.declared.level.Level.TheVariants.{Resources, Target}
 use Rattle.sg_tree.specs.declared.fact.Fact.{Fact}
 use Rattle.sg_tree.specs.declared.fact.Fact.TheVariants.{Water}
 use Rattle.sg_tree.specs.declared.fact.Mark.{Mark}
 use Rattle.sg_tree.specs.declared.fact.Line.{Line}
-use Rattle.sg_cert.specs.Fields.{count_is, fitting, has_word, is_number_text, value_of}
-use Rattle.sg_cert.specs.LineReading.{cap_of, counts_of, follows, fraction_of, header_of, highest, lowest, mark_follows, mark_of, row_follows, row_of, shares, split_of, ticket_of, water_of}
+use Rattle.sg_num.specs.declared.step.Op.{Op}
+use Rattle.sg_num.specs.declared.step.Op.TheVariants.{Sum, Less, Times}
+use Rattle.sg_tree.specs.declared.fix.Fix.{Fix}
+use Rattle.sg_tree.specs.declared.report.Cause.TheVariants as causes
+use Rattle.sg_tree.specs.declared.report.Ending.{Ending}
+use Rattle.sg_tree.specs.declared.report.Ending.TheVariants.{Optimal, Gap}
+use Rattle.sg_cert.specs.Fields.{count_follows, count_is, fitting, has_word, is_number_text, value_of}
+use Rattle.sg_cert.specs.LineReading.{cap_of, counts_of, follows, fraction_of, header_of, highest, lowest, mark_follows, mark_of, row_follows, row_of, shares, split_of, ticket_of, verdict_of, water_of}
 
 -- ---- the tests of a line
 
@@ -166,6 +172,71 @@ split_slots = fixed (codes "split") ∷ number (pos 1) (pos 8) ∷ number (pos 1
 abbrev pub SplitInOrder : List (List ℕ) → Type 0
 SplitInOrder fs = split_of fs ≡ first_of (tests_of (count_is 3 3 fs) split_slots fs []) (natural_at 1 fs, natural_at 2 fs)
 
+-- ---- the verdict
+
+-- verdict optimal
+abbrev pub optimal_slots : List Slot
+optimal_slots = fixed (codes "verdict") ∷ fixed (codes "optimal") ∷ []
+
+abbrev pub optimal_line : List (List ℕ) → Result Ending ℕ
+optimal_line fs = first_of (tests_of (count_is 2 2 fs) optimal_slots fs []) Optimal
+
+-- what stands in front of the cause of a gap, and a count of steps
+abbrev pub gap_slots : List ℕ → List Slot → List Slot
+gap_slots word slots = fixed (codes "verdict") ∷ fixed (codes "gap") ∷ fixed word ∷ slots
+
+-- a number of at least 1, or of at least 0, that fits 64 bits
+abbrev pub counted_slot : Slot
+counted_slot = number (pos 1) (pos (2 ^ 64 - 1))
+
+abbrev pub step_slot : Slot
+step_slot = number (pos 0) (pos (2 ^ 64 - 1))
+
+-- first k and as many actions as fields are left
+abbrev pub fix_slots : List (List ℕ) → List Slot
+fix_slots fs = number (pos 1) (pos 8) ∷ number (pos 1) (pos 8) ∷ numbers 1 65535 fs
+
+abbrev pub fix_at : ℕ → List (List ℕ) → Fix
+fix_at i fs = record { first = natural_at i fs; acts = naturals (drop (i + 2) fs) }
+
+-- verdict gap nodes N
+abbrev pub nodes_line : List (List ℕ) → Result Ending ℕ
+nodes_line fs = first_of (tests_of (count_is 4 4 fs) (gap_slots (codes "nodes") (counted_slot ∷ [])) fs []) (Gap (causes.Nodes (natural_at 3 fs)))
+
+-- verdict gap pivots N fix
+abbrev pub pivots_slots : List (List ℕ) → List Slot
+pivots_slots fs = gap_slots (codes "pivots") (counted_slot ∷ fix_slots (drop 6 fs))
+
+abbrev pub pivots_line : List (List ℕ) → Result Ending ℕ
+pivots_line fs = first_of (tests_of (count_follows 5 (length fs) (slice_get fs 5)) (pivots_slots fs) fs []) (Gap (causes.Pivots (natural_at 3 fs) (fix_at 4 fs)))
+
+-- verdict gap looks N step fix
+abbrev pub looks_slots : List (List ℕ) → List Slot
+looks_slots fs = gap_slots (codes "looks") (counted_slot ∷ step_slot ∷ fix_slots (drop 7 fs))
+
+abbrev pub looks_line : List (List ℕ) → Result Ending ℕ
+looks_line fs = first_of (tests_of (count_follows 6 (length fs) (slice_get fs 6)) (looks_slots fs) fs [])
+    (Gap (causes.Looks (natural_at 3 fs) (natural_at 4 fs) (fix_at 5 fs)))
+
+-- verdict gap wide name OP left right step fix
+abbrev pub wide_slots : List ℕ → List (List ℕ) → List Slot
+wide_slots word fs = gap_slots (codes "wide")
+    (number (pos 1) (pos 7) ∷ fixed word ∷ number lowest highest ∷ number lowest highest ∷ step_slot ∷ fix_slots (drop 10 fs))
+
+abbrev pub wide_line : Op → List ℕ → List (List ℕ) → Result Ending ℕ
+wide_line op word fs = first_of (tests_of (count_follows 9 (length fs) (slice_get fs 9)) (wide_slots word fs) fs [])
+    (Gap (causes.Wide (natural_at 3 fs) (record { op = op; left = number_at 5 fs; right = number_at 6 fs }) (natural_at 7 fs) (fix_at 8 fs)))
+
+abbrev pub VerdictInOrder : List (List ℕ) → Type 0
+VerdictInOrder fs = verdict_of fs ≡
+    (if has_word 1 (codes "optimal") fs then optimal_line fs
+    else if has_word 2 (codes "nodes") fs then nodes_line fs
+    else if has_word 2 (codes "pivots") fs then pivots_line fs
+    else if has_word 2 (codes "looks") fs then looks_line fs
+    else if has_word 4 (codes "sum") fs then wide_line Sum (codes "sum") fs
+    else if has_word 4 (codes "less") fs then wide_line Less (codes "less") fs
+    else wide_line Times (codes "times") fs)
+
 -- each kind of line gives the reason of the first of its tests that fails, and else its numbers
 pub record LinesInOrder : Type 0 where
   pub counts : (fs : List (List ℕ)) → CountsInOrder fs
@@ -179,3 +250,4 @@ pub record LinesInOrder : Type 0 where
   pub row : (before : Option Line) (fs : List (List ℕ)) → RowInOrder before fs
   pub water : (fs : List (List ℕ)) → WaterInOrder fs
   pub upper : (fs : List (List ℕ)) → FractionInOrder (codes "upper") fs
+  pub verdict : (fs : List (List ℕ)) → VerdictInOrder fs
