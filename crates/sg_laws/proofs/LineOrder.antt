@@ -1,7 +1,7 @@
 -- Each kind of line gives the reason of the first of its tests that fails.
 use Rattle.std.proofs.Common.{◌≡◌, ℕ, zero, suc, ◌-◌, ◌^◌, ◌≤◌, Bool, true, false, not, cond, List, [], ◌∷◌, ◌++◌, length, drop, Option, Some, None, Result, Ok, Err, refl, sym, ap, ◌∙◌, arith, append_assoc}
 use Rattle.std.proofs.lemmas.List.{append-nil, length-map}
-use Rattle.std.specs.Prelude.{slice_get, ℤ, pos, negsuc, codes, nat_le, ◌&&◌, bytes_eq, unsigned_abs}
+use Rattle.std.specs.Prelude.{◌==◌, slice_get, ℤ, pos, negsuc, codes, nat_le, ◌&&◌, bytes_eq, unsigned_abs}
 use Rattle.std.proofs.lemmas.Bool.Decides.{nat_tests}
 use Rattle.sg_num.specs.declared.step.Op.{Op}
 use Rattle.sg_num.specs.declared.step.Op.TheVariants.{Sum, Less, Times}
@@ -109,10 +109,11 @@ long_as ws ss fs m e = rw (words_long (fields ws) ss fs m e, spelled_long (field
 abbrev pub judged : {A : Type 0} → Bool → List Slot → List (List ℕ) → Result A ℕ → Result A ℕ
 judged counted ss fs y = cond (each is_there ss fs) (cond counted (cond (each is_spelled ss fs) (cond (each is_ranged ss fs) y (Err 6)) (Err 5)) (Err 4)) (Err 3)
 
-pub short : {A : Type 0} (counted : Bool) (ws : List ℕ) (ss : List Slot) (fs : List (List ℕ)) (y : Result A ℕ) (k : Unit {0} → Result A ℕ) → Matches (fields ws) ss → counted ≡ false
-    → (shaped_if counted ws fs >>= k) ≡ judged counted ss fs y
-short true ws ss fs y k m c = absurd cc
-short false ws ss fs y k m c = rw (short_as ws ss fs m) (by_words (each is_there ss fs))
+pub short : {A : Type 0} (counted stated : Bool) (ws : List ℕ) (ss : List Slot) (fs : List (List ℕ)) (y : Result A ℕ) (k : Unit {0} → Result A ℕ) → Matches (fields ws) ss
+    → counted ≡ false → stated ≡ false → (shaped_if counted ws fs >>= k) ≡ judged stated ss fs y
+short true stated ws ss fs y k m c d = absurd cc
+short false true ws ss fs y k m c d = absurd cc
+short false false ws ss fs y k m c d = rw (short_as ws ss fs m) (by_words (each is_there ss fs))
   where
     by_words : (b : Bool) → (cond b (Err 4) (Err 3) >>= k) ≡ cond b (Err 4) (Err 3)
     by_words true = refl
@@ -176,21 +177,24 @@ by_four P h = by_more 3 P (λ a. by_three (λ fs. P (a ∷ fs)) (h a))
 counted_is : (n m : ℕ) → (nat_le n m && nat_le m n) ≡ true → m ≡ n
 counted_is n m e = grind (arith, nat_tests)
 
+counted_not : (n m : ℕ) → (nat_le n m && nat_le m n) ≡ false → (m == n) ≡ false
+counted_not n m e = grind (arith, nat_tests)
+
 -- a line of n fields, or of another count
-by_count : (n : ℕ) (P : List (List ℕ) → Type 0) (fs : List (List ℕ)) → (count_is n n fs ≡ false → P fs) → (length fs ≡ n → P fs) → P fs
+by_count : (n : ℕ) (P : List (List ℕ) → Type 0) (fs : List (List ℕ)) → (count_is n n fs ≡ false → (length fs == n) ≡ false → P fs) → (length fs ≡ n → P fs) → P fs
 by_count n P fs other same = by_test (count_is n n fs) refl
   where
     by_test : (b : Bool) → count_is n n fs ≡ b → P fs
     by_test true e = same (counted_is n (length fs) e)
-    by_test false e = other e
+    by_test false e = other e (counted_not n (length fs) e)
 
-three_or : (P : List (List ℕ) → Type 0) (fs : List (List ℕ)) → (count_is 3 3 fs ≡ false → P fs) → ((a b c : List ℕ) → P (a ∷ b ∷ c ∷ [])) → P fs
+three_or : (P : List (List ℕ) → Type 0) (fs : List (List ℕ)) → (count_is 3 3 fs ≡ false → (length fs == 3) ≡ false → P fs) → ((a b c : List ℕ) → P (a ∷ b ∷ c ∷ [])) → P fs
 three_or P fs other same = by_count 3 P fs other (by_three P same fs)
 
-four_or : (P : List (List ℕ) → Type 0) (fs : List (List ℕ)) → (count_is 4 4 fs ≡ false → P fs) → ((a b c d : List ℕ) → P (a ∷ b ∷ c ∷ d ∷ [])) → P fs
+four_or : (P : List (List ℕ) → Type 0) (fs : List (List ℕ)) → (count_is 4 4 fs ≡ false → (length fs == 4) ≡ false → P fs) → ((a b c d : List ℕ) → P (a ∷ b ∷ c ∷ d ∷ [])) → P fs
 four_or P fs other same = by_count 4 P fs other (by_four P same fs)
 
-five_or : (P : List (List ℕ) → Type 0) (fs : List (List ℕ)) → (count_is 5 5 fs ≡ false → P fs) → ((a b c d e : List ℕ) → P (a ∷ b ∷ c ∷ d ∷ e ∷ [])) → P fs
+five_or : (P : List (List ℕ) → Type 0) (fs : List (List ℕ)) → (count_is 5 5 fs ≡ false → (length fs == 5) ≡ false → P fs) → ((a b c d e : List ℕ) → P (a ∷ b ∷ c ∷ d ∷ e ∷ [])) → P fs
 five_or P fs other same = by_count 5 P fs other (by_more 4 P (λ a. by_four (λ fs. P (a ∷ fs)) (same a)) fs)
 
 -- ---- the kinds of lines
@@ -202,35 +206,35 @@ ordered false x = refl
 mark : (before : Option Mark) (fs : List (List ℕ)) → MarkInOrder before fs
 unfolding mark_of
 mark before fs =
-    four_or (MarkInOrder before) fs (λ e. short (count_is 4 4 fs) (codes "m") mark_slots fs _ _ (refl, refl, tt) e)
+    four_or (MarkInOrder before) fs (λ e u. short (count_is 4 4 fs) (length fs == 4) (codes "m") mark_slots fs _ _ (refl, refl, tt) e u)
     (λ a b c d. long true (codes "m") mark_slots (a ∷ b ∷ c ∷ d ∷ []) _ _ (refl, refl, tt) refl refl
     (next _ _ _ _ _ _ (natural 1 8 b (c ∷ d ∷ [])) (next _ _ _ _ _ _ (natural 1 65535 c (d ∷ [])) (next _ _ _ _ _ _ (whole (pos 1) highest d []) (ordered _ _)))))
 
 row : (before : Option Line) (fs : List (List ℕ)) → RowInOrder before fs
 unfolding row_of
 row before fs =
-    three_or (RowInOrder before) fs (λ e. short (count_is 3 3 fs) (codes "c") row_slots fs _ _ (refl, refl, tt) e)
+    three_or (RowInOrder before) fs (λ e u. short (count_is 3 3 fs) (length fs == 3) (codes "c") row_slots fs _ _ (refl, refl, tt) e u)
     (λ a b c. long true (codes "c") row_slots (a ∷ b ∷ c ∷ []) _ _ (refl, refl, tt) refl refl
     (next _ _ _ _ _ _ (natural 1 1535 b (c ∷ [])) (next _ _ _ _ _ _ (whole (pos 1) highest c []) (ordered _ _))))
 
 counts : (fs : List (List ℕ)) → CountsInOrder fs
 unfolding counts_of
 counts fs =
-    three_or CountsInOrder fs (λ e. short (count_is 3 3 fs) (codes "tickets") counts_slots fs _ _ (refl, refl, tt) e)
+    three_or CountsInOrder fs (λ e u. short (count_is 3 3 fs) (length fs == 3) (codes "tickets") counts_slots fs _ _ (refl, refl, tt) e u)
     (λ a b c. long true (codes "tickets") counts_slots (a ∷ b ∷ c ∷ []) _ _ (refl, refl, tt) refl refl
     (next _ _ _ _ _ _ (natural 1 (2 ^ 127 - 1) b (c ∷ [])) (next _ _ _ _ _ _ (whole lowest highest c []) refl)))
 
 splits : (fs : List (List ℕ)) → SplitInOrder fs
 unfolding split_of
 splits fs =
-    three_or SplitInOrder fs (λ e. short (count_is 3 3 fs) (codes "split") split_slots fs _ _ (refl, refl, tt) e)
+    three_or SplitInOrder fs (λ e u. short (count_is 3 3 fs) (length fs == 3) (codes "split") split_slots fs _ _ (refl, refl, tt) e u)
     (λ a b c. long true (codes "split") split_slots (a ∷ b ∷ c ∷ []) _ _ (refl, refl, tt) refl refl
     (next _ _ _ _ _ _ (natural 1 8 b (c ∷ [])) (next _ _ _ _ _ _ (natural 1 65535 c []) refl)))
 
 header : (word : List ℕ) → Matches (fields word) (header_slots word) → (fs : List (List ℕ)) → HeaderInOrder word fs
 unfolding header_of
 header word m fs =
-    four_or (HeaderInOrder word) fs (λ e. short (count_is 4 4 fs) word (header_slots word) fs _ _ m e)
+    four_or (HeaderInOrder word) fs (λ e u. short (count_is 4 4 fs) (length fs == 4) word (header_slots word) fs _ _ m e u)
     (λ a b c d. long true word (header_slots word) (a ∷ b ∷ c ∷ d ∷ []) _ _ m refl refl
     (next _ _ _ _ _ _ (whole (pos 1) highest b (c ∷ d ∷ [])) (next _ _ _ _ _ _ (whole (pos 0) highest c (d ∷ [])) (next _ _ _ _ _ _ (natural 0 (2 ^ 127 - 1) d []) refl))))
 
@@ -262,7 +266,7 @@ later false b c d y = refl
 fraction : (word : List ℕ) → Matches (fields word) (fraction_slots word) → (fs : List (List ℕ)) → FractionInOrder word fs
 unfolding fraction_of
 fraction word m fs =
-    three_or (FractionInOrder word) fs (λ e. short (count_is 3 3 fs) word (fraction_slots word) fs _ _ m e)
+    three_or (FractionInOrder word) fs (λ e u. short (count_is 3 3 fs) (length fs == 3) word (fraction_slots word) fs _ _ m e u)
     (λ a b c. long true word (fraction_slots word) (a ∷ b ∷ c ∷ []) _ _ m refl refl
     (next _ _ _ _ true _ (fractions b c []) refl ∙ later (is_ranged (number lowest highest) b) _ _ true _))
 
@@ -276,7 +280,7 @@ spent : (fs : List (List ℕ)) → spent_of fs ≡ spent_line fs
 unfolding spent_of
 spent fs =
     four_or (λ fs. spent_of fs ≡ spent_line fs) fs
-    (λ e. short (count_is 4 4 fs) (codes "water # # resources") spent_slots fs _ _ (refl, refl, (refl, (refl, (refl, refl, tt)))) e)
+    (λ e u. short (count_is 4 4 fs) (length fs == 4) (codes "water # # resources") spent_slots fs _ _ (refl, refl, (refl, (refl, (refl, refl, tt)))) e u)
     (λ a b c d. long true (codes "water # # resources") spent_slots (a ∷ b ∷ c ∷ d ∷ []) _ _ (refl, refl, (refl, (refl, (refl, refl, tt)))) refl refl
     (next _ _ _ _ true _ (fractions b c (d ∷ [])) refl ∙ later (is_ranged (number lowest highest) b) _ _ true _))
 
@@ -284,7 +288,7 @@ target : (fs : List (List ℕ)) → target_of fs ≡ target_line fs
 unfolding target_of
 target fs =
     five_or (λ fs. target_of fs ≡ target_line fs) fs
-    (λ e. short (count_is 5 5 fs) (codes "water # # target #") target_slots fs _ _ (refl, refl, (refl, (refl, (refl, refl, (refl, tt))))) e)
+    (λ e u. short (count_is 5 5 fs) (length fs == 5) (codes "water # # target #") target_slots fs _ _ (refl, refl, (refl, (refl, (refl, refl, (refl, tt))))) e u)
     (λ a b c d e. long true (codes "water # # target #") target_slots (a ∷ b ∷ c ∷ d ∷ e ∷ []) _ _ (refl, refl, (refl, (refl, (refl, refl, (refl, tt))))) refl refl
     (next _ _ _ _ _ _ (fractions b c (d ∷ e ∷ [])) (next _ _ _ _ true _ (natural 1 65535 e []) refl)
     ∙ later (is_ranged (number lowest highest) b) _ _ (is_ranged (number (pos 1) (pos 65535)) e && true) _))
@@ -296,7 +300,7 @@ plain : (fs : List (List ℕ)) → plain_of fs ≡ plain_line fs
 unfolding plain_of
 plain fs =
     four_or (λ fs. plain_of fs ≡ plain_line fs) fs
-    (λ e. short (count_is 4 4 fs) (codes "cap # plain #") plain_slots fs _ _ (refl, refl, (refl, (refl, refl, (refl, tt)))) e)
+    (λ e u. short (count_is 4 4 fs) (length fs == 4) (codes "cap # plain #") plain_slots fs _ _ (refl, refl, (refl, (refl, refl, (refl, tt)))) e u)
     (λ a b c d. long true (codes "cap # plain #") plain_slots (a ∷ b ∷ c ∷ d ∷ []) _ _ (refl, refl, (refl, (refl, refl, (refl, tt)))) refl refl
     (next _ _ _ _ _ _ (natural 1 8 b (c ∷ d ∷ [])) (next _ _ _ _ _ _ (whole (negsuc (2 ^ 63 - 1)) (pos (2 ^ 63 - 1)) d []) refl)))
 
@@ -304,7 +308,7 @@ proved : (fs : List (List ℕ)) → proved_of fs ≡ proved_line fs
 unfolding proved_of
 proved fs =
     five_or (λ fs. proved_of fs ≡ proved_line fs) fs
-    (λ e. short (count_is 5 5 fs) (codes "cap # proved # #") proved_slots fs _ _ (refl, refl, (refl, (refl, refl, (refl, (refl, tt))))) e)
+    (λ e u. short (count_is 5 5 fs) (length fs == 5) (codes "cap # proved # #") proved_slots fs _ _ (refl, refl, (refl, (refl, refl, (refl, (refl, tt))))) e u)
     (λ a b c d e. long true (codes "cap # proved # #") proved_slots (a ∷ b ∷ c ∷ d ∷ e ∷ []) _ _ (refl, refl, (refl, (refl, refl, (refl, (refl, tt))))) refl refl
     (next _ _ _ _ _ _ (natural 1 8 b (c ∷ d ∷ e ∷ []))
     (next _ _ _ _ _ _ (whole (negsuc (2 ^ 63 - 1)) (pos (2 ^ 63 - 1)) d (e ∷ [])) (next _ _ _ _ _ _ (natural 1 65535 e []) refl))))
@@ -319,9 +323,9 @@ together (Ok x) f g = refl
 together (Err e) f g = refl
 
 -- a line that is read in two steps
-short_two : {A B : Type 0} (counted : Bool) (ws : List ℕ) (ss : List Slot) (fs : List (List ℕ)) (y : Result B ℕ) (h : Unit {0} → Result A ℕ) (g : A → Result B ℕ) → Matches (fields ws) ss → counted ≡ false
-    → ((shaped_if counted ws fs >>= h) >>= g) ≡ judged counted ss fs y
-short_two counted ws ss fs y h g m c = together (shaped_if counted ws fs) h g ∙ short counted ws ss fs y (λ x. h x >>= g) m c
+short_two : {A B : Type 0} (counted stated : Bool) (ws : List ℕ) (ss : List Slot) (fs : List (List ℕ)) (y : Result B ℕ) (h : Unit {0} → Result A ℕ) (g : A → Result B ℕ)
+    → Matches (fields ws) ss → counted ≡ false → stated ≡ false → ((shaped_if counted ws fs >>= h) >>= g) ≡ judged stated ss fs y
+short_two counted stated ws ss fs y h g m c d = together (shaped_if counted ws fs) h g ∙ short counted stated ws ss fs y (λ x. h x >>= g) m c d
 
 long_two : {A B : Type 0} (counted : Bool) (ws : List ℕ) (ss : List Slot) (fs : List (List ℕ)) (y : Result B ℕ) (h : Unit {0} → Result A ℕ) (g : A → Result B ℕ) → Matches (fields ws) ss → counted ≡ true
     → length fs ≡ length ss → (h tt >>= g) ≡ cond (each is_ranged ss fs) y (Err 6) → ((shaped_if counted ws fs >>= h) >>= g) ≡ judged counted ss fs y
@@ -369,7 +373,7 @@ ticket_long before (a ∷ b ∷ fs) h e =
 
 ticket_short : (before : Option (List ℕ)) (fs : List (List ℕ)) → count_is 2 202 fs ≡ false → TicketInOrder before fs
 unfolding ticket_of
-ticket_short before fs e = short_two (count_is 2 202 fs) (codes "t") (ticket_slots fs) fs _ _ _ (ticket_matches fs) e
+ticket_short before fs e = short_two (count_is 2 202 fs) (count_is 2 202 fs) (codes "t") (ticket_slots fs) fs _ _ _ (ticket_matches fs) e e
 
 ticket : (before : Option (List ℕ)) (fs : List (List ℕ)) → TicketInOrder before fs
 ticket before fs = by_test (count_is 2 202 fs) refl
@@ -380,21 +384,21 @@ ticket before fs = by_test (count_is 2 202 fs) refl
 
 -- ---- the verdict
 
-two_or : (P : List (List ℕ) → Type 0) (fs : List (List ℕ)) → (count_is 2 2 fs ≡ false → P fs) → ((a b : List ℕ) → P (a ∷ b ∷ [])) → P fs
+two_or : (P : List (List ℕ) → Type 0) (fs : List (List ℕ)) → (count_is 2 2 fs ≡ false → (length fs == 2) ≡ false → P fs) → ((a b : List ℕ) → P (a ∷ b ∷ [])) → P fs
 two_or P fs other same = by_count 2 P fs other (by_more 1 P (λ a. by_more 0 (λ fs. P (a ∷ fs)) (λ b. by_none (λ fs. P (a ∷ b ∷ fs)) (same a b))) fs)
 
 optimal : (fs : List (List ℕ)) → optimal_of fs ≡ optimal_line fs
 unfolding optimal_of
 optimal fs =
     two_or (λ fs. optimal_of fs ≡ optimal_line fs) fs
-    (λ e. short (count_is 2 2 fs) (codes "verdict optimal") optimal_slots fs _ _ (refl, refl, (refl, refl, tt)) e)
+    (λ e u. short (count_is 2 2 fs) (length fs == 2) (codes "verdict optimal") optimal_slots fs _ _ (refl, refl, (refl, refl, tt)) e u)
     (λ a b. long true (codes "verdict optimal") optimal_slots (a ∷ b ∷ []) _ _ (refl, refl, (refl, refl, tt)) refl refl refl)
 
 nodes : (fs : List (List ℕ)) → (nodes_of fs >>= λ c. Ok (Gap c)) ≡ nodes_line fs
 unfolding nodes_of
 nodes fs =
     four_or (λ fs. (nodes_of fs >>= λ c. Ok (Gap c)) ≡ nodes_line fs) fs
-    (λ e. short_two (count_is 4 4 fs) (codes "verdict gap nodes") (gap_slots (codes "nodes") (counted_slot ∷ [])) fs _ _ _ (refl, refl, (refl, refl, (refl, refl, tt))) e)
+    (λ e u. short_two (count_is 4 4 fs) (length fs == 4) (codes "verdict gap nodes") (gap_slots (codes "nodes") (counted_slot ∷ [])) fs _ _ _ (refl, refl, (refl, refl, (refl, refl, tt))) e u)
     (λ a b c d. long_two true (codes "verdict gap nodes") (gap_slots (codes "nodes") (counted_slot ∷ [])) (a ∷ b ∷ c ∷ d ∷ []) _ _ _ (refl, refl, (refl, refl, (refl, refl, tt))) refl refl
     (together (natural_next 1 (2 ^ 64 - 1) (d ∷ [])) _ _ ∙ next _ _ _ _ _ _ (natural 1 (2 ^ 64 - 1) d []) refl))
 
@@ -441,7 +445,7 @@ PivotsJudged fs = pivots_of fs ≡ judged (pivots_counted fs) (pivots_slots fs) 
 
 pivots_short : (fs : List (List ℕ)) → pivots_counted fs ≡ false → PivotsJudged fs
 unfolding pivots_of
-pivots_short fs e = short_two (pivots_counted fs) (codes "verdict gap pivots") (pivots_slots fs) fs _ _ _ (pivots_matches fs) e
+pivots_short fs e = short_two (pivots_counted fs) (pivots_counted fs) (codes "verdict gap pivots") (pivots_slots fs) fs _ _ _ (pivots_matches fs) e e
 
 pivots_fields : (a b c d e f : List ℕ) (fs : List (List ℕ)) → pivots_counted (a ∷ b ∷ c ∷ d ∷ e ∷ f ∷ fs) ≡ true → PivotsJudged (a ∷ b ∷ c ∷ d ∷ e ∷ f ∷ fs)
 unfolding pivots_of
@@ -478,7 +482,7 @@ LooksJudged fs = looks_of fs ≡ judged (looks_counted fs) (looks_slots fs) fs (
 
 looks_short : (fs : List (List ℕ)) → looks_counted fs ≡ false → LooksJudged fs
 unfolding looks_of looks_head_of
-looks_short fs e = short_two (looks_counted fs) (codes "verdict gap looks") (looks_slots fs) fs _ _ _ (looks_matches fs) e
+looks_short fs e = short_two (looks_counted fs) (looks_counted fs) (codes "verdict gap looks") (looks_slots fs) fs _ _ _ (looks_matches fs) e e
 
 -- two tests in front of others, and four
 two_and : {A : Type 0} (a b c : Bool) (y z : A) → cond ((a && (b && true)) && c) y z ≡ cond (a && (b && c)) y z
@@ -532,7 +536,7 @@ module _ (op : Op) (words word : List ℕ) (matches : (fs : List (List ℕ)) →
 
   wide_short : (fs : List (List ℕ)) → wide_counted fs ≡ false → WideJudged fs
   unfolding wide_as wide_head_of
-  wide_short fs e = short_two (wide_counted fs) words (wide_slots word fs) fs _ _ _ (matches fs) e
+  wide_short fs e = short_two (wide_counted fs) (wide_counted fs) words (wide_slots word fs) fs _ _ _ (matches fs) e e
 
   wide_fields : (a b c d e f g h i j : List ℕ) (fs : List (List ℕ)) → wide_counted (a ∷ b ∷ c ∷ d ∷ e ∷ f ∷ g ∷ h ∷ i ∷ j ∷ fs) ≡ true → WideJudged (a ∷ b ∷ c ∷ d ∷ e ∷ f ∷ g ∷ h ∷ i ∷ j ∷ fs)
   unfolding wide_as wide_head_of

@@ -1,5 +1,5 @@
 -- What stands in each kind of line of a report, and the order of the tests of a line, whatever reads it.
-use Rattle.std.specs.Prelude.{◌+◌, length, slice_get, ◌≡◌, ℕ, Bool, true, false, not, ◌&&◌, if◌then◌else◌, List, [], ◌∷◌, Option, Some, None, Result, Ok, Err, ℤ, pos, negsuc, ◌-◌, ◌^◌, unsigned_abs, bytes_eq, codes, slice_index_or, map, drop, int_le}
+use Rattle.std.specs.Prelude.{◌==◌, ◌+◌, length, slice_get, ◌≡◌, ℕ, Bool, true, false, not, ◌&&◌, if◌then◌else◌, List, [], ◌∷◌, Option, Some, None, Result, Ok, Err, ℤ, pos, negsuc, ◌-◌, ◌^◌, unsigned_abs, bytes_eq, codes, slice_index_or, map, drop, int_le}
 use Rattle.sg_model.specs.declared.level.Level.TheVariants.{Resources, Target}
 use Rattle.sg_tree.specs.declared.fact.Fact.{Fact}
 use Rattle.sg_tree.specs.declared.fact.Fact.TheVariants.{Water}
@@ -56,6 +56,10 @@ first_of (test ∷ tests) x = if test.0 then first_of tests x else Err test.1
 abbrev pub tests_of : Bool → List Slot → List (List ℕ) → List (Bool × ℕ) → List (Bool × ℕ)
 tests_of counted slots fs more = (each is_there slots fs, 3) ∷ (counted, 4) ∷ (each is_spelled slots fs, 5) ∷ (each is_ranged slots fs, 6) ∷ more
 
+-- what a line says, by its tests, that should have just these fields
+abbrev pub says : {A : Type 0} → List Slot → List (List ℕ) → List (Bool × ℕ) → A → Result A ℕ
+says slots fs more x = first_of (tests_of (length fs == length slots) slots fs more) x
+
 -- ---- the kinds of lines
 
 -- the number at this place of a line, from 0
@@ -82,7 +86,7 @@ is_lowest num den = not (shares num den den)
 
 abbrev pub FractionInOrder : List ℕ → List (List ℕ) → Type 0
 FractionInOrder word fs = fraction_of word fs ≡
-    first_of (tests_of (count_is 3 3 fs) (fraction_slots word) fs ((is_lowest (natural_at 1 fs) (natural_at 2 fs), 6) ∷ []))
+    says (fraction_slots word) fs ((is_lowest (natural_at 1 fs) (natural_at 2 fs), 6) ∷ [])
     (record { num = number_at 1 fs; den = number_at 2 fs })
 
 -- tickets plays total
@@ -90,9 +94,9 @@ abbrev pub counts_slots : List Slot
 counts_slots = fixed (codes "tickets") ∷ number (pos 1) highest ∷ number lowest highest ∷ []
 
 abbrev pub CountsInOrder : List (List ℕ) → Type 0
-CountsInOrder fs = counts_of fs ≡ first_of (tests_of (count_is 3 3 fs) counts_slots fs []) (natural_at 1 fs, number_at 2 fs)
+CountsInOrder fs = counts_of fs ≡ says counts_slots fs [] (natural_at 1 fs, number_at 2 fs)
 
--- t weight and the choices, behind the choices before
+-- t weight and up to 200 choices, behind the choices before
 abbrev pub ticket_slots : List (List ℕ) → List Slot
 ticket_slots fs = fixed (codes "t") ∷ number (pos 1) highest ∷ numbers 0 65535 (drop 2 fs)
 
@@ -107,7 +111,7 @@ mark_slots = fixed (codes "m") ∷ number (pos 1) (pos 8) ∷ number (pos 1) (po
 
 abbrev pub MarkInOrder : Option Mark → List (List ℕ) → Type 0
 MarkInOrder before fs = mark_of before fs ≡
-    first_of (tests_of (count_is 4 4 fs) mark_slots fs ((mark_follows before (natural_at 1 fs) (natural_at 2 fs), 7) ∷ []))
+    says mark_slots fs ((mark_follows before (natural_at 1 fs) (natural_at 2 fs), 7) ∷ [])
     (record { l = natural_at 1 fs; a = natural_at 2 fs; v = number_at 3 fs })
 
 -- c row v, behind the row before
@@ -116,21 +120,21 @@ row_slots = fixed (codes "c") ∷ number (pos 1) (pos 1535) ∷ number (pos 1) h
 
 abbrev pub RowInOrder : Option Line → List (List ℕ) → Type 0
 RowInOrder before fs = row_of before fs ≡
-    first_of (tests_of (count_is 3 3 fs) row_slots fs ((row_follows before (natural_at 1 fs), 7) ∷ [])) (record { row = natural_at 1 fs; v = number_at 2 fs })
+    says row_slots fs ((row_follows before (natural_at 1 fs), 7) ∷ []) (record { row = natural_at 1 fs; v = number_at 2 fs })
 
 -- WORD rho mu k
 abbrev pub header_slots : List ℕ → List Slot
 header_slots word = fixed word ∷ number (pos 1) highest ∷ number (pos 0) highest ∷ number (pos 0) highest ∷ []
 
 abbrev pub HeaderInOrder : List ℕ → List (List ℕ) → Type 0
-HeaderInOrder word fs = header_of word fs ≡ first_of (tests_of (count_is 4 4 fs) (header_slots word) fs []) (number_at 1 fs, number_at 2 fs, natural_at 3 fs)
+HeaderInOrder word fs = header_of word fs ≡ says (header_slots word) fs [] (number_at 1 fs, number_at 2 fs, natural_at 3 fs)
 
 -- water num den resources
 abbrev pub spent_slots : List Slot
 spent_slots = fixed (codes "water") ∷ number lowest highest ∷ number (pos 1) highest ∷ fixed (codes "resources") ∷ []
 
 abbrev pub spent_line : List (List ℕ) → Result Fact ℕ
-spent_line fs = first_of (tests_of (count_is 4 4 fs) spent_slots fs ((is_lowest (natural_at 1 fs) (natural_at 2 fs), 6) ∷ []))
+spent_line fs = says spent_slots fs ((is_lowest (natural_at 1 fs) (natural_at 2 fs), 6) ∷ [])
     (Water (record { num = number_at 1 fs; den = number_at 2 fs }) Resources)
 
 -- water num den target j
@@ -138,7 +142,7 @@ abbrev pub target_slots : List Slot
 target_slots = fixed (codes "water") ∷ number lowest highest ∷ number (pos 1) highest ∷ fixed (codes "target") ∷ number (pos 1) (pos 65535) ∷ []
 
 abbrev pub target_line : List (List ℕ) → Result Fact ℕ
-target_line fs = first_of (tests_of (count_is 5 5 fs) target_slots fs ((is_lowest (natural_at 1 fs) (natural_at 2 fs), 6) ∷ []))
+target_line fs = says target_slots fs ((is_lowest (natural_at 1 fs) (natural_at 2 fs), 6) ∷ [])
     (Water (record { num = number_at 1 fs; den = number_at 2 fs }) (Target (natural_at 4 fs)))
 
 abbrev pub WaterInOrder : List (List ℕ) → Type 0
@@ -153,14 +157,14 @@ abbrev pub plain_slots : List Slot
 plain_slots = fixed (codes "cap") ∷ number (pos 1) (pos 8) ∷ fixed (codes "plain") ∷ bound_slot ∷ []
 
 abbrev pub plain_line : List (List ℕ) → Result (ℕ × ℤ × ℕ) ℕ
-plain_line fs = first_of (tests_of (count_is 4 4 fs) plain_slots fs []) (natural_at 1 fs, number_at 3 fs, 0)
+plain_line fs = says plain_slots fs [] (natural_at 1 fs, number_at 3 fs, 0)
 
 -- cap l proved v n
 abbrev pub proved_slots : List Slot
 proved_slots = fixed (codes "cap") ∷ number (pos 1) (pos 8) ∷ fixed (codes "proved") ∷ bound_slot ∷ number (pos 1) (pos 65535) ∷ []
 
 abbrev pub proved_line : List (List ℕ) → Result (ℕ × ℤ × ℕ) ℕ
-proved_line fs = first_of (tests_of (count_is 5 5 fs) proved_slots fs []) (natural_at 1 fs, number_at 3 fs, natural_at 4 fs)
+proved_line fs = says proved_slots fs [] (natural_at 1 fs, number_at 3 fs, natural_at 4 fs)
 
 abbrev pub CapInOrder : List (List ℕ) → Type 0
 CapInOrder fs = cap_of fs ≡ (if has_word 2 (codes "plain") fs then plain_line fs else proved_line fs)
@@ -170,7 +174,7 @@ abbrev pub split_slots : List Slot
 split_slots = fixed (codes "split") ∷ number (pos 1) (pos 8) ∷ number (pos 1) (pos 65535) ∷ []
 
 abbrev pub SplitInOrder : List (List ℕ) → Type 0
-SplitInOrder fs = split_of fs ≡ first_of (tests_of (count_is 3 3 fs) split_slots fs []) (natural_at 1 fs, natural_at 2 fs)
+SplitInOrder fs = split_of fs ≡ says split_slots fs [] (natural_at 1 fs, natural_at 2 fs)
 
 -- ---- the verdict
 
@@ -179,13 +183,13 @@ abbrev pub optimal_slots : List Slot
 optimal_slots = fixed (codes "verdict") ∷ fixed (codes "optimal") ∷ []
 
 abbrev pub optimal_line : List (List ℕ) → Result Ending ℕ
-optimal_line fs = first_of (tests_of (count_is 2 2 fs) optimal_slots fs []) Optimal
+optimal_line fs = says optimal_slots fs [] Optimal
 
--- what stands in front of the cause of a gap, and a count of steps
+-- a verdict of a gap: the word of its cause, and what stands behind it
 abbrev pub gap_slots : List ℕ → List Slot → List Slot
 gap_slots word slots = fixed (codes "verdict") ∷ fixed (codes "gap") ∷ fixed word ∷ slots
 
--- a number of at least 1, or of at least 0, that fits 64 bits
+-- a number that fits 64 bits, from 1 on, and from 0 on
 abbrev pub counted_slot : Slot
 counted_slot = number (pos 1) (pos (2 ^ 64 - 1))
 
@@ -201,7 +205,7 @@ fix_at i fs = record { first = natural_at i fs; acts = naturals (drop (i + 2) fs
 
 -- verdict gap nodes N
 abbrev pub nodes_line : List (List ℕ) → Result Ending ℕ
-nodes_line fs = first_of (tests_of (count_is 4 4 fs) (gap_slots (codes "nodes") (counted_slot ∷ [])) fs []) (Gap (causes.Nodes (natural_at 3 fs)))
+nodes_line fs = says (gap_slots (codes "nodes") (counted_slot ∷ [])) fs [] (Gap (causes.Nodes (natural_at 3 fs)))
 
 -- verdict gap pivots N fix
 abbrev pub pivots_slots : List (List ℕ) → List Slot
