@@ -13,9 +13,9 @@ use Rattle.sg_frac.specs.Fractions.{Fraction}
 use Rattle.sg_tree.specs.declared.fact.Mark.{Mark}
 use Rattle.sg_tree.specs.declared.fact.Line.{Line}
 use Rattle.sg_num.specs.Exact.{fits}
-use Rattle.sg_cert.specs.Fields.{count_follows, count_is, fields, fitting, has_word, is_number_text, natural_next, natural_of, numbers_of, shaped_if, spelled_of, value_of, whole_next, whole_of, words_of, ◌>>=◌}
+use Rattle.sg_cert.specs.Fields.{shaped_as, count_follows, count_is, fields, fitting, has_word, is_number_text, natural_next, natural_of, numbers_of, shaped_if, spelled_of, value_of, whole_next, whole_of, words_of, ◌>>=◌}
 use Rattle.sg_cert.specs.LineReading.{fix_of, gap_of, looks_head_of, looks_of, nodes_of, optimal_of, pivots_of, wide_as, wide_head_of, counts_of, fraction_next, fraction_of, header_of, highest, in_order, lowest, mark_of, plain_of, proved_of, reduced_of, row_of, shares, spent_of, split_of, target_of, ticket_of}
-use Rattle.sg_laws.specs.LineTests.{VerdictInOrder, counted_slot, fix_at, fix_slots, gap_slots, looks_line, looks_slots, nodes_line, optimal_line, optimal_slots, pivots_line, pivots_slots, step_slot, wide_line, wide_slots, number_at, natural_at, CapInOrder, CountsInOrder, FractionInOrder, HeaderInOrder, LinesInOrder, MarkInOrder, RowInOrder, Slot, SplitInOrder, TicketInOrder, WaterInOrder, counts_slots, each, fixed, fraction_slots, header_slots, is_lowest, is_ranged, is_spelled, is_there, mark_slots, naturals, number, numbers, plain_line, plain_slots, proved_line, proved_slots, row_slots, spent_line, spent_slots, split_slots, target_line, target_slots, ticket_slots, within}
+use Rattle.sg_laws.specs.LineTests.{WordInOrder, VerdictInOrder, counted_slot, fix_at, fix_slots, gap_slots, looks_line, looks_slots, nodes_line, optimal_line, optimal_slots, pivots_line, pivots_slots, step_slot, wide_line, wide_slots, number_at, natural_at, CapInOrder, CountsInOrder, FractionInOrder, HeaderInOrder, LinesInOrder, MarkInOrder, RowInOrder, Slot, SplitInOrder, TicketInOrder, WaterInOrder, counts_slots, each, fixed, fraction_slots, header_slots, is_lowest, is_ranged, is_spelled, is_there, mark_slots, naturals, number, numbers, plain_line, plain_slots, proved_line, proved_slots, row_slots, spent_line, spent_slots, split_slots, target_line, target_slots, ticket_slots, within}
 
 -- ---- the words of a line, and what should stand in it
 
@@ -584,6 +584,18 @@ verdict fs =
     (wide Less (codes "verdict gap wide # less") (codes "less") (λ gs. (refl, refl, (refl, refl, (refl, refl, (refl, (refl, refl, wide_rest gs)))))) fs)
     (wide Times (codes "verdict gap wide # times") (codes "times") (λ gs. (refl, refl, (refl, refl, (refl, refl, (refl, (refl, refl, wide_rest gs)))))) fs))))))
 
+-- ---- lines of one word
+
+kept : {A : Type 0} (r : Result A ℕ) → r ≡ (r >>= (λ x. Ok x))
+kept (Ok x) = refl
+kept (Err e) = refl
+
+word_line : (word : List ℕ) → Matches (fields word) (fixed word ∷ []) → (fs : List (List ℕ)) → WordInOrder word fs
+word_line word m fs =
+    by_count 1 (WordInOrder word) fs (λ e u. kept (shaped_as word 1 1 fs) ∙ short (count_is 1 1 fs) (length fs == 1) word (fixed word ∷ []) fs (Ok tt) (λ x. Ok x) m e u)
+    (by_more 0 (WordInOrder word)
+    (λ a. by_none (λ gs. WordInOrder word (a ∷ gs)) (kept (shaped_as word 1 1 (a ∷ [])) ∙ long true word (fixed word ∷ []) (a ∷ []) (Ok tt) (λ x. Ok x) m refl refl refl)) fs)
+
 pub lines : LinesInOrder
 lines = record {
   counts = counts;
@@ -598,4 +610,6 @@ lines = record {
   water = water;
   verdict = verdict;
   upper = fraction (codes "upper") (refl, refl, tt);
+  unproved = word_line (codes "open") (refl, refl, tt);
+  ending = word_line (codes "end") (refl, refl, tt);
 }

@@ -11,7 +11,7 @@ use Rattle.sg_tree.specs.declared.fix.Fix.{Fix}
 use Rattle.sg_tree.specs.declared.report.Cause.TheVariants as causes
 use Rattle.sg_tree.specs.declared.report.Ending.{Ending}
 use Rattle.sg_tree.specs.declared.report.Ending.TheVariants.{Optimal, Gap}
-use Rattle.sg_cert.specs.Fields.{count_follows, count_is, fitting, has_word, is_number_text, value_of}
+use Rattle.sg_cert.specs.Fields.{count_follows, count_is, fitting, has_word, is_number_text, shaped_as, value_of}
 use Rattle.sg_cert.specs.LineReading.{cap_of, counts_of, follows, fraction_of, header_of, highest, lowest, mark_follows, mark_of, row_follows, row_of, shares, split_of, ticket_of, verdict_of, water_of}
 
 -- ---- the tests of a line
@@ -241,6 +241,11 @@ VerdictInOrder fs = verdict_of fs ≡
     else if has_word 4 (codes "less") fs then wide_line Less (codes "less") fs
     else wide_line Times (codes "times") fs)
 
+-- ---- lines of one word
+
+abbrev pub WordInOrder : List ℕ → List (List ℕ) → Type 0
+WordInOrder word fs = shaped_as word 1 1 fs ≡ says (fixed word ∷ []) fs [] tt
+
 -- each kind of line gives the reason of the first of its tests that fails, and else its numbers
 pub record LinesInOrder : Type 0 where
   pub counts : (fs : List (List ℕ)) → CountsInOrder fs
@@ -255,3 +260,5 @@ pub record LinesInOrder : Type 0 where
   pub water : (fs : List (List ℕ)) → WaterInOrder fs
   pub upper : (fs : List (List ℕ)) → FractionInOrder (codes "upper") fs
   pub verdict : (fs : List (List ℕ)) → VerdictInOrder fs
+  pub unproved : (fs : List (List ℕ)) → WordInOrder (codes "open") fs
+  pub ending : (fs : List (List ℕ)) → WordInOrder (codes "end") fs
