@@ -7,3 +7,4 @@ pub mod Steady
 pub mod Readers
 pub mod Faults
 pub mod Plays
+pub mod LineOrder

@@ -1,3 +1,4 @@
 pub mod Stops
 pub mod Faults
 pub mod Plays
+pub mod LineTests
