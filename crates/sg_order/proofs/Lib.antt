@@ -6,3 +6,5 @@ pub mod Games
 pub mod Parted
 pub mod Spelled
 pub mod Ascending
+pub mod Texts
+pub mod Written

@@ -90,7 +90,7 @@ rows_fine {V} items m n lists e columns pays =
     and_from (nat_eq (length (items (get_or lists i d))) n) (list_all is_pay (items (get_or lists i d)))
     (eq-eqb (length (items (get_or lists i d))) n (columns i d lt)) (are-pays (items (get_or lists i d)) (pays i d lt))))
 
-four_pays : (p : Payoff) → IsPayoff p → All IsPay (four p)
+pub four_pays : (p : Payoff) → IsPayoff p → All IsPay (four p)
 four_pays p h =
     All-cons IsPay p.dc (p.du ∷ p.ac ∷ p.au ∷ []) h.dc (All-cons IsPay p.du (p.ac ∷ p.au ∷ []) h.du (All-cons IsPay p.ac (p.au ∷ []) h.ac (All-cons IsPay p.au [] h.au (All-nil IsPay))))
 
