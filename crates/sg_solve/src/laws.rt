@@ -1,0 +1,8 @@
+//! Laws about solved games, each as the contract of a function that does nothing.
+
+ghost use Rattle.sg_solve.specs.Sums.{ValueSumsAgree};
+
+/// The sums that a report states under its value fit exactly where the value of its tickets is formed within 128 bits.
+pub fn value_sums_agree()
+    ensures { ValueSumsAgree }
+{}
