@@ -122,16 +122,16 @@ gcd-exists (suc f) a (suc b) lt =
     (r.0, IsGcd-from_mod a (suc b) r.0 r.1)
 
 -- numbers without a common divisor, by which two are multiples of one
-record Shares (m k : ℕ) : Type 0 where
-  by : ℕ
-  low : ℕ
-  high : ℕ
-  some : 0 < by
-  m_is : by * low ≡ m
-  k_is : by * high ≡ k
-  apart : IsGcd low high 1
+pub record Shares (m k : ℕ) : Type 0 where
+  pub by : ℕ
+  pub low : ℕ
+  pub high : ℕ
+  pub some : 0 < by
+  pub m_is : by * low ≡ m
+  pub k_is : by * high ≡ k
+  pub apart : IsGcd low high 1
 
-shares : (m k : ℕ) → 1 ≤ k → Shares m k
+pub shares : (m k : ℕ) → 1 ≤ k → Shares m k
 shares m k more =
     let r = gcd-exists (suc k) m k (omega arith) in
     let d : ℕ = r.0 in
@@ -148,7 +148,7 @@ shares m k more =
     one_divides z = let e : 1 * z ≡ z = omega arith in subst (λ (w : ℕ). 1 ∣ w) e (dvd-mul_right 1 z)
 
 -- the one multiplier's part divides the other's weights
-part_divides : (a b x y : ℕ) (s : Shares a b) → a * x ≡ b * y → (s.high ∣ x) × (s.low ∣ y)
+pub part_divides : (a b x y : ℕ) (s : Shares a b) → a * x ≡ b * y → (s.high ∣ x) × (s.low ∣ y)
 part_divides a b x y s e =
     let f : (s.by * s.low) * x ≡ (s.by * s.high) * y = subst (λ (z : ℕ). z * x ≡ (s.by * s.high) * y) (sym s.m_is) (subst (λ (z : ℕ). a * x ≡ z * y) (sym s.k_is) e) in
     let g : (s.by * s.high) * y ≡ s.by * (x * s.low) = omega (arith, f) in

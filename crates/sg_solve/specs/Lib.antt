@@ -1,1 +1,3 @@
 pub mod Solutions
+pub mod Sums
+pub mod Unique
