@@ -206,7 +206,7 @@ fn game_of_table(alloc: Global, table: &Table) -> Result<Parts, GameError>
 
 /// The parts of the game that the bytes of a file are, or the first rule of game files that they break, with its place.
 #[tactic(auto, unfolding(sg_format::specs::GameFiles::game_of_bytes))]
-pub(crate) fn read_parts(alloc: Global, bytes: &[u8]) -> Result<Parts, GameError>
+fn read_parts(alloc: Global, bytes: &[u8]) -> Result<Parts, GameError>
     ensures { Gives game_of result (game_of_bytes bytes.now) }
 {
     let table = document(alloc, bytes)?;

@@ -22,10 +22,3 @@ mod write;
 pub use fault::GameError;
 pub use game::read_game;
 pub use write::write_game;
-
-#[cfg(test)]
-mod hostile_tests;
-#[cfg(test)]
-mod tests;
-#[cfg(test)]
-mod writing_tests;

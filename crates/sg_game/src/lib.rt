@@ -26,6 +26,3 @@ pub use parts::{ListParts, Parts, TypeParts};
 pub use play::{covers, is_origami, legal, pay_a, pay_d, prior_total};
 pub use sg_model::{GameFault, Kind, Level, Place, Play};
 pub use spread::{greatest, shift};
-
-#[cfg(test)]
-mod tests;

@@ -22,6 +22,3 @@ mod step;
 
 pub use divisor::{gcd, lcm};
 pub use step::{Op, Wide, dot_step, less, mul_sub, sum, times};
-
-#[cfg(test)]
-mod tests;

@@ -17,8 +17,6 @@ mod laws;
 mod line;
 mod reading;
 mod stray;
-#[cfg(test)]
-mod tests;
 
 pub use command::Command;
 pub use laws::words_give;

@@ -1,8 +1,9 @@
-use crate::{Command, command_of, words_give};
+//! The words of a call, and the commands that they give.
+use sg_words::{Command, command_of, words_give};
 use std::alloc::{AllocError, Global};
 
-/// Words and the game that they ask to solve, by hand.
-const GAMES: [(&[&str], Option<&str>); 46] = [
+/// Words and the game that they ask to solve, if any, by hand.
+static WORDS: [(&[&str], Option<&str>); 69] = [
     // One name, and one positional word after it.
     (&[], None),
     (&["solve"], None),
@@ -54,10 +55,36 @@ const GAMES: [(&[&str], Option<&str>); 46] = [
     (&["solve", "help"], Some("help")),
     (&["--help"], None),
     (&["solve", "g", "--version"], None),
+    // Help or a version.
+    (&["-h"], None),
+    (&["-V"], None),
+    (&["--version"], None),
+    (&["solve", "--help"], None),
+    (&["solve", "g", "--help"], None),
+    (&["solve", "-V"], None),
+    (&["help", "check"], None),
+    (&["help", "show"], None),
+    (&["--help", "check", "g", "r"], None),
+    // Almost a name.
+    (&["CHECK", "g", "r"], None),
+    (&["chec", "g", "r"], None),
+    (&["checks", "g", "r"], None),
+    (&["check ", "g", "r"], None),
+    (&["Show", "g", "r"], None),
+    (&["sho", "g", "r"], None),
+    (&["shown", "g", "r"], None),
+    (&["", "g", "r"], None),
+    // A name at another place.
+    (&["g", "check", "r"], None),
+    (&["g", "show", "r"], None),
+    (&["--", "check", "g", "r"], None),
+    (&["--", "show", "g", "r"], None),
+    (&["-x", "check", "g", "r"], None),
+    (&["solve", "check", "g", "r"], None),
 ];
 
 /// The words after `check` or `show`, and the game and the report that they name, by hand.
-const PAIRS: [(&[&str], Option<(&str, &str)>); 42] = [
+static PAIRS: [(&[&str], Option<(&str, &str)>); 42] = [
     // Exactly two positional words, the game first.
     (&[], None),
     (&["g"], None),
@@ -112,50 +139,27 @@ const PAIRS: [(&[&str], Option<(&str, &str)>); 42] = [
     (&["g", "r", "--version"], None),
 ];
 
-/// More words that give no command.
-const REFUSED: [&[&str]; 23] = [
-    // Help or a version.
-    &["-h"],
-    &["-V"],
-    &["--version"],
-    &["solve", "--help"],
-    &["solve", "g", "--help"],
-    &["solve", "-V"],
-    &["help", "check"],
-    &["help", "show"],
-    &["--help", "check", "g", "r"],
-    // Almost a name.
-    &["CHECK", "g", "r"],
-    &["chec", "g", "r"],
-    &["checks", "g", "r"],
-    &["check ", "g", "r"],
-    &["Show", "g", "r"],
-    &["sho", "g", "r"],
-    &["shown", "g", "r"],
-    &["", "g", "r"],
-    // A name at another place.
-    &["g", "check", "r"],
-    &["g", "show", "r"],
-    &["--", "check", "g", "r"],
-    &["--", "show", "g", "r"],
-    &["-x", "check", "g", "r"],
-    &["solve", "check", "g", "r"],
-];
-
-fn words_in(alloc: Global, texts: &[&str]) -> Result<Vec<String>, AllocError> {
+/// The words, and the words behind them.
+fn words_in(alloc: Global, texts: &[&str], behind: &[&str]) -> Result<Vec<String>, AllocError> {
     let mut words = Vec::new(alloc);
     for text in texts {
+        words.push(text.to_string(alloc)?)?;
+    }
+    for text in behind {
         words.push(text.to_string(alloc)?)?;
     }
     Ok(words)
 }
 
-fn words_after(alloc: Global, name: &str, texts: &[&str]) -> Result<Vec<String>, AllocError> {
-    let mut words = words_in(alloc, &[name])?;
-    for text in texts {
-        words.push(text.to_string(alloc)?)?;
-    }
-    Ok(words)
+/// Whether the words give this command.
+fn give(
+    alloc: Global,
+    texts: &[&str],
+    behind: &[&str],
+    want: Option<Command<'_>>,
+) -> Result<bool, AllocError> {
+    let words = words_in(alloc, texts, behind)?;
+    Ok(command_of(alloc, &words)? == want)
 }
 
 fn solve<'a>(game: Option<&'a str>) -> Option<Command<'a>> {
@@ -179,37 +183,41 @@ fn show<'a>(pair: Option<(&'a str, &'a str)>) -> Option<Command<'a>> {
     }
 }
 
+/// The first words, counted from 0, that ask for another game.
+fn first_wrong_game(
+    alloc: Global,
+    rows: &[(&[&str], Option<&str>)],
+) -> Result<Option<usize>, AllocError> {
+    for k in 0..rows.len() {
+        let (texts, want) = rows[k];
+        if !give(alloc, texts, &[], solve(want))? {
+            return Ok(Some(k));
+        }
+    }
+    Ok(None)
+}
+
+/// The first words, counted from 0, that name another pair behind `check` or behind `show`.
+fn first_wrong_pair(
+    alloc: Global,
+    rows: &[(&[&str], Option<(&str, &str)>)],
+) -> Result<Option<usize>, AllocError> {
+    for k in 0..rows.len() {
+        let (texts, want) = rows[k];
+        let is_checked = give(alloc, &["check"], texts, check(want))?;
+        let is_shown = give(alloc, &["show"], texts, show(want))?;
+        if !is_checked || !is_shown {
+            return Ok(Some(k));
+        }
+    }
+    Ok(None)
+}
+
 #[test]
-fn words_name_games(rt: HostRuntime) -> Result<(), AllocError> {
+fn words_name_files(rt: HostRuntime) -> Result<(), AllocError> {
     words_give();
-    for (texts, want) in GAMES {
-        let words = words_in(rt.alloc(), texts)?;
-        let got = command_of(rt.alloc(), &words)?;
-        assert_eq!(rt; got, solve(want), "{texts:?}");
-    }
-    Ok(())
-}
-
-#[test]
-fn words_name_games_and_reports(rt: HostRuntime) -> Result<(), AllocError> {
-    for (texts, want) in PAIRS {
-        let words = words_after(rt.alloc(), "check", texts)?;
-        let got = command_of(rt.alloc(), &words)?;
-        assert_eq!(rt; got, check(want), "check {texts:?}");
-        let words = words_after(rt.alloc(), "show", texts)?;
-        let got = command_of(rt.alloc(), &words)?;
-        assert_eq!(rt; got, show(want), "show {texts:?}");
-    }
-    Ok(())
-}
-
-#[test]
-fn words_give_no_command(rt: HostRuntime) -> Result<(), AllocError> {
-    for texts in REFUSED {
-        let words = words_in(rt.alloc(), texts)?;
-        let got = command_of(rt.alloc(), &words)?;
-        assert_eq!(rt; got, None, "{texts:?}");
-    }
+    assert_eq!(rt; first_wrong_game(rt.alloc(), &WORDS)?, None);
+    assert_eq!(rt; first_wrong_pair(rt.alloc(), &PAIRS)?, None);
     Ok(())
 }
 
@@ -217,11 +225,15 @@ fn words_give_no_command(rt: HostRuntime) -> Result<(), AllocError> {
 fn long_words_are_names(rt: HostRuntime) -> Result<(), AllocError> {
     let alloc = rt.alloc();
     let long = "g".repeat(alloc, 100_000)?;
-    let words = words_in(alloc, &["solve", long.as_str()])?;
-    let got = command_of(alloc, &words)?;
-    assert_eq!(rt; got, solve(Some(long.as_str())));
-    let words = words_in(alloc, &["check", long.as_str(), long.as_str()])?;
-    let got = command_of(alloc, &words)?;
-    assert_eq!(rt; got, check(Some((long.as_str(), long.as_str()))));
+    let word = long.as_str();
+    assert!(rt; give(alloc, &["solve", word], &[], solve(Some(word)))?);
+    assert!(rt;
+        give(
+            alloc,
+            &["check", word, word],
+            &[],
+            check(Some((word, word)))
+        )?
+    );
     Ok(())
 }

@@ -1,0 +1,12 @@
+//! Tests of numbers, fractions and words (`sg_num`, `sg_frac`, `sg_words`), over their public calls alone.
+//!
+//! They stand apart so that the gate proves each of these libraries once: a crate with tests is proved a second time
+//! with them.
+#![tactic(auto)]
+
+#[cfg(test)]
+mod frac;
+#[cfg(test)]
+mod num;
+#[cfg(test)]
+mod words;
