@@ -30,6 +30,3 @@ pub use fault::{ReportError, ReportFault};
 pub use laws::{read_is_text, report_texts_read, text_reads_back, water_text_agrees};
 pub use reading::read_report;
 pub use writing::write_report;
-
-#[cfg(test)]
-mod tests;

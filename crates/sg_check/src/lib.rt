@@ -44,10 +44,3 @@ mod worth;
 pub use checking::check;
 pub use cover::has_cover;
 pub use verdict::Verdict;
-
-#[cfg(test)]
-mod tests;
-#[cfg(test)]
-mod value_tests;
-#[cfg(test)]
-mod water_tests;

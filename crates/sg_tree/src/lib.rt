@@ -17,6 +17,3 @@ pub use fix::Fix;
 pub use report::{Cap, Cause, Ending, Report};
 pub use tree::Tree;
 pub use worked::Worked;
-
-#[cfg(test)]
-mod tests;

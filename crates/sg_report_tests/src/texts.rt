@@ -1,15 +1,16 @@
-use super::*;
+//! Texts of reports: the first fault of each, and that a report is written as it was read.
+
+use sg_cert::{ReportError, read_report, write_report};
 use sg_shelf::MemSink;
-use std::alloc::Global;
-use std::process::Abort;
+use std::alloc::{AllocError, Global};
 use std::test::*;
 
-// A text, and the line and reason of its first fault.
+/// A text, and the line and reason of its first fault.
 struct Case(&'static [u8], u64, u8);
 
 const HEAD: &'static [u8] = b"patrol-report 1\ntickets 1 1\nt 1 1\nvalue 3 1\n";
 
-// Whole texts, with the first fault that the rules give, or 0 at line 0.
+/// Whole texts, with the first fault that the rules give, or 0 at line 0.
 const TEXTS: &'static [Case] = &[
     Case(b"", 1, 2),
     Case(b"patrol-report 1", 1, 2),
@@ -75,7 +76,7 @@ const TEXTS: &'static [Case] = &[
     Case(b"patrol-report 1\ntickets 1 1\nt 1 1\nvalues 1 1\n", 4, 3),
 ];
 
-// Texts behind the four lines of the head.
+/// Texts behind the four lines of the head.
 const TAILS: &'static [Case] = &[
     Case(b"", 5, 2),
     Case(b"open", 5, 2),
@@ -282,7 +283,7 @@ const TAILS: &'static [Case] = &[
     Case(b"open\nupper 4 1\nverdict optimal\n\n", 8, 3),
 ];
 
-// Whole reports.
+/// Whole reports.
 const REPORTS: &'static [&'static [u8]] = &[
     b"patrol-report 1\ntickets 2 3\nt 2 1\nt 1 2\nvalue 2 3\nwater 4 3 resources\nupper 2 3\nverdict optimal\nend\n",
     b"patrol-report 1\ntickets 2 3\nt 2 1\nt 1 2\nvalue 11 3\ncap 2 proved 4 2\nplays 3 5 1\nm 2 2 1\nplays 1 4 0\nsplit 1 2\nopen\nplays 1 2 0\nsplit 2 2\nplays 3 11 1\nm 1 1 1\nplays 3 16 1\nm 2 2 2\nplays 3 22 1\nm 1 1 2\nupper 11 3\nverdict optimal\nend\n",
@@ -292,7 +293,7 @@ const REPORTS: &'static [&'static [u8]] = &[
     b"patrol-report 1\ntickets 1 1\nt 1 1\nvalue 2 1\nopen\nupper 4 1\nverdict gap looks 5 7 2 1 3\nend\n",
 ];
 
-// The line and the reason of the fault, 0 and 0 for a report, 0 and 99 where memory ran out.
+/// The line and the reason of the fault, 0 and 0 for a report, 0 and 99 where memory ran out.
 fn fault_of(alloc: Global, bytes: &[u8]) -> (u64, u8) {
     match read_report(alloc, bytes) {
         Ok(_) => (0, 0),
@@ -301,70 +302,83 @@ fn fault_of(alloc: Global, bytes: &[u8]) -> (u64, u8) {
     }
 }
 
-#[test]
-fn tells_the_first_fault(rt: HostRuntime) {
-    for case in TEXTS {
-        assert_eq!(rt; fault_of(rt.alloc(), case.0), (case.1, case.2));
-    }
-    for case in TAILS {
-        let mut text = Vec::from_slice(rt.alloc(), HEAD).expect(&rt, "memory");
-        text.extend_from_slice(case.0).expect(&rt, "memory");
-        assert_eq!(rt; fault_of(rt.alloc(), &text), (case.1, case.2));
-    }
-}
-
-// A text of two parts, and a part between them so many times.
-fn repeated(
-    rt: &impl Abort,
+/// The same for a text of two parts, with another between them so many times.
+fn fault_of_parts(
     alloc: Global,
     head: &[u8],
     part: &[u8],
     times: usize,
     tail: &[u8],
-) -> Vec<u8> {
-    let mut text = Vec::from_slice(alloc, head).expect(rt, "memory");
+) -> Result<(u64, u8), AllocError> {
+    let mut text = Vec::from_slice(alloc, head)?;
     for _ in 0..times {
-        text.extend_from_slice(part).expect(rt, "memory");
+        text.extend_from_slice(part)?;
     }
-    text.extend_from_slice(tail).expect(rt, "memory");
-    text
+    text.extend_from_slice(tail)?;
+    Ok(fault_of(alloc, &text))
 }
 
 #[test]
-fn keeps_the_limits(rt: HostRuntime) {
-    let ticket = b"patrol-report 1\ntickets 1 1\nt 1";
-    for (times, line, reason) in [(200, 4, 2), (201, 3, 4)] {
-        let text = repeated(&rt, rt.alloc(), ticket, b" 0", times, b"\n");
-        assert_eq!(rt; fault_of(rt.alloc(), &text), (line, reason));
-    }
-    for (times, line, reason) in [(8, 21, 2), (9, 21, 8)] {
-        let text = repeated(&rt, rt.alloc(), HEAD, b"split 1 1\nopen\n", times, b"");
-        assert_eq!(rt; fault_of(rt.alloc(), &text), (line, reason));
-    }
-}
-
-#[test]
-fn wants_each_newline(rt: HostRuntime) {
-    for report in REPORTS {
-        let mut line = 1u64;
-        for (at, byte) in report.iter().enumerate() {
-            if *byte == b'\n' {
-                assert_eq!(rt; fault_of(rt.alloc(), &report[..at]), (line, 2));
-                line = line.wrapping_add(1);
-            }
+fn tells_the_first_fault(rt: HostRuntime) -> Result<(), AllocError> {
+    let tables: [(&[u8], &[Case]); 2] = [(b"", TEXTS), (HEAD, TAILS)];
+    for (head, cases) in tables {
+        for case in cases {
+            assert_eq!(rt;
+                fault_of_parts(rt.alloc(), head, b"", 0, case.0)?,
+                (case.1, case.2)
+            );
         }
     }
+    Ok(())
 }
 
 #[test]
-fn writes_what_it_read(rt: HostRuntime) {
-    for report in REPORTS {
-        let read = match read_report(rt.alloc(), report) {
-            Ok(read) => read,
-            Err(_) => panic!(rt; "a whole report is refused"),
-        };
-        let mut out = MemSink::new(rt.alloc(), Vec::new(rt.alloc()), 0).expect(&rt, "memory");
-        assert!(rt; write_report(&read, &mut out).is_ok());
-        assert!(rt; out.bytes() == *report);
+fn keeps_the_limits(rt: HostRuntime) -> Result<(), AllocError> {
+    let ticket = b"patrol-report 1\ntickets 1 1\nt 1".as_slice();
+    let cases: [(&[u8], &[u8], usize, &[u8], (u64, u8)); 4] = [
+        (ticket, b" 0", 200, b"\n", (4, 2)),
+        (ticket, b" 0", 201, b"\n", (3, 4)),
+        (HEAD, b"split 1 1\nopen\n", 8, b"", (21, 2)),
+        (HEAD, b"split 1 1\nopen\n", 9, b"", (21, 8)),
+    ];
+    for (head, part, times, tail, fault) in cases {
+        assert_eq!(rt; fault_of_parts(rt.alloc(), head, part, times, tail)?, fault);
     }
+    Ok(())
+}
+
+/// Whether a report that ends before one of its newlines is refused at the line that so has none.
+fn wants_each_newline(alloc: Global, report: &[u8]) -> bool {
+    let mut line = 1u64;
+    for (at, byte) in report.iter().enumerate() {
+        if *byte == b'\n' {
+            if fault_of(alloc, &report[..at]) != (line, 2) {
+                return false;
+            }
+            line = line.wrapping_add(1);
+        }
+    }
+    true
+}
+
+/// Whether a report is read and written again.
+fn is_written_again(alloc: Global, report: &[u8]) -> Result<bool, AllocError> {
+    let read = match read_report(alloc, report) {
+        Ok(read) => read,
+        Err(_) => return Ok(false),
+    };
+    let mut out = MemSink::new(alloc, Vec::new(alloc), 0)?;
+    match write_report(&read, &mut out) {
+        Ok(()) => Ok(out.bytes() == report),
+        Err(_) => Ok(false),
+    }
+}
+
+#[test]
+fn reads_and_writes_whole_reports(rt: HostRuntime) -> Result<(), AllocError> {
+    for report in REPORTS {
+        let is_whole = is_written_again(rt.alloc(), report)?;
+        assert!(rt; is_whole && wants_each_newline(rt.alloc(), report));
+    }
+    Ok(())
 }
