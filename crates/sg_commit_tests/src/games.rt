@@ -22,6 +22,9 @@ pub const MOST: i128 = i128::MAX; // 2^127 - 1
 
 pub const HALF: i128 = 85070591730234615865843651857942052864; // 2^126
 
+/// Payoffs that gain by cover alike.
+pub const PAY: &'static [i64] = &[0, -1, 0, 1];
+
 /// A type of attacker against rows, with what the defender gets and what it gets.
 #[derive(Drop)]
 pub struct Player {

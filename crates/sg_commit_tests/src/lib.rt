@@ -15,3 +15,5 @@ mod games;
 mod making;
 #[cfg(test)]
 mod tables;
+#[cfg(test)]
+mod wraps;
