@@ -23,6 +23,3 @@ pub use parts::PartFault;
 pub use response::{is_best, take};
 pub use sums::{sum_a, sum_d};
 pub use values::{value, worth};
-
-#[cfg(test)]
-mod tests;

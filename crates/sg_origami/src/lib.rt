@@ -21,7 +21,5 @@ mod filling;
 mod floor;
 mod level;
 mod rate;
-#[cfg(test)]
-mod tests;
 
 pub use filling::{Filling, water};

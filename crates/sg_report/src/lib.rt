@@ -22,8 +22,6 @@ mod answers;
 mod counts;
 mod laws;
 mod show;
-#[cfg(test)]
-mod tests;
 mod text;
 
 pub use laws::{answers_are_first, table_is_one, tables_are_worked};

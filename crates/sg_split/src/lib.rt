@@ -17,8 +17,6 @@ mod laws;
 mod laying;
 mod line;
 mod place;
-#[cfg(test)]
-mod tests;
 mod wrapping;
 
 pub use laws::{moments_cover_counts, plays_stay_between_cuts};
