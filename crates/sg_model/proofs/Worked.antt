@@ -16,17 +16,13 @@ use Rattle.sg_model.specs.Origami.{AreLevelTickets, IsOrigami, IsScaled, IsWater
 use Rattle.sg_model.specs.Names.{is_name}
 use Rattle.sg_model.specs.Limits.{IsGame, IsMatrixType, IsPayoff, IsSecurityType, is_scaled, program_rows}
 use Rattle.sg_model.specs.Examples.{AreCounted, AreIllegal, AreRefused, AreSpelled, AreUnscaled, HasMost, IsSolved, IsWorth, WorkedExamples, always_first, each_row, first_payoffs, four_targets, four_tickets, guarded, half_idle, held_down, idle, in_a_row, leads, letters, minus, named_from, neighbour_tickets, neighbours, one_player, opponent, pairs, patrolled, pays, plain, player, robber, row_mix, row_tickets, second_payoffs, tabled, thief, three_actions, three_rows, three_targets, ticket, twice_two_targets, two_actions, two_payoffs, two_players, two_targets, two_thieves, two_tickets, unpatrolled, well_patrolled}
-use Rattle.sg_model.proofs.Deciding.{all_pass, at_most, at_most_z, commitment_by, commitment_test, count_by, count_test, lists_by, lists_test, names_by, names_test, payoff_by, payoff_test, range_by, range_test, scaled_by, scaled_test, table_by, table_test}
+use Rattle.sg_model.proofs.Deciding.{all_pass, at_most, at_most-either, at_most_z, commitment_by, commitment_test, count_by, count_test, lists_by, lists_test, names_by, names_test, payoff_by, payoff_test, range_by, range_test, scaled_by, scaled_test, table_by, table_test}
 use Rattle.sg_model.proofs.Numbers.{length-numbers_from}
 use Rattle.sg_model.proofs.Promises.{nth-all}
 use Rattle.sg_model.proofs.Tickets.{tickets-optimal}
 
 length-letters : (n : ℕ) → length (letters n) ≡ n
 length-letters n = omega (arith, length-map (numbers n) (λ i. (96 + i) ∷ []), length-numbers_from 1 n)
-
-at_most-either : (b : Bool) (k x y : ℕ) → k ≤ x → k ≤ y → k ≤ cond b x y
-at_most-either true k x y p q = p
-at_most-either false k x y p q = q
 
 thief-type : (payoffs : List Payoff) → list_all payoff_test payoffs ≡ true → IsSecurityType (length (letters (length payoffs))) (thief payoffs)
 thief-type payoffs in_range = record {
