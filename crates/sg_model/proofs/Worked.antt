@@ -1,5 +1,5 @@
 -- The worked examples, by computing.
-use Rattle.std.proofs.Common.{◌≡◌, ℕ, zero, suc, ◌+◌, ◌≤◌, ◌^◌, Bool, true, false, cond, List, [], ◌∷◌, length, map, ℤ, pos, ◌-ℤ◌, ◌*ℤ◌, ◌≤ℤ◌, ◌<ℤ◌, refl, arith, nat_le, int_le, codes}
+use Rattle.std.proofs.Common.{◌≡◌, ℕ, zero, suc, ◌+◌, ◌≤◌, ◌^◌, Bool, true, false, cond, List, [], ◌∷◌, length, map, ℤ, pos, ◌-ℤ◌, ◌*ℤ◌, ◌≤ℤ◌, ◌<ℤ◌, ap, refl, arith, nat_le, int_le, codes}
 use Rattle.std.specs.List.{All, list_all}
 use Rattle.std.proofs.lemmas.Int.{ints}
 use Rattle.std.proofs.lemmas.List.{length-map}
@@ -8,14 +8,14 @@ use Rattle.sg_model.specs.declared.level.Level.{Level}
 use Rattle.sg_model.specs.declared.level.Level.TheVariants.{Resources, Target}
 use Rattle.sg_model.specs.declared.ticket.Ticket.{Ticket}
 use Rattle.sg_model.specs.Sums.{numbers}
-use Rattle.sg_model.specs.Games.{Attacker, Game, Payoff, nothing}
+use Rattle.sg_model.specs.Games.{Attacker, Game, Payoff, nobody, nothing, unnamed}
 use Rattle.sg_model.specs.Plays.{IsLegalJoint, IsRow}
 use Rattle.sg_model.specs.Optimality.{IsOptimal}
 use Rattle.sg_model.specs.Commitments.{IsValue, cover_count, weight_total}
 use Rattle.sg_model.specs.Origami.{AreLevelTickets, IsOrigami, IsScaled, IsWater, count_at}
 use Rattle.sg_model.specs.Names.{is_name}
-use Rattle.sg_model.specs.Limits.{IsGame, IsMatrixType, IsPayoff, IsSecurityType, is_scaled, program_rows}
-use Rattle.sg_model.specs.Examples.{AreCounted, AreIllegal, AreRefused, AreSpelled, AreUnscaled, HasMost, IsSolved, IsWorth, WorkedExamples, always_first, each_row, first_payoffs, four_targets, four_tickets, guarded, half_idle, held_down, idle, in_a_row, leads, letters, minus, named_from, neighbour_tickets, neighbours, one_player, opponent, pairs, patrolled, pays, plain, player, robber, row_mix, row_tickets, second_payoffs, tabled, thief, three_actions, three_rows, three_targets, ticket, twice_two_targets, two_actions, two_payoffs, two_players, two_targets, two_thieves, two_tickets, unpatrolled, well_patrolled}
+use Rattle.sg_model.specs.Limits.{AreListed, AreMembers, ArePatrols, IsGame, IsMatrixGame, IsMatrixType, IsPayoff, IsSecurityGame, IsSecurityType, is_scaled, program_rows}
+use Rattle.sg_model.specs.Examples.{AreCounted, AreIllegal, AreNoGames, AreRefused, AreSpelled, AreUnscaled, HasMost, IsSolved, IsWorth, WorkedExamples, always_first, each_row, first_payoffs, four_targets, four_tickets, guarded, half_idle, held_down, holding, idle, in_a_row, leads, letters, minus, named_from, neighbour_tickets, neighbours, one_player, opponent, pairs, patrolled, pays, plain, player, robber, row_mix, row_tickets, second_payoffs, tabled, thief, three_actions, three_rows, three_targets, ticket, twice_two_targets, two_actions, two_payoffs, two_players, two_targets, two_thieves, two_tickets, unpatrolled, well_patrolled}
 use Rattle.sg_model.proofs.Deciding.{all_pass, at_most, at_most-either, at_most_z, commitment_by, commitment_test, count_by, count_test, lists_by, lists_test, names_by, names_test, payoff_by, payoff_test, range_by, range_test, scaled_by, scaled_test, table_by, table_test}
 use Rattle.sg_model.proofs.Numbers.{length-numbers_from}
 use Rattle.sg_model.proofs.Promises.{nth-all}
@@ -337,6 +337,30 @@ illegal = record {
   past_the_rows = λ is. let h : IsRow three_rows (4 ∷ []) = is.legal 0 (ticket 0 []) (at_most refl) in let low : 4 ≤ 3 = h.in_list in omega (arith, low);
 }
 
+-- the promises of a schedule
+held_members : (members : List ℕ) → IsGame (holding members) → AreMembers 2 200 members
+held_members members is =
+    let h : IsSecurityGame (holding members) = is in
+    let k : AreListed (holding members) = h.defended in
+    k.schedules.members 1 unnamed (at_most refl)
+
+no_games : AreNoGames
+no_games = record {
+  of_none = λ is. let low : 1 ≤ 0 = (held_members [] is).size.at_least in omega (arith, low);
+  of_zero = λ is. let k = (held_members (0 ∷ []) is).known 0 0 (at_most refl) in let low : 1 ≤ 0 = k.at_least in omega (arith, low);
+  past_the_last = λ is. let k = (held_members (3 ∷ []) is).known 0 0 (at_most refl) in let high : 3 ≤ 2 = k.at_most in omega (arith, high);
+  of_one_twice = λ is. (held_members (2 ∷ 2 ∷ []) is).distinct 0 1 0 (at_most refl) (at_most refl) refl;
+  beside_patrols = λ is.
+      let h : IsSecurityGame (record two_targets { schedules = named_from 1 ((1 ∷ []) ∷ []) }) = is in
+      let k : ArePatrols (record two_targets { schedules = named_from 1 ((1 ∷ []) ∷ []) }) 1 = h.defended in
+      let none : length (named_from 1 ((1 ∷ []) ∷ [])) ≡ 0 = ap length k.no_schedules in omega (arith, none);
+  one_name = λ is. let h : IsMatrixGame (record three_rows { types = two_actions ∷ two_actions ∷ [] }) = is in h.types.names.distinct 0 1 [] (at_most refl) (at_most refl) refl;
+  scale_without_patrols = λ is. let h : IsSecurityGame (record in_a_row { scale = pos 1 }) = is in (h.scaled (at_most_z refl)).identical refl;
+  scale_with_prior = λ is.
+      let h : IsSecurityGame twice_two_targets = is in
+      let e : pos 2 ≡ pos 1 = (h.scaled (at_most_z refl)).prior_one 0 nobody (at_most refl) in omega (arith, ints, e);
+}
+
 poor : IsWorth two_targets always_first (minus 1) (pos 1)
 poor = record { game = one_patrol.worth.game; commitment = commitment_by two_targets always_first refl; value = record { positive = at_most_z refl; same = refl } }
 
@@ -382,5 +406,6 @@ worked = record {
   spelled = spelled;
   unscaled = unscaled;
   illegal = illegal;
+  no_games = no_games;
   prior_two = λ is. let e : pos 2 ≡ pos 1 = is.prior_one in omega (arith, ints, e);
 }

@@ -268,6 +268,22 @@ pub record AreIllegal : Type 0 where
   pub row_zero : IsCommitment three_rows (ticket 1 (0 ∷ []) ∷ []) → ⊥
   pub past_the_rows : IsCommitment three_rows (ticket 1 (4 ∷ []) ∷ []) → ⊥
 
+-- a schedule of one resource that guards two targets
+abbrev pub holding : List ℕ → Game
+holding members = guarded ((1 ∷ []) ∷ members ∷ []) ((1 ∷ []) ∷ []) (plain ∷ plain ∷ [])
+
+-- what no game file promises: a schedule of no target, of target 0, of one past the last, or of one twice; a schedule beside patrols;
+-- two types of one name; and a scale without patrols, or with a prior of 2
+pub record AreNoGames : Type 0 where
+  pub of_none : IsGame (holding []) → ⊥
+  pub of_zero : IsGame (holding (0 ∷ [])) → ⊥
+  pub past_the_last : IsGame (holding (3 ∷ [])) → ⊥
+  pub of_one_twice : IsGame (holding (2 ∷ 2 ∷ [])) → ⊥
+  pub beside_patrols : IsGame (record two_targets { schedules = named_from 1 ((1 ∷ []) ∷ []) }) → ⊥
+  pub one_name : IsGame (record three_rows { types = two_actions ∷ two_actions ∷ [] }) → ⊥
+  pub scale_without_patrols : IsGame (record in_a_row { scale = pos 1 }) → ⊥
+  pub scale_with_prior : IsGame twice_two_targets → ⊥
+
 -- lists of tickets for the two targets that are no commitments: none at all, no weight, a play twice, a choice that isn't there, a patrol too many
 pub record AreRefused : Type 0 where
   pub empty : IsCommitment two_targets [] → ⊥
@@ -309,3 +325,4 @@ pub record WorkedExamples : Type 0 where
   pub unscaled : AreUnscaled
   pub illegal : AreIllegal
   pub prior_two : IsOrigami twice_two_targets 1 → ⊥
+  pub no_games : AreNoGames
