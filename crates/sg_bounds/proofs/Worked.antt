@@ -20,7 +20,7 @@ use Rattle.sg_model.specs.declared.level.Level.TheVariants.{Resources, Target}
 use Rattle.sg_bounds.specs.Trees.{Node, unproved, closed, split, node_of, parts_of}
 use Rattle.sg_bounds.specs.Accepted.{IsAccepted}
 use Rattle.sg_bounds.specs.Checking.{IsRefused}
-use Rattle.sg_bounds.specs.Examples.{WorkedReports, all_but_one, based_report, cover_report, dominated, dominated_report, empty_fact, first_fact, half_dominated, half_dominated_report, late_fact, level_tree, low_water, mark, nested_report, never_taken, one_alone, no_target, often_paid, one_first, one_target, one_type_report, one_type_tree, open_below, open_report, open_tree, over, over_cover, over_plays, plain_cap, proved_cap, rare_fact, rare_players, rare_report, reported, row, row_report, same_for_both, same_report, second_fact, second_short, shared_fact, shared_report, short_fact, sized_report, small_mark, spent_report, split_for_scaled, spread_fact, spread_players, spread_report, third_cap, three_players, three_types_report, two_caps, two_to_one, two_types_tree, unbased_report, unproved_tree, up_and_down, water_report, weighted_fact, weighted_players, weighted_report, well_paid, wide_bound, with_caps, with_tickets, with_tree, worth_nothing, wrong_and_wide, wrong_twice}
+use Rattle.sg_bounds.specs.Examples.{WorkedReports, all_but_one, based_report, cover_report, dominated, dominated_report, empty_fact, false_and_wide, first_fact, half_dominated, half_dominated_report, late_fact, level_tree, low_water, mark, nested_report, never_taken, one_alone, no_target, often_paid, one_first, one_target, one_type_report, one_type_tree, open_below, open_report, open_tree, over, over_cover, over_plays, plain_cap, proved_cap, rare_fact, rare_players, rare_report, reported, row, row_report, same_for_both, same_report, second_fact, second_short, shared_fact, shared_report, short_fact, sized_report, small_mark, spent_report, split_for_scaled, spread_fact, spread_players, spread_report, third_cap, three_players, three_types_report, two_caps, two_to_one, two_types_tree, unbased_report, unproved_tree, up_and_down, water_report, weighted_fact, weighted_players, weighted_report, well_paid, wide_bound, with_caps, with_tickets, with_tree, worth_nothing, wrong_and_wide, wrong_twice}
 use Rattle.sg_bounds.proofs.Told.{Decides-le_z}
 use Rattle.sg_bounds.proofs.Nodes.{node_of-Closed, node_of-Split, node_of-Unproved}
 use Rattle.sg_bounds.proofs.Answering.{accepted_by, answer, refused_by, stops_at}
@@ -235,7 +235,7 @@ worked_reports = record {
   caps_exchanged = wrong three_players (three_types_report (plain_cap 3 4 ++ plain_cap 2 4)) open_node open_is 5 4 refl refl;
   base_first = wrong two_players wrong_twice (nested_bases (over_plays 3 10 (mark 1 1 1 ∷ [])) (over_plays 3 22 (mark 1 1 1 ∷ []))) (nested_parts (over_plays 1 2 []) (over_plays 3 10 (mark 1 1 1 ∷ [])) (over_plays 3 16 (mark 2 2 2 ∷ [])) (over_plays 3 22 (mark 1 1 1 ∷ []))) 14 6 refl refl;
   cap_size_wide = caps_wrong (proved_cap 5 (over_plays (2 ^ 127 - 1) 5 (mark 2 2 1 ∷ [])) (over_plays 1 4 [])) 6 9 refl refl;
-  false_before_wide = first_wrong wrong_and_wide 8 6 refl refl;
+  false_before_wide = wrong two_players false_and_wide (first_open wrong_and_wide) (open_part wrong_and_wide) 8 6 refl refl;
   short_of_second = wrong neighbours second_short (three_facts shared_fact short_fact shared_fact) (three_parts shared_fact short_fact shared_fact) 17 6 refl refl;
   own_mark = first_wrong (over_plays 1 2 (mark 1 1 1 ∷ [])) 8 6 refl refl;
   no_multiplier = first_wrong (over_plays 1 2 (mark 1 2 0 ∷ [])) 8 6 refl refl;

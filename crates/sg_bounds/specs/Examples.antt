@@ -297,9 +297,13 @@ wrong_twice =
     two_types_report two_caps
     (Split 1 None (Closed (over_plays 1 2 []) ∷ Split 2 (Some (over_plays 3 10 (mark 1 1 1 ∷ []))) (Closed (over_plays 3 16 (mark 2 2 2 ∷ [])) ∷ Closed (over_plays 3 22 (mark 1 1 1 ∷ [])) ∷ []) ∷ []))
 
--- a fact that doesn't hold, as it marks its own action, and whose bound doesn't fit
+-- a fact that doesn't hold, as it marks its own action
 abbrev pub wrong_and_wide : Fact
 wrong_and_wide = over_plays 1 (2 ^ 127 - 1) (mark 1 1 1 ∷ [])
+
+-- its bound doesn't fit: the multiplier of the whole, and the cap of the open type
+abbrev pub false_and_wide : Report
+false_and_wide = reported one_alone 1 (over 3 1) (plain_cap 2 4) (Split 1 None (Closed wrong_and_wide ∷ Unproved ∷ [])) (over 4 1) (Gap (Nodes 1))
 
 -- the fact of the second target alone is short
 abbrev pub second_short : Report
@@ -436,7 +440,7 @@ pub record WorkedReports : Type 0 where
   pub caps_exchanged : IsRefused three_players (three_types_report (plain_cap 3 4 ++ plain_cap 2 4)) 5 4
   pub base_first : IsRefused two_players wrong_twice 14 6
   pub cap_size_wide : IsRefused two_players (with_caps (proved_cap 5 (over_plays (2 ^ 127 - 1) 5 (mark 2 2 1 ∷ [])) (over_plays 1 4 []))) 6 9
-  pub false_before_wide : IsRefused one_player (with_tree (one_type_tree wrong_and_wide second_fact)) 8 6
+  pub false_before_wide : IsRefused two_players false_and_wide 8 6
   pub short_of_second : IsRefused neighbours second_short 17 6
   pub own_mark : IsRefused one_player (with_tree (one_type_tree (over_plays 1 2 (mark 1 1 1 ∷ [])) second_fact)) 8 6
   pub no_multiplier : IsRefused one_player (with_tree (one_type_tree (over_plays 1 2 (mark 1 2 0 ∷ [])) second_fact)) 8 6
