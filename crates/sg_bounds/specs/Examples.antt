@@ -379,6 +379,14 @@ often_paid = tabled (player (codes "first") (always (minus 1)) straight ∷ weig
 abbrev pub up_and_down : Game
 up_and_down = tabled (player (codes "first") ((minus (2 ^ 30) ∷ minus (2 ^ 30) ∷ []) ∷ (pos (2 ^ 30) ∷ pos (2 ^ 30) ∷ []) ∷ []) straight ∷ [])
 
+-- one type, to which both actions are the same
+abbrev pub indifferent : Game
+indifferent = tabled (player (codes "first") (always (pos 0)) (always (pos 1)) ∷ [])
+
+-- a fact whose size sum is 2^126 twice, as an attacker's payoffs count as spread over 1 at least
+abbrev pub twice_half : Fact
+twice_half = over_plays (2 ^ 126) (2 ^ 126) (mark 1 2 (2 ^ 126) ∷ [])
+
 -- the second row on all tickets but one
 abbrev pub one_first : ℕ → List Ticket
 one_first weight = ticket 1 (1 ∷ []) ∷ ticket weight (2 ∷ []) ∷ []
@@ -460,3 +468,4 @@ pub record WorkedReports : Type 0 where
   pub not_best_not_formed : IsAccepted never_taken (worth_nothing (all_but_one (2 ^ 126)) (2 ^ 126) (one_type_tree (over_plays 1 1 []) (over_plays 1 0 (mark 1 1 5 ∷ []))))
   pub prior_wide : IsRefused often_paid (worth_nothing (all_but_one (2 ^ 100)) (2 ^ 100) open_tree) 5 9
   pub pay_wide : IsRefused up_and_down (worth_nothing (one_first (2 ^ 97)) (1 + 2 ^ 97) open_tree) 5 9
+  pub spread_of_one : IsRefused indifferent (worth_nothing one_alone 1 (Split 1 None (Closed twice_half ∷ Unproved ∷ []))) 7 9
