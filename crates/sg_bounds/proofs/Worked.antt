@@ -1,15 +1,15 @@
 -- The worked reports, by computing.
-use Rattle.std.proofs.Common.{◌≡◌, ℕ, zero, suc, ◌+◌, ◌-◌, ◌^◌, ◌%◌, Bool, true, false, true≢false, cond, List, [], ◌∷◌, map, pos, sym, ◌∙◌, ap, subst, refl, eqb, int_le, unsigned_abs, Option, Some, None}
+use Rattle.std.proofs.Common.{◌≡◌, ℕ, zero, suc, ◌+◌, ◌-◌, ◌^◌, ◌%◌, Bool, true, false, true≢false, cond, List, [], ◌∷◌, ◌++◌, map, pos, sym, ◌∙◌, ap, subst, refl, eqb, int_le, unsigned_abs, Option, Some, None}
 use Rattle.std.specs.Int.{IsGcd}
 use Rattle.std.specs.Prelude.{min}
 use Rattle.std.proofs.lemmas.Bool.Decides.{Decides-eqb}
 use Rattle.std.proofs.lemmas.Nat.Gcd.{IsGcd-from_mod, IsGcd-from_zero}
 use Rattle.sg_frac.specs.Fractions.{Fraction, IsReduced}
 use Rattle.sg_model.specs.Games.{Game}
-use Rattle.sg_model.specs.Examples.{in_a_row, neighbours, one_player, ticket, two_players, two_targets}
+use Rattle.sg_model.specs.Examples.{in_a_row, minus, neighbours, one_player, ticket, two_players, two_targets}
 use Rattle.sg_tree.specs.Claims.{is_claim}
 use Rattle.sg_tree.specs.declared.fact.Fact.{Fact}
-use Rattle.sg_tree.specs.declared.fact.Fact.TheVariants.{Water}
+use Rattle.sg_tree.specs.declared.fact.Fact.TheVariants.{Plays, Water}
 use Rattle.sg_tree.specs.declared.tree.Tree.{Tree}
 use Rattle.sg_tree.specs.declared.tree.Tree.TheVariants.{Unproved, Closed, Split}
 use Rattle.sg_tree.specs.declared.report.Cap.{Cap}
@@ -20,7 +20,7 @@ use Rattle.sg_model.specs.declared.level.Level.TheVariants.{Resources, Target}
 use Rattle.sg_bounds.specs.Trees.{Node, unproved, closed, split, node_of, parts_of}
 use Rattle.sg_bounds.specs.Accepted.{IsAccepted}
 use Rattle.sg_bounds.specs.Checking.{IsRefused}
-use Rattle.sg_bounds.specs.Examples.{WorkedReports, based_report, dominated, dominated_report, empty_fact, half_dominated, half_dominated_report, open_below, sized_report, unbased_report, weighted_fact, weighted_players, weighted_report, late_fact, row_report, shared_fact, shared_report, short_fact, cover_report, first_fact, level_tree, low_water, mark, nested_report, no_target, one_target, one_type_report, one_type_tree, open_report, open_tree, over, over_cover, over_plays, plain_cap, proved_cap, reported, row, second_fact, small_mark, spent_report, split_for_scaled, two_to_one, two_types_tree, water_report, wide_bound, with_caps, with_tickets, with_tree}
+use Rattle.sg_bounds.specs.Examples.{WorkedReports, all_but_one, based_report, cover_report, dominated, dominated_report, empty_fact, false_and_wide, first_fact, half_dominated, half_dominated_report, indifferent, late_fact, level_tree, low_water, mark, nested_report, never_taken, one_alone, no_target, often_paid, one_first, one_target, one_type_report, one_type_tree, open_below, open_report, open_tree, over, over_cover, over_plays, plain_cap, proved_cap, rare_fact, rare_players, rare_report, reported, row, row_report, same_for_both, same_report, second_fact, second_short, shared_fact, shared_report, short_fact, sized_report, small_mark, spent_report, split_for_scaled, spread_fact, spread_players, spread_report, third_cap, three_players, three_types_report, twice_half, two_caps, two_to_one, two_types_tree, unbased_report, unproved_tree, up_and_down, water_report, weighted_fact, weighted_players, weighted_report, well_paid, wide_bound, with_caps, with_tickets, with_tree, worth_nothing, wrong_and_wide, wrong_twice}
 use Rattle.sg_bounds.proofs.Told.{Decides-le_z}
 use Rattle.sg_bounds.proofs.Nodes.{node_of-Closed, node_of-Split, node_of-Unproved}
 use Rattle.sg_bounds.proofs.Answering.{accepted_by, answer, refused_by, stops_at}
@@ -169,6 +169,15 @@ sized_fact v = over_plays 1 (v + 2) (mark 1 2 v ∷ [])
 sized_is : (v : ℕ) → node_of (sized_report v).tree ≡ two_facts (sized_fact v) second_fact
 sized_is v = two_parts 1 None (sized_fact v) second_fact
 
+abbrev first_open : Fact → Node
+first_open f = split 1 None (parts_of (closed f ∷ unproved ∷ []))
+
+abbrev nested_bases : Fact → Fact → Node
+nested_bases base last = split 1 None (parts_of (closed (over_plays 1 2 []) ∷ split 2 (Some base) (parts_of (closed (over_plays 3 16 (mark 2 2 2 ∷ [])) ∷ closed last ∷ [])) ∷ []))
+
+abbrev unproved_node : Node
+unproved_node = split 1 None (parts_of (unproved ∷ unproved ∷ []))
+
 pub worked_reports : WorkedReports
 worked_reports = record {
   water = right two_targets water_report (closed (Water (over 4 3) Resources)) (node_of-Closed (Water (over 4 3) Resources)) refl refl refl refl;
@@ -221,4 +230,30 @@ worked_reports = record {
   empty_base = right half_dominated half_dominated_report (below_node (over_plays 1 2 []) 2 (Some empty_fact)) (below_is (over_plays 1 2 []) 2 (Some empty_fact)) refl refl refl refl;
   size_fits = right one_player (sized_report (2 ^ 126 - 3)) (two_facts (sized_fact (2 ^ 126 - 3)) second_fact) (sized_is (2 ^ 126 - 3)) refl refl refl refl;
   size_past = wrong one_player (sized_report (2 ^ 126 - 2)) (two_facts (sized_fact (2 ^ 126 - 2)) second_fact) (sized_is (2 ^ 126 - 2)) 8 9 refl refl;
+  three_types = right three_players (three_types_report (two_caps ++ (third_cap (over_plays 3 11 (mark 3 1 1 ∷ [])) ∷ []))) open_node open_is refl refl refl refl;
+  third_false = wrong three_players (three_types_report (two_caps ++ (third_cap (over_plays 3 10 (mark 3 1 1 ∷ [])) ∷ []))) open_node open_is 11 6 refl refl;
+  caps_exchanged = wrong three_players (three_types_report (plain_cap 3 4 ++ plain_cap 2 4)) open_node open_is 5 4 refl refl;
+  base_first = wrong two_players wrong_twice (nested_bases (over_plays 3 10 (mark 1 1 1 ∷ [])) (over_plays 3 22 (mark 1 1 1 ∷ []))) (nested_parts (over_plays 1 2 []) (over_plays 3 10 (mark 1 1 1 ∷ [])) (over_plays 3 16 (mark 2 2 2 ∷ [])) (over_plays 3 22 (mark 1 1 1 ∷ []))) 14 6 refl refl;
+  cap_size_wide = caps_wrong (proved_cap 5 (over_plays (2 ^ 127 - 1) 5 (mark 2 2 1 ∷ [])) (over_plays 1 4 [])) 6 9 refl refl;
+  false_before_wide = wrong two_players false_and_wide (first_open wrong_and_wide) (open_part wrong_and_wide) 8 6 refl refl;
+  short_of_second = wrong neighbours second_short (three_facts shared_fact short_fact shared_fact) (three_parts shared_fact short_fact shared_fact) 17 6 refl refl;
+  own_mark = first_wrong (over_plays 1 2 (mark 1 1 1 ∷ [])) 8 6 refl refl;
+  no_multiplier = first_wrong (over_plays 1 2 (mark 1 2 0 ∷ [])) 8 6 refl refl;
+  no_rho = first_wrong (over_plays 0 2 []) 8 6 refl refl;
+  below_empty = wrong dominated (reported one_alone 1 (over 2 1) [] (one_type_tree first_fact (Plays (pos 1) (minus 1) (mark 1 1 5 ∷ []))) (over 2 1) Optimal) (two_facts first_fact (Plays (pos 1) (minus 1) (mark 1 1 5 ∷ []))) (two_parts 1 None first_fact (Plays (pos 1) (minus 1) (mark 1 1 5 ∷ []))) 8 6 refl refl;
+  no_row_multiplier = wrong one_target (reported one_alone 1 (over 1 1) [] (Split 1 None (Closed (over_cover 1 3 (row 3 2 ∷ row 2 0 ∷ [])) ∷ [])) (over 1 1) Optimal) (split 1 None (parts_of (closed (over_cover 1 3 (row 3 2 ∷ row 2 0 ∷ [])) ∷ []))) (one_part 1 None (over_cover 1 3 (row 3 2 ∷ row 2 0 ∷ []))) 7 6 refl refl;
+  spread_fits = wrong spread_players (spread_report (Split 1 None (Closed (spread_fact 56713727820156410577229101238628035239) ∷ Unproved ∷ [])) (over 13 5)) (first_open (spread_fact 56713727820156410577229101238628035239)) (open_part (spread_fact 56713727820156410577229101238628035239)) 8 6 refl refl;
+  spread_past = wrong spread_players (spread_report (Split 1 None (Closed (spread_fact 56713727820156410577229101238628035240) ∷ Unproved ∷ [])) (over 13 5)) (first_open (spread_fact 56713727820156410577229101238628035240)) (open_part (spread_fact 56713727820156410577229101238628035240)) 8 9 refl refl;
+  unproved_at_all = right spread_players (spread_report unproved_tree (over 13 5)) unproved_node (open_pair 1 None) refl refl refl refl;
+  behind_unproved = wrong spread_players (spread_report unproved_tree (over 14 5)) unproved_node (open_pair 1 None) 10 7 refl refl;
+  behind_level = wrong two_targets (reported two_to_one 3 (over 2 3) [] (level_tree 4 3) (over 1 1) Optimal) (closed (Water (over 4 3) Resources)) (node_of-Closed (Water (over 4 3) Resources)) 7 7 refl refl;
+  whole_wide = wrong (same_for_both (pos 0)) (same_report (pos 0) (over_plays (2 ^ 126) (2 ^ 126) [])) (first_open (over_plays (2 ^ 126) (2 ^ 126) [])) (open_part (over_plays (2 ^ 126) (2 ^ 126) [])) 8 9 refl refl;
+  rest_wide = wrong (same_for_both (minus (2 ^ 30))) (same_report (minus (2 ^ 30)) (over_plays (2 ^ 96) (2 ^ 96) [])) (first_open (over_plays (2 ^ 96) (2 ^ 96) [])) (open_part (over_plays (2 ^ 96) (2 ^ 96) [])) 8 9 refl refl;
+  empty_not_bounded = right rare_players rare_report (two_facts first_fact rare_fact) (two_parts 1 None first_fact rare_fact) refl refl refl refl;
+  denominator_wide = wrong (same_for_both (pos 0)) (worth_nothing (all_but_one (2 ^ 126)) (2 ^ 126) open_tree) open_node open_is 5 9 refl refl;
+  attacker_wide = wrong well_paid (worth_nothing (all_but_one (2 ^ 126)) (2 ^ 126) open_tree) open_node open_is 5 9 refl refl;
+  not_best_not_formed = right never_taken (worth_nothing (all_but_one (2 ^ 126)) (2 ^ 126) (one_type_tree (over_plays 1 1 []) (over_plays 1 0 (mark 1 1 5 ∷ [])))) (two_facts (over_plays 1 1 []) (over_plays 1 0 (mark 1 1 5 ∷ []))) (two_parts 1 None (over_plays 1 1 []) (over_plays 1 0 (mark 1 1 5 ∷ []))) refl refl refl refl;
+  prior_wide = wrong often_paid (worth_nothing (all_but_one (2 ^ 100)) (2 ^ 100) open_tree) open_node open_is 5 9 refl refl;
+  pay_wide = wrong up_and_down (worth_nothing (one_first (2 ^ 97)) (1 + 2 ^ 97) open_tree) open_node open_is 5 9 refl refl;
+  spread_of_one = wrong indifferent (worth_nothing one_alone 1 (Split 1 None (Closed twice_half ∷ Unproved ∷ []))) (first_open twice_half) (open_part twice_half) 7 9 refl refl;
 }

@@ -22,6 +22,10 @@ at_most e = grind (arith, nat_tests, e)
 pub at_most_z : {a b : ℤ} → int_le a b ≡ true → a ≤ℤ b
 at_most_z e = omega (arith, ints, e)
 
+pub at_most-either : (b : Bool) (k x y : ℕ) → k ≤ x → k ≤ y → k ≤ cond b x y
+at_most-either true k x y p q = p
+at_most-either false k x y p q = q
+
 both : (a b : Bool) → (a && b) ≡ true → (a ≡ true) × (b ≡ true)
 both true b e = (refl, e)
 both false b e = absurd (true≢false (sym e))

@@ -16,5 +16,6 @@ pub mod Promises
 pub mod Sizes
 pub mod Deciding
 pub mod Worked
+pub mod Edges
 pub mod Joined
 pub mod Payoffs

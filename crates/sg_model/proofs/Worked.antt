@@ -1,5 +1,5 @@
 -- The worked examples, by computing.
-use Rattle.std.proofs.Common.{◌≡◌, ℕ, zero, suc, ◌+◌, ◌≤◌, ◌^◌, Bool, true, false, cond, List, [], ◌∷◌, length, map, ℤ, pos, ◌-ℤ◌, ◌*ℤ◌, ◌≤ℤ◌, refl, arith, nat_le, int_le, codes}
+use Rattle.std.proofs.Common.{◌≡◌, ℕ, zero, suc, ◌+◌, ◌≤◌, ◌^◌, Bool, true, false, cond, List, [], ◌∷◌, length, map, ℤ, pos, ◌-ℤ◌, ◌*ℤ◌, ◌≤ℤ◌, ◌<ℤ◌, ap, refl, arith, nat_le, int_le, codes}
 use Rattle.std.specs.List.{All, list_all}
 use Rattle.std.proofs.lemmas.Int.{ints}
 use Rattle.std.proofs.lemmas.List.{length-map}
@@ -8,25 +8,21 @@ use Rattle.sg_model.specs.declared.level.Level.{Level}
 use Rattle.sg_model.specs.declared.level.Level.TheVariants.{Resources, Target}
 use Rattle.sg_model.specs.declared.ticket.Ticket.{Ticket}
 use Rattle.sg_model.specs.Sums.{numbers}
-use Rattle.sg_model.specs.Games.{Attacker, Game, Payoff, nothing}
-use Rattle.sg_model.specs.Plays.{IsLegalJoint}
+use Rattle.sg_model.specs.Games.{Attacker, Game, Payoff, nobody, nothing, unnamed}
+use Rattle.sg_model.specs.Plays.{IsLegalJoint, IsRow}
 use Rattle.sg_model.specs.Optimality.{IsOptimal}
 use Rattle.sg_model.specs.Commitments.{IsValue, cover_count, weight_total}
 use Rattle.sg_model.specs.Origami.{AreLevelTickets, IsOrigami, IsScaled, IsWater, count_at}
 use Rattle.sg_model.specs.Names.{is_name}
-use Rattle.sg_model.specs.Limits.{IsGame, IsMatrixType, IsPayoff, IsSecurityType, is_scaled, program_rows}
-use Rattle.sg_model.specs.Examples.{AreRefused, IsSolved, IsWorth, WorkedExamples, always_first, four_targets, four_tickets, guarded, held_down, idle, in_a_row, leads, letters, minus, named_from, neighbour_tickets, neighbours, one_player, pairs, patrolled, pays, plain, player, row_mix, row_tickets, tabled, thief, three_targets, ticket, two_payoffs, two_players, two_targets, two_tickets, unpatrolled, well_patrolled}
-use Rattle.sg_model.proofs.Deciding.{all_pass, at_most, at_most_z, commitment_by, commitment_test, count_by, count_test, lists_by, lists_test, names_by, names_test, payoff_by, payoff_test, range_by, scaled_by, scaled_test, table_by, table_test}
+use Rattle.sg_model.specs.Limits.{AreListed, AreMembers, ArePatrols, IsGame, IsMatrixGame, IsMatrixType, IsPayoff, IsSecurityGame, IsSecurityType, is_scaled, program_rows}
+use Rattle.sg_model.specs.Examples.{AreCounted, AreIllegal, AreNoGames, AreRefused, AreSpelled, AreUnscaled, HasMost, IsSolved, IsWorth, WorkedExamples, always_first, each_row, first_payoffs, four_targets, four_tickets, guarded, half_idle, held_down, holding, idle, in_a_row, leads, letters, minus, named_from, neighbour_tickets, neighbours, one_player, opponent, pairs, patrolled, pays, plain, player, robber, row_mix, row_tickets, second_payoffs, tabled, thief, three_actions, three_rows, three_targets, ticket, twice_two_targets, two_actions, two_payoffs, two_players, two_targets, two_thieves, two_tickets, unpatrolled, well_patrolled}
+use Rattle.sg_model.proofs.Deciding.{all_pass, at_most, at_most-either, at_most_z, commitment_by, commitment_test, count_by, count_test, lists_by, lists_test, names_by, names_test, payoff_by, payoff_test, range_by, range_test, scaled_by, scaled_test, table_by, table_test}
 use Rattle.sg_model.proofs.Numbers.{length-numbers_from}
 use Rattle.sg_model.proofs.Promises.{nth-all}
 use Rattle.sg_model.proofs.Tickets.{tickets-optimal}
 
 length-letters : (n : ℕ) → length (letters n) ≡ n
 length-letters n = omega (arith, length-map (numbers n) (λ i. (96 + i) ∷ []), length-numbers_from 1 n)
-
-at_most-either : (b : Bool) (k x y : ℕ) → k ≤ x → k ≤ y → k ≤ cond b x y
-at_most-either true k x y p q = p
-at_most-either false k x y p q = q
 
 thief-type : (payoffs : List Payoff) → list_all payoff_test payoffs ≡ true → IsSecurityType (length (letters (length payoffs))) (thief payoffs)
 thief-type payoffs in_range = record {
@@ -265,6 +261,106 @@ refused = record {
   too_many = λ is. let h : IsLegalJoint two_targets (1 ∷ 2 ∷ []) = is.legal 0 (ticket 0 []) (at_most refl) in let e : 2 ≡ 1 = h.one_each in omega (arith, e);
 }
 
+robber-type : (name : List ℕ) (often : ℕ) (payoffs : List Payoff) → range_test (pos 1) (pos (2 ^ 20)) (pos often) ≡ true → list_all payoff_test payoffs ≡ true
+    → IsSecurityType (length payoffs) (robber name often payoffs)
+robber-type name often payoffs comes in_range = record {
+  prior = range_by (pos 1) (pos (2 ^ 20)) (pos often) comes;
+  one_each = refl;
+  pays = all_pass IsPayoff payoff_test payoff_by payoffs in_range;
+  no_actions = refl;
+  no_leader = refl;
+  no_follower = refl;
+}
+
+thieves : IsGame two_thieves
+unfolding is_name
+thieves = record {
+  targets = names_by (letters 2) refl;
+  target_count = count_by 1 200 2 refl;
+  scale_range = range_by (pos 0) (pos (2 ^ 32)) (pos 0) refl;
+  defended = record {
+    schedules = lists_by 2 500 200 (named_from 1 ((1 ∷ []) ∷ (2 ∷ []) ∷ [])) refl;
+    resources = lists_by 2 32 500 (named_from 1 ((2 ∷ []) ∷ (1 ∷ 2 ∷ []) ∷ [])) refl;
+  };
+  types = record { count = count_by 1 8 2 refl; names = names_by (codes "first" ∷ codes "second" ∷ []) refl };
+  each_type =
+      All-cons (IsSecurityType 2) (robber (codes "first") 2 first_payoffs) (robber (codes "second") 3 second_payoffs ∷ []) (robber-type (codes "first") 2 first_payoffs refl refl)
+      (All-cons (IsSecurityType 2) (robber (codes "second") 3 second_payoffs) [] (robber-type (codes "second") 3 second_payoffs refl refl) (All-nil (IsSecurityType 2)));
+  few_rows = λ _. at_most refl;
+  scaled = λ positive. absurd (omega (arith, ints, positive));
+}
+
+opponent-type : (name : List ℕ) (often actions : ℕ) (leader follower : List (List ℤ)) → range_test (pos 1) (pos (2 ^ 20)) (pos often) ≡ true → count_test 1 64 actions ≡ true
+    → names_test (letters actions) ≡ true → table_test 3 actions leader ≡ true → table_test 3 actions follower ≡ true → IsMatrixType 3 (opponent name often actions leader follower)
+opponent-type name often actions leader follower comes few named leads follows = record {
+  prior = range_by (pos 1) (pos (2 ^ 20)) (pos often) comes;
+  no_payoffs = refl;
+  action_count = rw (length-letters actions) (count_by 1 64 actions few);
+  action_names = names_by (letters actions) named;
+  leader = rw (length-letters actions) (table_by 3 actions leader leads);
+  follower = rw (length-letters actions) (table_by 3 actions follower follows);
+}
+
+rows_game : IsGame three_rows
+unfolding is_name
+rows_game = record {
+  rows = names_by (letters 3) refl;
+  row_count = count_by 1 4096 3 refl;
+  no_scale = refl;
+  no_patrols = refl;
+  no_schedules = refl;
+  no_resources = refl;
+  types = record { count = count_by 1 8 2 refl; names = names_by (codes "first" ∷ codes "second" ∷ []) refl };
+  each_type =
+      All-cons (IsMatrixType 3) two_actions (three_actions ∷ []) (opponent-type two_actions.name 2 2 two_actions.leader two_actions.follower refl refl refl refl refl)
+      (All-cons (IsMatrixType 3) three_actions [] (opponent-type three_actions.name 3 3 three_actions.leader three_actions.follower refl refl refl refl refl) (All-nil (IsMatrixType 3)));
+  few_rows = at_most refl;
+}
+
+spelled : AreSpelled
+unfolding is_name
+spelled = record { mixed = refl; empty = refl; dotted = refl; spaced = refl; longest = refl; too_long = refl }
+
+unscaled : AreUnscaled
+unscaled = record {
+  no_help = λ is. let h : pos 1 <ℤ pos 1 = is.defender_gains in omega (arith, ints, h);
+  no_hurt = λ is. let h : pos 4 <ℤ pos 4 = is.attacker_loses in omega (arith, ints, h);
+  by_three = λ is. let h : pos 1 ≡ pos 0 = is.divides in omega (arith, ints, h);
+  by_eight = λ is. let h : pos 4 ≡ pos 0 = is.divides in omega (arith, ints, h);
+}
+
+illegal : AreIllegal
+illegal = record {
+  other_list = λ is. let h : IsLegalJoint two_thieves (2 ∷ 1 ∷ []) = is.legal 0 (ticket 0 []) (at_most refl) in let low : 2 ≤ 1 = h.in_list 0 (at_most refl) in omega (arith, low);
+  too_few = λ is. let h : IsLegalJoint two_thieves (1 ∷ []) = is.legal 0 (ticket 0 []) (at_most refl) in let e : 1 ≡ 2 = h.one_each in omega (arith, e);
+  row_zero = λ is. let h : IsRow three_rows (0 ∷ []) = is.legal 0 (ticket 0 []) (at_most refl) in let low : 1 ≤ 0 = h.from_one in omega (arith, low);
+  past_the_rows = λ is. let h : IsRow three_rows (4 ∷ []) = is.legal 0 (ticket 0 []) (at_most refl) in let low : 4 ≤ 3 = h.in_list in omega (arith, low);
+}
+
+-- the promises of a schedule
+held_members : (members : List ℕ) → IsGame (holding members) → AreMembers 2 200 members
+held_members members is =
+    let h : IsSecurityGame (holding members) = is in
+    let k : AreListed (holding members) = h.defended in
+    k.schedules.members 1 unnamed (at_most refl)
+
+no_games : AreNoGames
+no_games = record {
+  of_none = λ is. let low : 1 ≤ 0 = (held_members [] is).size.at_least in omega (arith, low);
+  of_zero = λ is. let k = (held_members (0 ∷ []) is).known 0 0 (at_most refl) in let low : 1 ≤ 0 = k.at_least in omega (arith, low);
+  past_the_last = λ is. let k = (held_members (3 ∷ []) is).known 0 0 (at_most refl) in let high : 3 ≤ 2 = k.at_most in omega (arith, high);
+  of_one_twice = λ is. (held_members (2 ∷ 2 ∷ []) is).distinct 0 1 0 (at_most refl) (at_most refl) refl;
+  beside_patrols = λ is.
+      let h : IsSecurityGame (record two_targets { schedules = named_from 1 ((1 ∷ []) ∷ []) }) = is in
+      let k : ArePatrols (record two_targets { schedules = named_from 1 ((1 ∷ []) ∷ []) }) 1 = h.defended in
+      let none : length (named_from 1 ((1 ∷ []) ∷ [])) ≡ 0 = ap length k.no_schedules in omega (arith, none);
+  one_name = λ is. let h : IsMatrixGame (record three_rows { types = two_actions ∷ two_actions ∷ [] }) = is in h.types.names.distinct 0 1 [] (at_most refl) (at_most refl) refl;
+  scale_without_patrols = λ is. let h : IsSecurityGame (record in_a_row { scale = pos 1 }) = is in (h.scaled (at_most_z refl)).identical refl;
+  scale_with_prior = λ is.
+      let h : IsSecurityGame twice_two_targets = is in
+      let e : pos 2 ≡ pos 1 = (h.scaled (at_most_z refl)).prior_one 0 nobody (at_most refl) in omega (arith, ints, e);
+}
+
 poor : IsWorth two_targets always_first (minus 1) (pos 1)
 poor = record { game = one_patrol.worth.game; commitment = commitment_by two_targets always_first refl; value = record { positive = at_most_z refl; same = refl } }
 
@@ -291,4 +387,25 @@ worked = record {
   refused = refused;
   poor = poor;
   not_optimal = not_optimal;
+  idle_for_two = record { game = thieves; commitment = commitment_by two_thieves half_idle refl; value = record { positive = at_most_z refl; same = refl } };
+  both_at_one = refl;
+  most_of_thieves = record { most_of_first = refl; most_of_second = refl; shift_of_both = refl };
+  different_types = record { game = rows_game; commitment = commitment_by three_rows each_row refl; value = record { positive = at_most_z refl; same = refl } };
+  most_of_rows = record { most_of_first = refl; most_of_second = refl; shift_of_both = refl };
+  counted = record {
+    patrols = refl;
+    targets_of_patrols = refl;
+    resources = refl;
+    schedules = refl;
+    targets = refl;
+    actions = refl;
+    other_actions = refl;
+    program_rows_of_targets = refl;
+    program_rows_of_actions = refl;
+  };
+  spelled = spelled;
+  unscaled = unscaled;
+  illegal = illegal;
+  no_games = no_games;
+  prior_two = λ is. let e : pos 2 ≡ pos 1 = is.prior_one in omega (arith, ints, e);
 }

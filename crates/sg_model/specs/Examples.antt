@@ -1,15 +1,17 @@
 -- Small games whose answers can be worked out by hand.
-use Rattle.std.specs.Prelude.{◌≡◌, ℕ, ◌+◌, true, List, [], ◌∷◌, codes, map, length, ℤ, pos, ◌-ℤ◌, Some, None}
+use Rattle.std.specs.Prelude.{◌≡◌, ℕ, ◌+◌, true, false, List, [], ◌∷◌, codes, map, length, ℤ, pos, ◌-ℤ◌, Some, None}
 use Rattle.sg_model.specs.declared.kind.Kind.TheVariants.{Security, Matrix}
 use Rattle.sg_model.specs.declared.level.Level.{Level}
 use Rattle.sg_model.specs.declared.level.Level.TheVariants.{Resources, Target}
 use Rattle.sg_model.specs.declared.ticket.Ticket.{Ticket}
 use Rattle.sg_model.specs.Sums.{numbers}
-use Rattle.sg_model.specs.Games.{Attacker, Game, Named, Payoff}
+use Rattle.sg_model.specs.Games.{Attacker, Game, Named, Payoff, action_count, resource_count, schedule_count}
+use Rattle.sg_model.specs.Payoffs.{greatest_of, shift_of}
 use Rattle.sg_model.specs.Commitments.{IsCommitment, IsValue, cover_count, is_best, sum_d, worth}
 use Rattle.sg_model.specs.Optimality.{IsOptimal}
-use Rattle.sg_model.specs.Origami.{AreLevelTickets, IsOrigami, IsWater, water_bound}
-use Rattle.sg_model.specs.Limits.{IsGame}
+use Rattle.sg_model.specs.Origami.{AreLevelTickets, IsOrigami, IsScaled, IsWater, water_bound}
+use Rattle.sg_model.specs.Names.{is_name}
+use Rattle.sg_model.specs.Limits.{IsGame, program_rows}
 
 -- minus n
 abbrev pub minus : ℕ → ℤ
@@ -148,6 +150,62 @@ two_players = tabled (player (codes "first") leads ((pos 1 ∷ pos 0 ∷ []) ∷
 abbrev pub row_mix : List Ticket
 row_mix = two_tickets
 
+-- an attacker that comes this often, with these payoffs
+abbrev pub robber : List ℕ → ℕ → List Payoff → Attacker
+robber name often payoffs = record { name = name; prior = pos often; payoffs = payoffs; actions = []; leader = []; follower = [] }
+
+-- the payoffs of one attacker at two targets, at all of which the defender loses
+abbrev pub first_payoffs : List Payoff
+first_payoffs = pays (minus 1) (minus 5) (pos 1) (pos 6) ∷ pays (minus 2) (minus 3) (pos 0) (pos 4) ∷ []
+
+-- those of another
+abbrev pub second_payoffs : List Payoff
+second_payoffs = pays (pos 4) (pos 3) (minus 2) (pos 2) ∷ pays (pos 7) (pos 2) (minus 1) (pos 5) ∷ []
+
+-- the first attacker comes on two of five days, the second on three; one resource may take the second target alone, the other one either target
+abbrev pub two_thieves : Game
+two_thieves = record {
+  kind = Security;
+  scale = pos 0;
+  patrols = None;
+  goals = letters 2;
+  schedules = named_from 1 ((1 ∷ []) ∷ (2 ∷ []) ∷ []);
+  resources = named_from 1 ((2 ∷ []) ∷ (1 ∷ 2 ∷ []) ∷ []);
+  types = robber (codes "first") 2 first_payoffs ∷ robber (codes "second") 3 second_payoffs ∷ [];
+}
+
+-- both resources at the second target on two tickets of three, and both idle on the third
+abbrev pub half_idle : List Ticket
+half_idle = ticket 2 (1 ∷ 2 ∷ []) ∷ ticket 1 (0 ∷ 0 ∷ []) ∷ []
+
+-- a type that comes this often, with so many actions, what the defender gets and what it gets: a list for each row
+abbrev pub opponent : List ℕ → ℕ → ℕ → List (List ℤ) → List (List ℤ) → Attacker
+opponent name often actions leader follower = record { name = name; prior = pos often; payoffs = []; actions = letters actions; leader = leader; follower = follower }
+
+-- two actions against three rows, on two of five days
+abbrev pub two_actions : Attacker
+two_actions =
+    opponent (codes "first") 2 2 ((pos 7 ∷ pos 3 ∷ []) ∷ (pos 4 ∷ pos 9 ∷ []) ∷ (pos 5 ∷ pos 6 ∷ []) ∷ [])
+    ((pos 1 ∷ pos 0 ∷ []) ∷ (pos 0 ∷ pos 2 ∷ []) ∷ (pos 0 ∷ pos 0 ∷ []) ∷ [])
+
+-- three actions against them, on three
+abbrev pub three_actions : Attacker
+three_actions =
+    opponent (codes "second") 3 3 ((pos 8 ∷ pos 4 ∷ pos 3 ∷ []) ∷ (pos 3 ∷ pos 5 ∷ pos 10 ∷ []) ∷ (pos 6 ∷ pos 6 ∷ pos 6 ∷ []) ∷ [])
+    ((pos 2 ∷ pos 1 ∷ pos 0 ∷ []) ∷ (pos 0 ∷ pos 1 ∷ pos 3 ∷ []) ∷ (pos 1 ∷ pos 1 ∷ pos 1 ∷ []) ∷ [])
+
+-- three rows against both
+abbrev pub three_rows : Game
+three_rows = record { kind = Matrix; scale = pos 0; patrols = None; goals = letters 3; schedules = []; resources = []; types = two_actions ∷ three_actions ∷ [] }
+
+-- the first row on two tickets of four, and each other row on one
+abbrev pub each_row : List Ticket
+each_row = ticket 2 (1 ∷ []) ∷ ticket 1 (2 ∷ []) ∷ ticket 1 (3 ∷ []) ∷ []
+
+-- the two targets, with an attacker of prior 2
+abbrev pub twice_two_targets : Game
+twice_two_targets = record two_targets { types = robber (codes "thief") 2 two_payoffs ∷ [] }
+
 -- a game of a game file with a commitment of value a / b
 pub record IsWorth (g : Game) (k : List Ticket) (a b : ℤ) : Type 0 where
   pub game : IsGame g
@@ -168,6 +226,63 @@ pub record IsTie (g : Game) (k : List Ticket) (l : ℕ) : Type 0 where
   pub second : is_best g k l 2 ≡ true
   pub less : sum_d g k l 1 ≡ pos 5
   pub more : sum_d g k l 2 ≡ pos 11
+
+-- the defender's greatest payoffs against two types, and the shift
+pub record HasMost (g : Game) (first second shift : ℤ) : Type 0 where
+  pub most_of_first : greatest_of g 1 ≡ first
+  pub most_of_second : greatest_of g 2 ≡ second
+  pub shift_of_both : shift_of g ≡ shift
+
+-- how many there are of what
+pub record AreCounted : Type 0 where
+  pub patrols : resource_count three_targets ≡ 2
+  pub targets_of_patrols : schedule_count three_targets ≡ 3
+  pub resources : resource_count in_a_row ≡ 1
+  pub schedules : schedule_count in_a_row ≡ 2
+  pub targets : action_count in_a_row 1 ≡ 3
+  pub actions : action_count three_rows 1 ≡ 2
+  pub other_actions : action_count three_rows 2 ≡ 3
+  pub program_rows_of_targets : program_rows two_thieves ≡ 9
+  pub program_rows_of_actions : program_rows three_rows ≡ 4
+
+-- names: letters, digits, an underscore and a dash; no empty one, no dot, no space; 64 letters and not 65
+pub record AreSpelled : Type 0 where
+  pub mixed : is_name (codes "North_gate-2") ≡ true
+  pub empty : is_name [] ≡ false
+  pub dotted : is_name (codes "a.b") ≡ false
+  pub spaced : is_name (codes "a b") ≡ false
+  pub longest : is_name (map (λ i. 97) (numbers 64)) ≡ true
+  pub too_long : is_name (map (λ i. 97) (numbers 65)) ≡ false
+
+-- payoffs that don't fit a scale of 4: covering that doesn't help the defender, or doesn't hurt the attacker, or by 3
+pub record AreUnscaled : Type 0 where
+  pub no_help : IsScaled (pos 4) (pays (pos 1) (pos 1) (pos 0) (pos 4)) → ⊥
+  pub no_hurt : IsScaled (pos 4) (pays (pos 1) (pos 0) (pos 4) (pos 4)) → ⊥
+  pub by_three : IsScaled (pos 4) (pays (pos 1) (pos 0) (pos 0) (pos 3)) → ⊥
+  pub by_eight : IsScaled (pos 4) (pays (pos 1) (pos 0) (pos 0) (pos 8)) → ⊥
+
+-- plays that aren't legal: a choice that only the other resource has, a choice for one of two resources, row 0, a row past the last
+pub record AreIllegal : Type 0 where
+  pub other_list : IsCommitment two_thieves (ticket 1 (2 ∷ 1 ∷ []) ∷ []) → ⊥
+  pub too_few : IsCommitment two_thieves (ticket 1 (1 ∷ []) ∷ []) → ⊥
+  pub row_zero : IsCommitment three_rows (ticket 1 (0 ∷ []) ∷ []) → ⊥
+  pub past_the_rows : IsCommitment three_rows (ticket 1 (4 ∷ []) ∷ []) → ⊥
+
+-- a schedule of one resource that guards two targets
+abbrev pub holding : List ℕ → Game
+holding members = guarded ((1 ∷ []) ∷ members ∷ []) ((1 ∷ []) ∷ []) (plain ∷ plain ∷ [])
+
+-- what no game file promises: a schedule of no target, of target 0, of one past the last, or of one twice; a schedule beside patrols;
+-- two types of one name; and a scale without patrols, or with a prior of 2
+pub record AreNoGames : Type 0 where
+  pub of_none : IsGame (holding []) → ⊥
+  pub of_zero : IsGame (holding (0 ∷ [])) → ⊥
+  pub past_the_last : IsGame (holding (3 ∷ [])) → ⊥
+  pub of_one_twice : IsGame (holding (2 ∷ 2 ∷ [])) → ⊥
+  pub beside_patrols : IsGame (record two_targets { schedules = named_from 1 ((1 ∷ []) ∷ []) }) → ⊥
+  pub one_name : IsGame (record three_rows { types = two_actions ∷ two_actions ∷ [] }) → ⊥
+  pub scale_without_patrols : IsGame (record in_a_row { scale = pos 1 }) → ⊥
+  pub scale_with_prior : IsGame twice_two_targets → ⊥
 
 -- lists of tickets for the two targets that are no commitments: none at all, no weight, a play twice, a choice that isn't there, a patrol too many
 pub record AreRefused : Type 0 where
@@ -200,3 +315,14 @@ pub record WorkedExamples : Type 0 where
   pub refused : AreRefused
   pub poor : IsWorth two_targets always_first (minus 1) (pos 1)
   pub not_optimal : IsOptimal two_targets always_first → ⊥
+  pub idle_for_two : IsWorth two_thieves half_idle (minus 1) (pos 5)
+  pub both_at_one : cover_count two_thieves half_idle 2 ≡ pos 2
+  pub most_of_thieves : HasMost two_thieves (minus 1) (pos 7) (pos 6)
+  pub different_types : IsWorth three_rows each_row (pos 121) (pos 20)
+  pub most_of_rows : HasMost three_rows (pos 9) (pos 10) (minus 2)
+  pub counted : AreCounted
+  pub spelled : AreSpelled
+  pub unscaled : AreUnscaled
+  pub illegal : AreIllegal
+  pub prior_two : IsOrigami twice_two_targets 1 → ⊥
+  pub no_games : AreNoGames

@@ -14,3 +14,4 @@ pub mod PayoffLaws
 pub mod OptimalityLaws
 pub mod OrigamiLaws
 pub mod Examples
+pub mod LimitLaws

@@ -6,6 +6,7 @@ ghost use Rattle.sg_model.specs.GameLaws.{
   PayoffsAreInRange,
   ScaleMeansOrigami,
 };
+ghost use Rattle.sg_model.specs.LimitLaws.{LimitsAreExact};
 
 /// There is a type of attacker, each type has an action, and each prior is at least 1.
 pub fn game_is_peopled()
@@ -25,4 +26,9 @@ pub fn game_is_small()
 /// All payoffs are from -2^30 to 2^30.
 pub fn payoffs_are_in_range()
     ensures { PayoffsAreInRange }
+{}
+
+/// Where the limits of targets, patrols, scales, priors, payoffs, types, program rows, schedules, resources, rows and actions lie.
+pub fn limits_are_exact()
+    ensures { LimitsAreExact }
 {}

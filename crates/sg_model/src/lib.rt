@@ -2,7 +2,7 @@
 //!
 //! The definitions stand in `specs/`, one module a subject, and every other crate cites them. The functions below
 //! carry laws about the definitions: each has an empty body, and its contract is a statement of one of the modules
-//! `GameLaws`, `PlayLaws`, `PayoffLaws`, `OptimalityLaws` and `OrigamiLaws` of `specs/`. `worked_examples` carries
+//! `GameLaws`, `LimitLaws`, `PlayLaws`, `PayoffLaws`, `OptimalityLaws` and `OrigamiLaws` of `specs/`. `worked_examples` carries
 //! small games with their answers.
 #![tactic(auto)]
 
@@ -19,7 +19,9 @@ mod ticket;
 
 pub use examples::worked_examples;
 pub use fault::{GameFault, Place};
-pub use game_laws::{game_is_peopled, game_is_small, payoffs_are_in_range, scale_means_origami};
+pub use game_laws::{
+    game_is_peopled, game_is_small, limits_are_exact, payoffs_are_in_range, scale_means_origami,
+};
 pub use kind::Kind;
 pub use level::Level;
 pub use optimality_laws::{
