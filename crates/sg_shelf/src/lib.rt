@@ -11,6 +11,7 @@ mod file_shelf;
 mod mem_shelf;
 mod mem_sink;
 mod out_sink;
+mod outlet;
 mod shelf;
 mod sink;
 

@@ -1,12 +1,12 @@
 //! A sink over a writer of std.
 
-ghost use Rattle.std.specs.Prelude.{◌≡◌, ◌-◌, ◌^◌, ◌≤◌, None, OnOk, OnErr};
-ghost use Rattle.std.specs.Bool.{OnTrue};
+ghost use Rattle.std.specs.Prelude.{◌≡◌, ◌+◌, ◌-◌, ◌^◌, ◌≤◌, None, OnOk, OnErr, true, false};
+ghost use Rattle.std.specs.Bool.{OnTrue, OnFalse};
 ghost use Rattle.std.specs.Io.KnownBytes.{Appends};
-ghost use Rattle.sg_shelf.specs.Faults.{HasRisen};
+ghost use Rattle.sg_shelf.specs.Faults.{HasRisen, raised};
 ghost use Rattle.sg_shelf.specs.WriterState.{AppendsFront};
 
-use crate::faults::raised_unless;
+use crate::outlet::Outlet;
 use crate::sink::{Sink, SinkError};
 use std::io::Write;
 use std::marker::Model;
@@ -15,8 +15,7 @@ use std::marker::Model;
 /// also one that a signal interrupts, a write that takes nothing, and a flush that fails are a fault each.
 #[derive(Drop)]
 pub struct OutSink<W: Write> {
-    writer: W,
-    faults: u64,
+    outlet: Outlet<W>,
 }
 
 impl<W: Write> Model for OutSink<W> {
@@ -24,15 +23,17 @@ impl<W: Write> Model for OutSink<W> {
 
     ghost Value = { WriterState };
 
-    ghost view = { λ sink. record { contents = W.contents sink.writer; faults = sink.faults } };
+    ghost view = { λ sink. sink.outlet };
 }
 
 impl<W: Write> OutSink<W> {
     /// A sink over the writer, with no fault.
     pub fn new(writer: W) -> OutSink<W>
-        ensures { result ≡ record { contents = W.contents writer; faults = 0 } }
+        ensures { result ≡ record { contents = W.contents writer; faults = 0; is_flushed = false } }
     {
-        OutSink { writer, faults: 0 }
+        OutSink {
+            outlet: Outlet::new(writer),
+        }
     }
 }
 
@@ -47,14 +48,17 @@ impl<W: Write> Sink for OutSink<W> {
         ensures no_fault { OnOk result (self.new.faults ≡ self.old.faults) }
         ensures fault { OnErr result (HasRisen self.old.faults self.new.faults) }
 
+        // A failing write and a failing flush are one fault each.
+        ensures few_faults { self.new.faults ≤ self.old.faults + 2 }
+
+        ensures flushed { OnOk result (self.new.is_flushed ≡ true) }
+
         // What the writer holds, where it says so.
         ensures whole { OnOk result (Appends self.old.contents self.new.contents piece.now) }
         ensures front { AppendsFront self.old.contents self.new.contents piece.now }
     {
-        let is_written = write_whole(&mut self.writer, piece);
-        self.faults = raised_unless(is_written, self.faults);
-        let is_flushed = self.writer.flush().is_ok();
-        self.faults = raised_unless(is_flushed, self.faults);
+        let is_written = write_whole(&mut self.outlet, piece);
+        let is_flushed = self.outlet.flush();
         if is_written && is_flushed {
             Ok(())
         } else {
@@ -64,15 +68,18 @@ impl<W: Write> Sink for OutSink<W> {
 }
 
 // Writes the piece, and says whether the writer took it whole.
-fn write_whole<W: Write>(writer: &mut W, piece: &[u8]) -> bool
-    ensures whole { OnTrue result (Appends (W.contents writer.old) (W.contents writer.new) piece.now) }
-    ensures front { AppendsFront (W.contents writer.old) (W.contents writer.new) piece.now }
+fn write_whole<W: Write>(outlet: &mut Outlet<W>, piece: &[u8]) -> bool
+    ensures whole { OnTrue result (Appends outlet.old.contents outlet.new.contents piece.now) }
+    ensures front { AppendsFront outlet.old.contents outlet.new.contents piece.now }
+    ensures count { outlet.old.faults ≤ outlet.new.faults }
+    ensures no_fault { OnTrue result (outlet.new.faults ≡ outlet.old.faults) }
+    ensures fault { OnFalse result (outlet.new.faults ≡ raised outlet.old.faults) }
 {
     let mut taken = 0;
     while taken < piece.len() {
-        match writer.write(&piece[taken..]) {
-            Ok(0) | Err(_) => return false,
-            Ok(count) => taken += count,
+        match outlet.write(&piece[taken..]) {
+            Some(count) => taken += count,
+            None => return false,
         }
     }
     true
@@ -129,7 +136,7 @@ mod tests {
         sink.put(b"three")?;
         sink.put(b"")?;
         sink.put(b" pieces")?;
-        assert_eq!(rt; sink.faults, 0);
+        assert_eq!(rt; sink.outlet.faults(), 0);
         assert_eq!(rt; written.as_slice(), b"three pieces".as_slice());
         Ok(())
     }
@@ -142,15 +149,16 @@ mod tests {
             (3, AtEnd::Fails, true, 2, "fiv"),
             (9, AtEnd::Fails, true, 1, "five!"),
         ] {
-            let mut sink = OutSink::new(Limited {
+            let mut writer = Limited {
                 taken: Vec::new(rt.alloc()),
                 room,
                 at_end,
                 flush_fails,
-            });
+            };
+            let mut sink = OutSink::new(&mut writer);
             assert!(rt; sink.put(b"five!").is_err());
-            assert_eq!(rt; sink.faults, faults);
-            assert_eq!(rt; sink.writer.taken.as_slice(), taken.as_bytes());
+            assert_eq!(rt; sink.outlet.faults(), faults);
+            assert_eq!(rt; writer.taken.as_slice(), taken.as_bytes());
         }
         Ok(())
     }
