@@ -19,8 +19,3 @@ mod telling;
 pub use call::run;
 pub use laws::solved_is_checked;
 pub use refusal::Refusal;
-
-#[cfg(test)]
-mod report_tests;
-#[cfg(test)]
-mod tests;

@@ -1,54 +1,12 @@
-use super::run;
-use sg_shelf::{MemShelf, MemSink, NamedBytes};
+//! Games: what `solve` answers, and that `check` accepts it.
+
+use crate::scenes::{Answer, NO_PUT, answers, game_text, shelf_of, sink_of, words_of};
+use sg_cli::run;
 use std::alloc::{AllocError, Global};
 use std::test::*;
 
-/// A game of the given top keys, whose one attacker has these payoffs.
-pub(crate) fn game_text(alloc: Global, keys: &str, payoffs: &str) -> Result<String, AllocError> {
-    format!(in alloc;
-        "version = 1\nform = \"security\"\n{keys}\n\n[[type]]\nname = \"thief\"\nprior = 1\npayoffs = {payoffs}\n"
-    )
-}
-
-/// The words, as a program is given them.
-pub(crate) fn words_of(alloc: Global, words: &[&str]) -> Result<Vec<String>, AllocError> {
-    let mut all = Vec::new(alloc);
-    for word in words {
-        all.push(String::from_str(alloc, word)?)?;
-    }
-    Ok(all)
-}
-
-/// A shelf with one file, `game.toml`, whose reads with these numbers fail.
-fn shelf_of(alloc: Global, bytes: &[u8], fails: &[u64]) -> Result<MemShelf, AllocError> {
-    let file = NamedBytes {
-        name: String::from_str(alloc, "game.toml")?,
-        bytes: Vec::from_slice(alloc, bytes)?,
-    };
-    let mut files = Vec::new(alloc);
-    files.push(file)?;
-    Ok(MemShelf::new(files, Vec::from_slice(alloc, fails)?))
-}
-
-/// Whether a run on `game.toml` with these bytes answers so: the status, and what the two outputs took.
-fn answers(
-    alloc: Global,
-    words: &[&str],
-    bytes: &[u8],
-    status: u8,
-    report: &str,
-    line: &str,
-) -> Result<bool, AllocError> {
-    let words = words_of(alloc, words)?;
-    let mut shelf = shelf_of(alloc, bytes, &[])?;
-    let mut out = MemSink::new(alloc, Vec::new(alloc), 0)?;
-    let mut err = MemSink::new(alloc, Vec::new(alloc), 0)?;
-    let answer = run(alloc, &words, &mut shelf, &mut out, &mut err);
-    Ok(answer == status && out.bytes() == report.as_bytes() && err.bytes() == line.as_bytes())
-}
-
 /// Games of identical patrols, worked out by hand: the top keys, the payoffs, and the report.
-pub(crate) const SOLVED: [(&str, &str, &str); 19] = [
+const SOLVED: [(&str, &str, &str); 19] = [
     // Two targets, the first worth twice the second.
     (
         "scale = 4\npatrols = 1\ntargets = [\"t1\", \"t2\"]",
@@ -165,20 +123,41 @@ pub(crate) const SOLVED: [(&str, &str, &str); 19] = [
     ),
 ];
 
+/// Whether `check` says of this report on a game that its tickets are optimal.
+fn is_optimal(alloc: Global, game: &str, report: &str) -> Result<bool, AllocError> {
+    let words = words_of(alloc, &["check", "game.toml", "report"])?;
+    let mut shelf = shelf_of(alloc, game.as_bytes(), Some(report), &[])?;
+    let mut out = sink_of(alloc, &[], 0)?;
+    let mut err = sink_of(alloc, &[], 0)?;
+    let status = run(alloc, &words, &mut shelf, &mut out, &mut err);
+    Ok(status == 0 && out.bytes().starts_with(b"yes optimal ") && err.bytes().is_empty())
+}
+
+/// Whether `solve` writes this report for a game, and `check` accepts it.
+fn solves(alloc: Global, game: &str, report: &str) -> Result<bool, AllocError> {
+    let expected = Answer {
+        status: 0,
+        out: report,
+        err: "",
+    };
+    if answers(
+        alloc,
+        &["solve", "game.toml"],
+        game.as_bytes(),
+        None,
+        &expected,
+    )? {
+        is_optimal(alloc, game, report)
+    } else {
+        Ok(false)
+    }
+}
+
 #[test]
 fn solves_games_of_identical_patrols(rt: HostRuntime) -> Result<(), AllocError> {
-    let alloc = rt.alloc();
     for (keys, payoffs, report) in SOLVED {
-        let text = game_text(alloc, keys, payoffs)?;
-        let is_right = answers(
-            alloc,
-            &["solve", "game.toml"],
-            text.as_bytes(),
-            0,
-            report,
-            "",
-        )?;
-        assert!(rt; is_right, "{keys}");
+        let game = game_text(rt.alloc(), keys, payoffs)?;
+        assert!(rt; solves(rt.alloc(), &game, report)?);
     }
     Ok(())
 }
@@ -241,119 +220,76 @@ const REFUSED: [(&str, &str, u8, &str); 9] = [
     ),
 ];
 
+/// Whether a run on a game of these bytes is refused so.
+fn is_refused(
+    alloc: Global,
+    words: &[&str],
+    game: &[u8],
+    status: u8,
+    err: &str,
+) -> Result<bool, AllocError> {
+    let expected = Answer {
+        status,
+        out: "",
+        err,
+    };
+    answers(alloc, words, game, None, &expected)
+}
+
 #[test]
 fn refuses_games(rt: HostRuntime) -> Result<(), AllocError> {
-    let alloc = rt.alloc();
     for (keys, payoffs, status, line) in REFUSED {
-        let text = game_text(alloc, keys, payoffs)?;
-        let is_right = answers(
-            alloc,
-            &["solve", "game.toml"],
-            text.as_bytes(),
-            status,
-            "",
-            line,
-        )?;
-        assert!(rt; is_right, "{line}");
+        let game = game_text(rt.alloc(), keys, payoffs)?;
+        let words = ["solve", "game.toml"];
+        assert!(rt; is_refused(rt.alloc(), &words, game.as_bytes(), status, line)?);
     }
-    let bad = answers(
-        alloc,
-        &["solve", "game.toml"],
-        b"\xff",
-        6,
-        "",
-        "game refused 1 at document\n",
-    )?;
-    assert!(rt; bad);
-    let empty = answers(
-        alloc,
-        &["solve", "game.toml"],
-        b"",
-        6,
-        "",
-        "game refused 3 at document\n",
-    )?;
-    assert!(rt; empty);
     Ok(())
 }
 
 #[test]
-fn refuses_words_and_names(rt: HostRuntime) -> Result<(), AllocError> {
-    let alloc = rt.alloc();
-    let lists: [&[&str]; 8] = [
-        &[],
-        &["solve"],
-        &["game.toml"],
-        &["solve", "game.toml", "game.toml"],
-        &["solve", "game.toml", "--nodes", "01"],
-        &["solve", "game.toml", "--seed=3", "--seed=3"],
-        &["check", "game.toml"],
-        &["solve", "-"],
-    ];
-    for words in lists {
-        assert!(rt; answers(alloc, words, b"", 2, "", "words refused\n")?);
-    }
-    assert!(rt;
-        answers(
-            alloc,
-            &["solve", "other.toml"],
+fn refuses_words_names_and_bytes(rt: HostRuntime) -> Result<(), AllocError> {
+    let long = vec![in rt.alloc(); b'#'; 4_194_305]?;
+    let cases: [(&[&str], &[u8], u8, &str); 12] = [
+        (&[], b"", 2, "words refused\n"),
+        (&["solve"], b"", 2, "words refused\n"),
+        (&["game.toml"], b"", 2, "words refused\n"),
+        (
+            &["solve", "game.toml", "game.toml"],
             b"",
-            4,
-            "",
-            "game not read\n"
-        )?
-    );
-    Ok(())
-}
-
-#[test]
-fn refuses_a_long_file(rt: HostRuntime) -> Result<(), AllocError> {
-    let alloc = rt.alloc();
-    let bytes = vec![in alloc; b'#'; 4_194_305]?;
-    assert!(rt;
-        answers(
-            alloc,
+            2,
+            "words refused\n",
+        ),
+        (
+            &["solve", "game.toml", "--nodes", "01"],
+            b"",
+            2,
+            "words refused\n",
+        ),
+        (
+            &["solve", "game.toml", "--seed=3", "--seed=3"],
+            b"",
+            2,
+            "words refused\n",
+        ),
+        (&["check", "game.toml"], b"", 2, "words refused\n"),
+        (&["solve", "-"], b"", 2, "words refused\n"),
+        (&["solve", "other.toml"], b"", 4, "game not read\n"),
+        (
             &["solve", "game.toml"],
-            bytes.as_slice(),
-            5,
-            "",
-            "game too long\n"
-        )?
-    );
-    Ok(())
-}
-
-#[test]
-fn tells_a_fault_of_the_outside(rt: HostRuntime) -> Result<(), AllocError> {
-    let alloc = rt.alloc();
-    let (keys, payoffs, report) = SOLVED[0];
-    let text = game_text(alloc, keys, payoffs)?;
-    let words = words_of(alloc, &["solve", "game.toml"])?;
-
-    // A read that fails.
-    let mut shelf = shelf_of(alloc, text.as_bytes(), &[1])?;
-    let mut out = MemSink::new(alloc, Vec::new(alloc), 0)?;
-    let mut err = MemSink::new(alloc, Vec::new(alloc), 0)?;
-    assert_eq!(rt; run(alloc, &words, &mut shelf, &mut out, &mut err), 4);
-    assert!(rt; out.bytes().is_empty());
-    assert!(rt; err.bytes() == "game not read\n".as_bytes());
-
-    // An output that fails after two bytes.
-    let mut shelf = shelf_of(alloc, text.as_bytes(), &[])?;
-    let mut out = MemSink::new(alloc, Vec::from_slice(alloc, &[1])?, 2)?;
-    let mut err = MemSink::new(alloc, Vec::new(alloc), 0)?;
-    assert_eq!(rt; run(alloc, &words, &mut shelf, &mut out, &mut err), 9);
-    assert!(rt; out.bytes() == "pa".as_bytes());
-    assert!(rt; err.bytes() == "write failed\n".as_bytes());
-
-    // A second output that fails changes no status.
-    let mut shelf = shelf_of(alloc, text.as_bytes(), &[1])?;
-    let mut out = MemSink::new(alloc, Vec::new(alloc), 0)?;
-    let mut err = MemSink::new(alloc, Vec::from_slice(alloc, &[1])?, 4)?;
-    assert_eq!(rt; run(alloc, &words, &mut shelf, &mut out, &mut err), 4);
-    assert!(rt; err.bytes() == "game".as_bytes());
-    let mut shelf = shelf_of(alloc, text.as_bytes(), &[])?;
-    assert_eq!(rt; run(alloc, &words, &mut shelf, &mut out, &mut err), 0);
-    assert!(rt; out.bytes() == report.as_bytes());
+            b"\xff",
+            6,
+            "game refused 1 at document\n",
+        ),
+        (
+            &["solve", "game.toml"],
+            b"",
+            6,
+            "game refused 3 at document\n",
+        ),
+        (&["solve", "game.toml"], &long, 5, "game too long\n"),
+    ];
+    for (words, game, status, line) in cases {
+        assert!(rt; is_refused(rt.alloc(), words, game, status, line)?);
+    }
     Ok(())
 }
