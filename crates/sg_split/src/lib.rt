@@ -21,5 +21,5 @@ mod place;
 mod tests;
 mod wrapping;
 
-pub use laws::{moments_cover_counts, plays_stay_between_cuts};
+pub use laws::{laid_tickets_are_few, moments_cover_counts, plays_stay_between_cuts};
 pub use wrapping::wrap;
