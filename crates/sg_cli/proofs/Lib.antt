@@ -1,5 +1,7 @@
 pub mod Completes
 pub mod Formed
+pub mod Lengths
+pub mod OneStatus
 pub mod Outcomes
 pub mod Pairs
 pub mod Stopping

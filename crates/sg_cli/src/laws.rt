@@ -1,6 +1,16 @@
-//! A law about the commands together, as the contract of a function that does nothing.
+//! Laws about the commands together, each as the contract of a function that does nothing.
 
-ghost use Rattle.sg_cli.specs.Laws.{SolvedIsChecked};
+ghost use Rattle.sg_cli.specs.Laws.{OneStatusIsDecided, RightReportsAreShort, SolvedIsChecked};
+
+/// Told files decide one status for each command.
+pub fn one_status_is_decided()
+    ensures { OneStatusIsDecided }
+{}
+
+/// A right report has at most 16 MiB.
+pub fn right_reports_are_short()
+    ensures { RightReportsAreShort }
+{}
 
 /// What `solve` writes for a game is accepted by `check` and shown by `show`.
 pub fn solved_is_checked()

@@ -17,5 +17,5 @@ mod solving;
 mod telling;
 
 pub use call::run;
-pub use laws::solved_is_checked;
+pub use laws::{one_status_is_decided, right_reports_are_short, solved_is_checked};
 pub use refusal::Refusal;

@@ -1,3 +1,4 @@
+pub mod Few
 pub mod Formed
 pub mod Reports
 pub mod Unique

@@ -1,3 +1,4 @@
+pub mod Laws
 pub mod Solutions
 pub mod Sums
 pub mod Unique

@@ -1,5 +1,6 @@
 //! Laws about solved games, each as the contract of a function that does nothing.
 
+ghost use Rattle.sg_solve.specs.Laws.{RightTicketsAreFew};
 ghost use Rattle.sg_solve.specs.Sums.{ValueSumsAgree};
 ghost use Rattle.sg_solve.specs.Unique.{RightReportIsOne};
 
@@ -11,4 +12,9 @@ pub fn value_sums_agree()
 /// A game with a scale has one right report, to the last ticket.
 pub fn right_report_is_one()
     ensures { RightReportIsOne }
+{}
+
+/// A right report has at most one ticket more than the game has targets.
+pub fn right_tickets_are_few()
+    ensures { RightTicketsAreFew }
 {}

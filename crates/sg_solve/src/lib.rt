@@ -4,5 +4,5 @@
 mod laws;
 mod solution;
 
-pub use laws::{right_report_is_one, value_sums_agree};
+pub use laws::{right_report_is_one, right_tickets_are_few, value_sums_agree};
 pub use solution::solve;

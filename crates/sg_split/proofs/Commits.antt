@@ -85,7 +85,7 @@ weight_on-natural k play h =
     total-nonneg (λ (x : Ticket). cond (bytes_eq x.play.code play) x.weight (pos 0)) k
     (All-weaker Weighty (λ (x : Ticket). pos 0 ≤ℤ cond (bytes_eq x.play.code play) x.weight (pos 0)) (λ x h. cond_natural (bytes_eq x.play.code play) x.weight (omega (arith, ints, h))) k h)
 
-weight_on-positive : (k : List Ticket) → All Weighty k → (i : ℕ) (d : Ticket) → i < length k → pos 1 ≤ℤ weight_on k (get_or k i d).play.code
+pub weight_on-positive : (k : List Ticket) → All Weighty k → (i : ℕ) (d : Ticket) → i < length k → pos 1 ≤ℤ weight_on k (get_or k i d).play.code
 weight_on-positive [] h i d lt = absurd (omega (arith, lt))
 weight_on-positive (x ∷ xs) h zero d lt =
     let same : bytes_eq x.play.code x.play.code ≡ true = (bytes_eq-Decides x.play.code x.play.code).1 refl in
@@ -95,7 +95,7 @@ weight_on-positive (x ∷ xs) h (suc i) d lt =
     omega (arith, ints, weight_on-positive xs (All-tail Weighty x xs h) i d (omega (arith, lt)), cond_natural (bytes_eq x.play.code code) x.weight (omega (arith, ints, All-head Weighty x xs h)))
 
 -- a sum of the weights that pass a test, with all weights multiplied
-scaled-passing : (test : List ℕ → Bool) (c : ℤ) (k : List Ticket) → total (λ (x : Ticket). cond (test x.play.code) x.weight (pos 0)) (scaled c k) ≡ c *ℤ total (λ (x : Ticket). cond (test x.play.code) x.weight (pos 0)) k
+pub scaled-passing : (test : List ℕ → Bool) (c : ℤ) (k : List Ticket) → total (λ (x : Ticket). cond (test x.play.code) x.weight (pos 0)) (scaled c k) ≡ c *ℤ total (λ (x : Ticket). cond (test x.play.code) x.weight (pos 0)) k
 scaled-passing test c [] = same_by (n 0) (times (v c) (n 0)) (omega arith)
 scaled-passing test c (x ∷ xs) =
     let r : ℤ = total (λ (x : Ticket). cond (test x.play.code) x.weight (pos 0)) xs in

@@ -3,6 +3,7 @@ pub mod Counted
 pub mod Covered
 pub mod CutPlaces
 pub mod Ends
+pub mod Few
 pub mod Firsts
 pub mod Kept
 pub mod Legal

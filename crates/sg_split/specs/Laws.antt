@@ -1,10 +1,12 @@
 -- What holds of counts that lie end to end on identical patrols.
-use Rattle.std.specs.Prelude.{◌≡◌, ℕ, ◌≤◌, ◌<◌, ◌⊎◌, List, length, ℤ, pos, ◌≤ℤ◌, ◌<ℤ◌, All, slice_index_or, int_rem}
+use Rattle.std.specs.Prelude.{◌≡◌, ◌≢◌, ℕ, ◌+◌, ◌≤◌, ◌<◌, ◌⊎◌, List, length, ℤ, pos, ◌≤ℤ◌, ◌<ℤ◌, All, AllPairs, slice_index_or, int_rem}
+use Rattle.sg_model.specs.declared.ticket.Ticket.{Ticket}
 use Rattle.sg_model.specs.Sums.{nth}
 use Rattle.sg_model.specs.Games.{Game, resource_count}
 use Rattle.sg_model.specs.Limits.{IsGame, IsWithin}
 use Rattle.sg_model.specs.Plays.{IsLegal}
 use Rattle.sg_model.specs.Commitments.{cover_count, weight_total}
+use Rattle.sg_commit.specs.Parts.{AreMultiple}
 use Rattle.sg_split.specs.Laying.{AreCounts, ends_from, moment_tickets, play_at}
 
 -- a ticket for every moment: as many as tickets in all, with legal plays, which cover each target just as often as its count says
@@ -23,3 +25,9 @@ abbrev pub PlaysStayBetweenCuts : Type 0
 PlaysStayBetweenCuts = (counts : List ℤ) (patrols : ℕ) (tickets : ℤ) → pos 1 ≤ℤ tickets → All (IsWithin (pos 0) tickets) counts
     → (from to : ℤ) → pos 0 ≤ℤ from → from ≤ℤ to → to <ℤ tickets → ((moment : ℤ) → from <ℤ moment → moment ≤ℤ to → IsCutPlace counts tickets moment → ⊥)
     → play_at (ends_from (pos 0) counts) patrols tickets from ≡ play_at (ends_from (pos 0) counts) patrols tickets to
+
+-- tickets of different plays, which in some multiple are the plays of all moments, are at most one more than the counts
+abbrev pub LaidTicketsAreFew : Type 0
+LaidTicketsAreFew = (counts : List ℤ) (patrols : ℕ) (tickets : ℤ) → pos 1 ≤ℤ tickets → All (IsWithin (pos 0) tickets) counts
+    → (k : List Ticket) → All (λ (x : Ticket). pos 1 ≤ℤ x.weight) k → AllPairs (λ (x y : Ticket). x.play.code ≢ y.play.code) k
+    → AreMultiple (moment_tickets counts patrols tickets) k → length k ≤ length counts + 1

@@ -1,6 +1,6 @@
 //! Laws about counts that lie end to end on identical patrols, each as the contract of a function that does nothing.
 
-ghost use Rattle.sg_split.specs.Laws.{MomentsCoverCounts, PlaysStayBetweenCuts};
+ghost use Rattle.sg_split.specs.Laws.{LaidTicketsAreFew, MomentsCoverCounts, PlaysStayBetweenCuts};
 
 /// Over all moments, the patrols cover each target just as often as its count says, with legal plays.
 pub fn moments_cover_counts()
@@ -10,4 +10,9 @@ pub fn moments_cover_counts()
 /// From a moment to before the next cut place nobody moves, so each interval between neighbouring cut places has one play.
 pub fn plays_stay_between_cuts()
     ensures { PlaysStayBetweenCuts }
+{}
+
+/// So the plays of all moments, joined into tickets of different plays, are at most one more than the counts.
+pub fn laid_tickets_are_few()
+    ensures { LaidTicketsAreFew }
 {}

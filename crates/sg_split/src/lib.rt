@@ -19,5 +19,5 @@ mod line;
 mod place;
 mod wrapping;
 
-pub use laws::{moments_cover_counts, plays_stay_between_cuts};
+pub use laws::{laid_tickets_are_few, moments_cover_counts, plays_stay_between_cuts};
 pub use wrapping::wrap;
