@@ -1,15 +1,15 @@
-//! The count of faults of the adapters.
+//! The counts of the adapters.
 
 ghost use Rattle.std.specs.Prelude.{◌≡◌, if◌then◌else◌};
 ghost use Rattle.sg_shelf.specs.Faults.{raised};
 
-/// The count after a step that went well, or was a fault. It stays at its last value.
-pub(crate) fn raised_unless(is_fine: bool, faults: u64) -> u64
-    ensures { result ≡ (if is_fine then faults else raised faults) }
+/// The count as it was, or raised by one more step that it counts. It stays at its last value.
+pub(crate) fn raised_unless(is_same: bool, count: u64) -> u64
+    ensures { result ≡ (if is_same then count else raised count) }
 {
-    if is_fine {
-        faults
+    if is_same {
+        count
     } else {
-        faults.saturating_add(1)
+        count.saturating_add(1)
     }
 }

@@ -1,9 +1,11 @@
 //! A shelf over the files of std.
 
-ghost use Rattle.std.specs.Prelude.{◌≡◌, ◌+◌, ◌*◌, ◌-◌, ◌^◌, ◌<◌, ◌≤◌, ◌++◌, [], min, max, length, take, ℕ, None, IfOk, IfErr, OnOk, OnErr, IsErrOf, vec_len, vec_capacity};
+ghost use Rattle.std.specs.Prelude.{◌≡◌, ◌+◌, ◌*◌, ◌-◌, ◌^◌, ◌<◌, ◌≤◌, ◌++◌, [], min, max, length, take, ℕ, List, None, IfOk, IfErr, OnOk, OnErr, IsErrOf, vec_len, vec_capacity};
 ghost use Rattle.std.specs.Io.KnownBytes.{Consumes, IsAtEnd, Keeps};
-ghost use Rattle.sg_shelf.specs.ShelfErrors.{IsFailedOrMemory, count_after};
-ghost use Rattle.sg_shelf.specs.declared.shelf.ShelfError.TheVariants.{TooLong};
+ghost use Rattle.sg_shelf.specs.Faults.{raised};
+ghost use Rattle.sg_shelf.specs.Counts.{ShelfCounts};
+ghost use Rattle.sg_shelf.specs.ShelfErrors.{IsFailedOrMemory, faults_after, reads_after, long_reads_after};
+ghost use Rattle.sg_shelf.specs.declared.shelf.ShelfError.TheVariants.{TooLong, Memory};
 
 use crate::faults::raised_unless;
 use crate::shelf::{Shelf, ShelfError};
@@ -18,48 +20,77 @@ use std::rt::Files;
 const CHUNK: usize = 65_536;
 
 /// Reads the files of std, where a name is a path. A file that doesn't open and a read that fails, also one
-/// that a signal interrupts, are a fault each. Clauses see it as its count of faults.
+/// that a signal interrupts, are a fault each. Clauses see it as its counts.
 #[derive(Drop)]
 pub struct FileShelf<R: Files> {
     files: R,
+    reads: u64,
+    long_reads: u64,
     faults: u64,
 }
 
 impl<R: Files> Model for FileShelf<R> {
-    ghost use Rattle.std.specs.Prelude.{ℕ};
+    ghost use Rattle.sg_shelf.specs.Counts.{ShelfCounts};
 
-    ghost Value = { ℕ };
+    ghost Value = { ShelfCounts };
 
-    ghost view = { λ shelf. shelf.faults };
+    ghost view = { λ shelf. record {
+      reads = shelf.reads;
+      long_reads = shelf.long_reads;
+      faults = shelf.faults;
+    } };
 }
 
 impl<R: Files> FileShelf<R> {
-    /// A shelf over these files, the runtime or a reference to it, with no fault.
+    /// A shelf over these files, the runtime or a reference to it, that has been read no time.
     pub fn new(files: R) -> FileShelf<R>
-        ensures { result ≡ 0 }
+        ensures { result ≡ record { reads = 0; long_reads = 0; faults = 0 } }
     {
-        FileShelf { files, faults: 0 }
+        FileShelf {
+            files,
+            reads: 0,
+            long_reads: 0,
+            faults: 0,
+        }
     }
 }
 
 impl<R: Files> Shelf for FileShelf<R> {
     ghost files = { λ shelf. None };
 
-    ghost faults = { λ shelf. shelf };
+    ghost faults = { λ shelf. shelf.faults };
+
+    ghost reads = { λ shelf. shelf.reads };
+
+    ghost long_reads = { λ shelf. shelf.long_reads };
 
     fn read(&mut self, alloc: Global, name: &str, limit: usize) -> Result<Vec<u8>, ShelfError>
         requires { limit ≤ 536870912 }
 
-        ensures count { self.old ≤ self.new }
-        ensures last_count { self.new ≤ 2 ^ 64 - 1 }
+        ensures count { self.old.faults ≤ self.new.faults }
+        ensures last_count { self.new.faults ≤ 2 ^ 64 - 1 }
+        ensures read_count { self.old.reads ≤ self.new.reads }
+        ensures last_read { self.new.reads ≤ 2 ^ 64 - 1 }
+        ensures long_read_count { self.old.long_reads ≤ self.new.long_reads }
+        ensures last_long_read { self.new.long_reads ≤ 2 ^ 64 - 1 }
         ensures within { IfOk result (λ bytes. vec_len bytes ≤ limit) }
         ensures long { (seen : ℕ) → IsErrOf result (TooLong seen) → seen ≡ limit + 1 }
 
-        // It counts a fault exactly where it answers that it failed.
-        ensures no_fault { OnOk result (self.new ≡ self.old) }
-        ensures fault { IfErr result (λ error. self.new ≡ count_after error self.old) }
+        // It counts a read unless it wants memory, a long read exactly where it answers that the file is too long, and a fault
+        // exactly where it answers that it failed.
+        ensures read { OnOk result (self.new.reads ≡ raised self.old.reads) }
+        ensures failed_read { IfErr result (λ error. self.new.reads ≡ reads_after error self.old.reads) }
+        ensures no_long_read { OnOk result (self.new.long_reads ≡ self.old.long_reads) }
+        ensures long_read { IfErr result (λ error. self.new.long_reads ≡ long_reads_after error self.old.long_reads) }
+        ensures no_fault { OnOk result (self.new.faults ≡ self.old.faults) }
+        ensures fault { IfErr result (λ error. self.new.faults ≡ faults_after error self.old.faults) }
+        ensures memory { IsErrOf result Memory → self.new ≡ self.old }
     {
         let answer = read_file(alloc, &self.files, name, limit);
+        let is_unanswered = matches!(answer, Err(ShelfError::Memory));
+        self.reads = raised_unless(is_unanswered, self.reads);
+        let is_within = !matches!(answer, Err(ShelfError::TooLong { .. }));
+        self.long_reads = raised_unless(is_within, self.long_reads);
         let is_fine = !matches!(answer, Err(ShelfError::Failed));
         self.faults = raised_unless(is_fine, self.faults);
         answer
@@ -90,6 +121,10 @@ fn whole_file<F: Read>(alloc: Global, file: &mut F, limit: usize) -> Result<Vec<
     ensures bytes { IfOk result (λ bytes. Consumes (F.remaining file.old) (F.remaining file.new) bytes.items) }
     ensures end { OnOk result (IsAtEnd (F.remaining file.new)) }
     ensures long { (seen : ℕ) → IsErrOf result (TooLong seen) → seen ≡ limit + 1 }
+
+    // It is too long only where one byte more than the limit was read.
+    ensures long_bytes { (seen : ℕ) → IsErrOf result (TooLong seen)
+        → (bytes : List ℕ) × Consumes (F.remaining file.old) (F.remaining file.new) bytes × (length bytes ≡ limit + 1) }
 {
     let bytes = first_bytes(alloc, file, limit + 1)?;
     if bytes.len() > limit {
@@ -225,13 +260,14 @@ mod tests {
         assert!(rt; shelf.read(alloc, "/dev/null", 0)?.is_empty());
         let endless = shelf.read(alloc, "/dev/zero", 10);
         assert!(rt; matches!(endless, Err(ShelfError::TooLong { seen: 11 })));
-        assert_eq!(rt; shelf.faults, 0);
+        assert_eq!(rt; (shelf.reads, shelf.long_reads, shelf.faults), (4, 2, 0));
 
         for (name, faults) in [("/no/such/file", 1), ("/", 2)] {
             let failed = shelf.read(alloc, name, 10);
             assert!(rt; matches!(failed, Err(ShelfError::Failed)), "{name}");
             assert_eq!(rt; shelf.faults, faults, "{name}");
         }
+        assert_eq!(rt; (shelf.reads, shelf.long_reads), (6, 2));
         Ok(())
     }
 }

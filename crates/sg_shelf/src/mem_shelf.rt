@@ -24,6 +24,7 @@ pub struct MemShelf {
     files: Vec<NamedBytes>,
     fails: Vec<u64>,
     calls: u64,
+    long_reads: u64,
     faults: u64,
 }
 
@@ -37,6 +38,7 @@ impl Model for MemShelf {
       files = files_of shelf.files.items;
       fails = shelf.fails.items;
       calls = shelf.calls;
+      long_reads = shelf.long_reads;
       faults = shelf.faults;
     } };
 }
@@ -44,12 +46,13 @@ impl Model for MemShelf {
 impl MemShelf {
     /// A shelf of these files, that has been read no time.
     pub fn new(files: Vec<NamedBytes>, fails: Vec<u64>) -> MemShelf
-        ensures { result ≡ record { files = files_of files.items; fails = fails.items; calls = 0; faults = 0 } }
+        ensures { result ≡ record { files = files_of files.items; fails = fails.items; calls = 0; long_reads = 0; faults = 0 } }
     {
         MemShelf {
             files,
             fails,
             calls: 0,
+            long_reads: 0,
             faults: 0,
         }
     }
@@ -72,16 +75,25 @@ impl Shelf for MemShelf {
 
     ghost faults = { λ shelf. shelf.faults };
 
+    ghost reads = { λ shelf. shelf.calls };
+
+    ghost long_reads = { λ shelf. shelf.long_reads };
+
     fn read(&mut self, alloc: Global, name: &str, limit: usize) -> Result<Vec<u8>, ShelfError>
         ensures count { self.old.faults ≤ self.new.faults }
         ensures last_count { self.new.faults ≤ 2 ^ 64 - 1 }
+        ensures read_count { self.old.calls ≤ self.new.calls }
+        ensures last_read { self.new.calls ≤ 2 ^ 64 - 1 }
+        ensures long_read_count { self.old.long_reads ≤ self.new.long_reads }
+        ensures last_long_read { self.new.long_reads ≤ 2 ^ 64 - 1 }
 
         ensures answer { IfOk result (λ bytes. read_answer self.old name.now limit ≡ Ok bytes.items) }
-        ensures after { OnOk result (self.new ≡ after_read self.old) }
+        ensures after { OnOk result (self.new ≡ after_read self.old name.now limit) }
         ensures fails { IfErr result (ReadFails self.old self.new name.now limit) }
     {
         let is_spent = self.calls == u64::MAX || self.faults == u64::MAX;
         let call = self.calls.saturating_add(1);
+        let long_read = self.long_reads.saturating_add(1);
         if is_spent || self.fails.contains(&call) {
             self.calls = call;
             self.faults = self.faults.saturating_add(1);
@@ -96,6 +108,7 @@ impl Shelf for MemShelf {
         };
         if bytes.len() > limit {
             self.calls = call;
+            self.long_reads = long_read;
             return Err(ShelfError::TooLong {
                 seen: bytes.len() as u64,
             });
@@ -156,6 +169,7 @@ mod tests {
             assert_eq!(rt; shelf.faults, faults, "{name} up to {limit}");
         }
         assert_eq!(rt; shelf.calls, 6);
+        assert_eq!(rt; shelf.long_reads, 1);
         Ok(())
     }
 
@@ -172,6 +186,7 @@ mod tests {
                 files: files(alloc)?,
                 fails: Vec::new(alloc),
                 calls,
+                long_reads: 0,
                 faults,
             };
             let read = shelf.read(alloc, "a", 3);
