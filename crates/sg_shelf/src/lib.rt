@@ -6,7 +6,6 @@
 //! of content.
 #![tactic(auto)]
 
-mod faults;
 mod file_shelf;
 mod mem_shelf;
 mod mem_sink;
@@ -14,6 +13,7 @@ mod out_sink;
 mod outlet;
 mod shelf;
 mod sink;
+mod source;
 
 pub use file_shelf::FileShelf;
 pub use mem_shelf::{MemShelf, NamedBytes};
