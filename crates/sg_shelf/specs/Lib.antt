@@ -8,3 +8,4 @@ pub mod NamedFiles
 pub mod ShelfState
 pub mod SinkState
 pub mod WriterState
+pub mod ReaderState

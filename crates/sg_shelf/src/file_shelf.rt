@@ -1,14 +1,16 @@
 //! A shelf over the files of std.
 
-ghost use Rattle.std.specs.Prelude.{◌≡◌, ◌+◌, ◌*◌, ◌-◌, ◌^◌, ◌<◌, ◌≤◌, ◌++◌, [], min, max, length, take, ℕ, List, None, IfOk, IfErr, OnOk, OnErr, IsErrOf, vec_len, vec_capacity};
-ghost use Rattle.std.specs.Io.KnownBytes.{Consumes, IsAtEnd, Keeps};
+ghost use Rattle.std.specs.Prelude.{◌≡◌, ◌+◌, ◌*◌, ◌-◌, ◌^◌, ◌<◌, ◌≤◌, ◌++◌, min, max, length, ℕ, None, IfOk, IfErr, OnOk, IsErr, IsErrOf, vec_len, vec_capacity};
+ghost use Rattle.std.specs.Io.KnownBytes.{Consumes, IsAtEnd};
 ghost use Rattle.sg_shelf.specs.Faults.{raised};
 ghost use Rattle.sg_shelf.specs.Counts.{ShelfCounts};
+ghost use Rattle.sg_shelf.specs.ReaderState.{GivesAtMost, MayHaveMore};
 ghost use Rattle.sg_shelf.specs.ShelfErrors.{IsFailedOrMemory, faults_after, reads_after, long_reads_after};
-ghost use Rattle.sg_shelf.specs.declared.shelf.ShelfError.TheVariants.{TooLong, Memory};
+ghost use Rattle.sg_shelf.specs.declared.shelf.ShelfError.TheVariants.{Failed, TooLong, Memory};
 
 use crate::faults::raised_unless;
 use crate::shelf::{Shelf, ShelfError};
+use crate::source::Source;
 use std::alloc::{AllocError, Global};
 use std::fs::File;
 use std::io;
@@ -86,47 +88,65 @@ impl<R: Files> Shelf for FileShelf<R> {
         ensures fault { IfErr result (λ error. self.new.faults ≡ faults_after error self.old.faults) }
         ensures memory { IsErrOf result Memory → self.new ≡ self.old }
     {
-        let answer = read_file(alloc, &self.files, name, limit);
+        let opened = File::open(&self.files, name);
+        let answer = read_opened(alloc, opened, limit, &mut self.faults);
         let is_unanswered = matches!(answer, Err(ShelfError::Memory));
         self.reads = raised_unless(is_unanswered, self.reads);
         let is_within = !matches!(answer, Err(ShelfError::TooLong { .. }));
         self.long_reads = raised_unless(is_within, self.long_reads);
-        let is_fine = !matches!(answer, Err(ShelfError::Failed));
-        self.faults = raised_unless(is_fine, self.faults);
         answer
     }
 }
 
-// Opens the file and reads it.
-fn read_file<R: Files>(
+// The bytes of the file, where it was opened.
+fn read_opened<F: Read + Drop>(
     alloc: Global,
-    files: &R,
-    name: &str,
+    opened: io::Result<F>,
     limit: usize,
+    faults: &mut u64,
 ) -> Result<Vec<u8>, ShelfError>
     requires { limit ≤ 536870912 }
+    ensures unopened { IsErr opened → IsErrOf result Failed }
     ensures within { IfOk result (λ bytes. vec_len bytes ≤ limit) }
     ensures long { (seen : ℕ) → IsErrOf result (TooLong seen) → seen ≡ limit + 1 }
+    ensures count { faults.old ≤ faults.new }
+    ensures last_count { faults.new ≤ 2 ^ 64 - 1 }
+    ensures no_fault { OnOk result (faults.new ≡ faults.old) }
+    ensures fault { IfErr result (λ error. faults.new ≡ faults_after error faults.old) }
 {
-    match File::open(files, name) {
-        Ok(mut file) => whole_file(alloc, &mut file, limit),
-        Err(_) => Err(ShelfError::Failed),
+    match opened {
+        Ok(file) => {
+            let mut source = Source::new(file, *faults);
+            let answer = whole_file(alloc, &mut source, limit);
+            *faults = source.faults();
+            answer
+        }
+        Err(_) => {
+            *faults = faults.saturating_add(1);
+            Err(ShelfError::Failed)
+        }
     }
 }
 
 // The bytes that the file has left, where these are no more than the limit.
-fn whole_file<F: Read>(alloc: Global, file: &mut F, limit: usize) -> Result<Vec<u8>, ShelfError>
+#[tactic(auto, using(crate::proofs::Readings::gave_more))]
+fn whole_file<F: Read>(
+    alloc: Global,
+    source: &mut Source<F>,
+    limit: usize,
+) -> Result<Vec<u8>, ShelfError>
     requires { limit ≤ 536870912 }
     ensures within { IfOk result (λ bytes. vec_len bytes ≤ limit) }
-    ensures bytes { IfOk result (λ bytes. Consumes (F.remaining file.old) (F.remaining file.new) bytes.items) }
-    ensures end { OnOk result (IsAtEnd (F.remaining file.new)) }
+    ensures bytes { IfOk result (λ bytes. Consumes source.old.remaining source.new.remaining bytes.items) }
+    ensures end { OnOk result (IsAtEnd source.new.remaining) }
     ensures long { (seen : ℕ) → IsErrOf result (TooLong seen) → seen ≡ limit + 1 }
-
-    // It is too long only where one byte more than the limit was read.
-    ensures long_bytes { (seen : ℕ) → IsErrOf result (TooLong seen)
-        → (bytes : List ℕ) × Consumes (F.remaining file.old) (F.remaining file.new) bytes × (length bytes ≡ limit + 1) }
+    ensures too_long { (seen : ℕ) → IsErrOf result (TooLong seen) → MayHaveMore limit source.old.remaining }
+    ensures most { GivesAtMost (limit + 1) source.old.remaining source.new.remaining }
+    ensures count { source.old.faults ≤ source.new.faults }
+    ensures no_fault { OnOk result (source.new.faults ≡ source.old.faults) }
+    ensures fault { IfErr result (λ error. source.new.faults ≡ faults_after error source.old.faults) }
 {
-    let bytes = first_bytes(alloc, file, limit + 1)?;
+    let bytes = first_bytes(alloc, source, limit + 1)?;
     if bytes.len() > limit {
         return Err(ShelfError::TooLong {
             seen: bytes.len() as u64,
@@ -136,38 +156,36 @@ fn whole_file<F: Read>(alloc: Global, file: &mut F, limit: usize) -> Result<Vec<
 }
 
 // The bytes that the file has left, or the first of them where there are more than `most`.
-fn first_bytes<F: Read>(alloc: Global, file: &mut F, most: usize) -> Result<Vec<u8>, ShelfError>
+#[tactic(auto, using(crate::proofs::Readings::gives_few, crate::proofs::Readings::gives_few_kept))]
+fn first_bytes<F: Read>(
+    alloc: Global,
+    source: &mut Source<F>,
+    most: usize,
+) -> Result<Vec<u8>, ShelfError>
     requires { most ≤ 536870913 }
     ensures within { IfOk result (λ bytes. vec_len bytes ≤ most) }
-    ensures bytes { IfOk result (λ bytes. Consumes (F.remaining file.old) (F.remaining file.new) bytes.items) }
-    ensures end { IfOk result (λ bytes. vec_len bytes < most → IsAtEnd (F.remaining file.new)) }
+    ensures bytes { IfOk result (λ bytes. Consumes source.old.remaining source.new.remaining bytes.items) }
+    ensures end { IfOk result (λ bytes. vec_len bytes < most → IsAtEnd source.new.remaining) }
+    ensures most { GivesAtMost most source.old.remaining source.new.remaining }
     ensures err { IfErr result IsFailedOrMemory }
+    ensures count { source.old.faults ≤ source.new.faults }
+    ensures no_fault { OnOk result (source.new.faults ≡ source.old.faults) }
+    ensures fault { IfErr result (λ error. source.new.faults ≡ faults_after error source.old.faults) }
 {
     let mut bytes = Vec::new(alloc);
     let mut chunk = [0u8; CHUNK];
     while bytes.len() < most {
         let room = CHUNK.min(most - bytes.len());
-        let count = match read_front(file, &mut chunk, room) {
-            Ok(0) => return Ok(bytes),
-            Ok(count) => count,
-            Err(_) => return Err(ShelfError::Failed),
+        let count = match source.read_front(&mut chunk, room) {
+            Some(0) => return Ok(bytes),
+            Some(count) => count,
+            None => return Err(ShelfError::Failed),
         };
         if add(&mut bytes, &chunk[..count], most).is_err() {
             return Err(ShelfError::Memory);
         }
     }
     Ok(bytes)
-}
-
-// One read of at most `room` bytes, into the front of the chunk.
-fn read_front<F: Read>(file: &mut F, chunk: &mut [u8], room: usize) -> io::Result<usize>
-    requires { room ≤ length chunk.old }
-    ensures within { IfOk result (λ count. count ≤ room) }
-    ensures bytes { IfOk result (λ count. Consumes (F.remaining file.old) (F.remaining file.new) (take count chunk.new)) }
-    ensures end { IfOk result (λ count. count ≡ 0 → 0 < room → IsAtEnd (F.remaining file.new)) }
-    ensures err { OnErr result (Keeps (F.remaining file.old) (F.remaining file.new)) }
-{
-    file.read(&mut chunk[..room])
 }
 
 // Adds the piece.
@@ -230,11 +248,11 @@ mod tests {
     #[test]
     fn a_reader_is_read_to_its_end(rt: HostRuntime) -> Result<(), Fail> {
         let alloc = rt.alloc();
-        let bytes = whole_file(alloc, &mut seven_bytes(false), 7)?;
+        let bytes = whole_file(alloc, &mut Source::new(seven_bytes(false), 0), 7)?;
         assert_eq!(rt; bytes.as_slice(), b"seven c".as_slice());
-        let long = whole_file(alloc, &mut seven_bytes(false), 6);
+        let long = whole_file(alloc, &mut Source::new(seven_bytes(false), 0), 6);
         assert!(rt; matches!(long, Err(ShelfError::TooLong { seen: 7 })));
-        let failed = whole_file(alloc, &mut seven_bytes(true), 9);
+        let failed = whole_file(alloc, &mut Source::new(seven_bytes(true), 0), 9);
         assert!(rt; matches!(failed, Err(ShelfError::Failed)));
         Ok(())
     }

@@ -14,6 +14,7 @@ mod out_sink;
 mod outlet;
 mod shelf;
 mod sink;
+mod source;
 
 pub use file_shelf::FileShelf;
 pub use mem_shelf::{MemShelf, NamedBytes};
