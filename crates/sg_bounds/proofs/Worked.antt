@@ -20,7 +20,7 @@ use Rattle.sg_model.specs.declared.level.Level.TheVariants.{Resources, Target}
 use Rattle.sg_bounds.specs.Trees.{Node, unproved, closed, split, node_of, parts_of}
 use Rattle.sg_bounds.specs.Accepted.{IsAccepted}
 use Rattle.sg_bounds.specs.Checking.{IsRefused}
-use Rattle.sg_bounds.specs.Examples.{WorkedReports, all_but_one, based_report, cover_report, dominated, dominated_report, empty_fact, false_and_wide, first_fact, half_dominated, half_dominated_report, indifferent, late_fact, level_tree, low_water, mark, nested_report, never_taken, one_alone, no_target, often_paid, one_first, one_target, one_type_report, one_type_tree, open_below, open_report, open_tree, over, over_cover, over_plays, plain_cap, proved_cap, rare_fact, rare_players, rare_report, reported, row, row_report, same_for_both, same_report, second_fact, second_short, shared_fact, shared_report, short_fact, sized_report, small_mark, spent_report, split_for_scaled, spread_fact, spread_players, spread_report, third_cap, three_players, three_types_report, twice_half, two_caps, two_to_one, two_types_tree, unbased_report, unproved_tree, up_and_down, water_report, weighted_fact, weighted_players, weighted_report, well_paid, wide_bound, with_caps, with_tickets, with_tree, worth_nothing, wrong_and_wide, wrong_twice}
+use Rattle.sg_bounds.specs.Examples.{WorkedReports, all_but_one, based_report, both_dominated, both_dominated_report, cover_report, dominated, dominated_report, empty_fact, false_and_wide, first_fact, half_dominated, half_dominated_report, indifferent, late_fact, level_tree, low_water, mark, nested_report, never_taken, one_alone, no_target, often_paid, one_first, one_target, one_type_report, one_type_tree, open_below, open_report, open_tree, over, over_cover, over_plays, plain_cap, proved_cap, rare_fact, rare_players, rare_report, reported, row, row_report, same_for_both, same_report, second_fact, second_short, shared_fact, shared_report, short_fact, sized_report, small_mark, spent_report, split_for_scaled, spread_fact, spread_players, spread_report, third_cap, three_players, three_types_report, twice_half, two_caps, two_to_one, two_types_tree, unbased_report, unproved_tree, up_and_down, water_report, weighted_fact, weighted_players, weighted_report, well_paid, wide_bound, with_caps, with_tickets, with_tree, worth_nothing, wrong_and_wide, wrong_twice}
 use Rattle.sg_bounds.proofs.Told.{Decides-le_z}
 use Rattle.sg_bounds.proofs.Nodes.{node_of-Closed, node_of-Split, node_of-Unproved}
 use Rattle.sg_bounds.proofs.Answering.{accepted_by, answer, refused_by, stops_at}
@@ -178,6 +178,20 @@ nested_bases base last = split 1 None (parts_of (closed (over_plays 1 2 []) ∷ 
 abbrev unproved_node : Node
 unproved_node = split 1 None (parts_of (unproved ∷ unproved ∷ []))
 
+abbrev both_dominated_node : Node
+both_dominated_node =
+    split 1 None (parts_of (split 2 None (parts_of (closed (over_plays 1 8 []) ∷ closed (over_plays 1 0 (mark 2 1 14 ∷ [])) ∷ [])) ∷ closed (over_plays 1 0 (mark 1 1 4 ∷ [])) ∷ []))
+
+both_dominated_is : node_of both_dominated_report.tree ≡ both_dominated_node
+both_dominated_is =
+    let f = over_plays 1 8 [] in
+    let h = over_plays 1 0 (mark 2 1 14 ∷ []) in
+    let j = over_plays 1 0 (mark 1 1 4 ∷ []) in
+    let inner : Tree = Split 2 None (Closed f ∷ Closed h ∷ []) in
+    let node : Node = split 2 None (parts_of (closed f ∷ closed h ∷ [])) in
+    split-nodes 1 None (inner ∷ Closed j ∷ []) (node ∷ closed j ∷ [])
+    (one_more inner node (Closed j ∷ []) (closed j ∷ []) (two_parts 2 None f h) (one_more (Closed j) (closed j) [] [] (node_of-Closed j) refl))
+
 pub worked_reports : WorkedReports
 worked_reports = record {
   water = right two_targets water_report (closed (Water (over 4 3) Resources)) (node_of-Closed (Water (over 4 3) Resources)) refl refl refl refl;
@@ -256,4 +270,5 @@ worked_reports = record {
   prior_wide = wrong often_paid (worth_nothing (all_but_one (2 ^ 100)) (2 ^ 100) open_tree) open_node open_is 5 9 refl refl;
   pay_wide = wrong up_and_down (worth_nothing (one_first (2 ^ 97)) (1 + 2 ^ 97) open_tree) open_node open_is 5 9 refl refl;
   spread_of_one = wrong indifferent (worth_nothing one_alone 1 (Split 1 None (Closed twice_half ∷ Unproved ∷ []))) (first_open twice_half) (open_part twice_half) 7 9 refl refl;
+  empty_above = right both_dominated both_dominated_report both_dominated_node both_dominated_is refl refl refl refl;
 }

@@ -262,6 +262,16 @@ dominated_report = reported one_alone 1 (over 2 1) [] (one_type_tree first_fact 
 abbrev pub half_dominated_report : Report
 half_dominated_report = reported one_alone 1 (over 3 1) (plain_cap 2 4) (open_below (over_plays 1 2 []) 2 (Some empty_fact)) (over 3 1) Optimal
 
+-- two types whose second actions are never best, though they would give the defender most
+abbrev pub both_dominated : Game
+both_dominated = tabled (player (codes "first") leads one_sided ∷ weighing 3 (player (codes "second") leads one_sided) ∷ [])
+
+-- the first choice alone, worth 2: with its cap, the empty second part would have a bound of 3
+abbrev pub both_dominated_report : Report
+both_dominated_report =
+    reported one_alone 1 (over 2 1) (plain_cap 2 4)
+    (Split 1 None (Split 2 None (Closed (over_plays 1 8 []) ∷ Closed (over_plays 1 0 (mark 2 1 14 ∷ [])) ∷ []) ∷ Closed (over_plays 1 0 (mark 1 1 4 ∷ [])) ∷ [])) (over 2 1) Optimal
+
 -- ---- sizes
 
 -- a first fact whose size sum is 4 and twice its multiplier v, with a bound of v + 2
@@ -469,3 +479,4 @@ pub record WorkedReports : Type 0 where
   pub prior_wide : IsRefused often_paid (worth_nothing (all_but_one (2 ^ 100)) (2 ^ 100) open_tree) 5 9
   pub pay_wide : IsRefused up_and_down (worth_nothing (one_first (2 ^ 97)) (1 + 2 ^ 97) open_tree) 5 9
   pub spread_of_one : IsRefused indifferent (worth_nothing one_alone 1 (Split 1 None (Closed twice_half ∷ Unproved ∷ []))) 7 9
+  pub empty_above : IsAccepted both_dominated both_dominated_report

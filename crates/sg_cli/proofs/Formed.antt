@@ -1,5 +1,5 @@
 -- The value of accepted tickets is formed within 128 bits, in the order of a commitment's sums too.
-use Rattle.std.proofs.Common.{◌≡◌, Bool, true, false, List, ◌++◌, ℤ, Err, is_ok, sym, ◌∙◌, ap}
+use Rattle.std.proofs.Common.{◌≡◌, Bool, true, false, List, [], ◌++◌, ℤ, Err, is_ok, sym, ◌∙◌, ap}
 use Rattle.sg_model.specs.declared.ticket.Ticket.{Ticket}
 use Rattle.sg_model.specs.Games.{Game}
 use Rattle.sg_num.specs.declared.step.Wide.{Wide}

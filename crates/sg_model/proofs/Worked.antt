@@ -12,10 +12,10 @@ use Rattle.sg_model.specs.Games.{Attacker, Game, Payoff, nobody, nothing, unname
 use Rattle.sg_model.specs.Plays.{IsLegalJoint, IsRow}
 use Rattle.sg_model.specs.Optimality.{IsOptimal}
 use Rattle.sg_model.specs.Commitments.{IsValue, cover_count, weight_total}
-use Rattle.sg_model.specs.Origami.{AreLevelTickets, IsOrigami, IsScaled, IsWater, count_at}
+use Rattle.sg_model.specs.Origami.{AreLevelTickets, IsFloor, IsOrigami, IsScaled, IsWater, SpendsAll, count_at}
 use Rattle.sg_model.specs.Names.{is_name}
 use Rattle.sg_model.specs.Limits.{AreListed, AreMembers, ArePatrols, IsGame, IsMatrixGame, IsMatrixType, IsPayoff, IsSecurityGame, IsSecurityType, is_scaled, program_rows}
-use Rattle.sg_model.specs.Examples.{AreCounted, AreIllegal, AreNoGames, AreRefused, AreSpelled, AreUnscaled, HasMost, IsSolved, IsWorth, WorkedExamples, always_first, each_row, first_payoffs, four_targets, four_tickets, guarded, half_idle, held_down, holding, idle, in_a_row, leads, letters, minus, named_from, neighbour_tickets, neighbours, one_player, opponent, pairs, patrolled, pays, plain, player, robber, row_mix, row_tickets, second_payoffs, tabled, thief, three_actions, three_rows, three_targets, ticket, twice_two_targets, two_actions, two_payoffs, two_players, two_targets, two_thieves, two_tickets, unpatrolled, well_patrolled}
+use Rattle.sg_model.specs.Examples.{AreCounted, AreIllegal, AreNoGames, AreNoLevels, AreRefused, AreSpelled, AreUnscaled, HasMost, IsSolved, IsWorth, WorkedExamples, always_first, each_row, first_payoffs, four_targets, four_tickets, guarded, half_idle, held_down, holding, idle, in_a_row, leads, letters, minus, named_from, neighbour_tickets, neighbours, one_player, opponent, pairs, patrolled, pays, plain, player, robber, row_mix, row_tickets, second_payoffs, tabled, thief, three_actions, three_rows, three_targets, ticket, twice_two_targets, two_actions, two_payoffs, two_players, two_targets, two_thieves, two_tickets, unpatrolled, well_patrolled}
 use Rattle.sg_model.proofs.Deciding.{all_pass, at_most, at_most-either, at_most_z, commitment_by, commitment_test, count_by, count_test, lists_by, lists_test, names_by, names_test, payoff_by, payoff_test, range_by, range_test, scaled_by, scaled_test, table_by, table_test}
 use Rattle.sg_model.proofs.Numbers.{length-numbers_from}
 use Rattle.sg_model.proofs.Promises.{nth-all}
@@ -337,6 +337,15 @@ illegal = record {
   past_the_rows = λ is. let h : IsRow three_rows (4 ∷ []) = is.legal 0 (ticket 0 []) (at_most refl) in let low : 4 ≤ 3 = h.in_list in omega (arith, low);
 }
 
+no_levels : AreNoLevels
+no_levels = record {
+  takes_more = λ is. let k : SpendsAll two_targets 1 (pos 1) (pos 1) = is.level in let e : pos 5 ≡ pos 4 = k.sum in omega (arith, ints, e);
+  takes_less = λ is. let k : SpendsAll two_targets 1 (pos 3) (pos 1) = is.level in let e : pos 1 ≡ pos 4 = k.sum in omega (arith, ints, e);
+  below_the_floor = λ is. let k : IsFloor well_patrolled (pos 0) (pos 1) 2 = is.level in let e : pos 1 ≡ pos 0 = k.pays in omega (arith, ints, e);
+  past_the_targets = λ is. let k : IsFloor two_targets (pos 0) (pos 1) 3 = is.level in let high : 3 ≤ 2 = k.in_range in omega (arith, high);
+  target_zero = λ is. let k : IsFloor two_targets (pos 0) (pos 1) 0 = is.level in let low : 1 ≤ 0 = k.from_one in omega (arith, low);
+}
+
 -- the promises of a schedule
 held_members : (members : List ℕ) → IsGame (holding members) → AreMembers 2 200 members
 held_members members is =
@@ -407,5 +416,6 @@ worked = record {
   unscaled = unscaled;
   illegal = illegal;
   no_games = no_games;
+  no_levels = no_levels;
   prior_two = λ is. let e : pos 2 ≡ pos 1 = is.prior_one in omega (arith, ints, e);
 }

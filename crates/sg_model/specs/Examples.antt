@@ -268,6 +268,15 @@ pub record AreIllegal : Type 0 where
   pub row_zero : IsCommitment three_rows (ticket 1 (0 ∷ []) ∷ []) → ⊥
   pub past_the_rows : IsCommitment three_rows (ticket 1 (4 ∷ []) ∷ []) → ⊥
 
+-- no water-level facts: a level that takes more than the one patrol, or less; one below what a target pays though it is covered for certain;
+-- and targets that aren't there
+pub record AreNoLevels : Type 0 where
+  pub takes_more : IsWater two_targets 1 (pos 1) (pos 1) Resources → ⊥
+  pub takes_less : IsWater two_targets 1 (pos 3) (pos 1) Resources → ⊥
+  pub below_the_floor : IsWater well_patrolled 3 (pos 0) (pos 1) (Target 2) → ⊥
+  pub past_the_targets : IsWater two_targets 1 (pos 0) (pos 1) (Target 3) → ⊥
+  pub target_zero : IsWater two_targets 1 (pos 0) (pos 1) (Target 0) → ⊥
+
 -- a schedule of one resource that guards two targets
 abbrev pub holding : List ℕ → Game
 holding members = guarded ((1 ∷ []) ∷ members ∷ []) ((1 ∷ []) ∷ []) (plain ∷ plain ∷ [])
@@ -326,3 +335,4 @@ pub record WorkedExamples : Type 0 where
   pub illegal : AreIllegal
   pub prior_two : IsOrigami twice_two_targets 1 → ⊥
   pub no_games : AreNoGames
+  pub no_levels : AreNoLevels
