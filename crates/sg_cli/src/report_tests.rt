@@ -390,6 +390,8 @@ fn tells_a_failed_write(rt: HostRuntime) -> Result<(), AllocError> {
 #[derive(Drop)]
 struct LongReport {
     game: Vec<u8>,
+    reads: u64,
+    long_reads: u64,
 }
 
 impl Shelf for LongReport {
@@ -397,17 +399,30 @@ impl Shelf for LongReport {
 
     ghost faults = { λ shelf. 0 };
 
+    ghost reads = { λ shelf. shelf.reads };
+
+    ghost long_reads = { λ shelf. shelf.long_reads };
+
     fn read(&mut self, alloc: Global, name: &str, limit: usize) -> Result<Vec<u8>, ShelfError> {
+        let read = self.reads.saturating_add(1);
+        let long_read = self.long_reads.saturating_add(1);
         if name == "report" {
+            self.reads = read;
+            self.long_reads = long_read;
             return Err(ShelfError::TooLong { seen: 536_870_913 });
         }
         if self.game.len() > limit {
+            self.reads = read;
+            self.long_reads = long_read;
             return Err(ShelfError::TooLong {
                 seen: self.game.len() as u64,
             });
         }
         match Vec::from_slice(alloc, &self.game) {
-            Ok(bytes) => Ok(bytes),
+            Ok(bytes) => {
+                self.reads = read;
+                Ok(bytes)
+            }
             Err(_) => Err(ShelfError::Memory),
         }
     }
@@ -419,12 +434,17 @@ fn refuses_a_long_report(rt: HostRuntime) -> Result<(), AllocError> {
     for command in ["check", "show"] {
         let words = words_of(alloc, &[command, "game.toml", "report"])?;
         let game = Vec::from_slice(alloc, TWO_ROWS.as_bytes())?;
-        let mut shelf = LongReport { game };
+        let mut shelf = LongReport {
+            game,
+            reads: 0,
+            long_reads: 0,
+        };
         let mut out = MemSink::new(alloc, Vec::new(alloc), 0)?;
         let mut err = MemSink::new(alloc, Vec::new(alloc), 0)?;
         assert_eq!(rt; run(alloc, &words, &mut shelf, &mut out, &mut err), 5);
         assert!(rt; out.bytes().is_empty());
         assert!(rt; err.bytes() == "report too long\n".as_bytes());
+        assert_eq!(rt; (shelf.reads, shelf.long_reads), (2, 1));
     }
     Ok(())
 }
