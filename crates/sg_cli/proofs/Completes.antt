@@ -146,33 +146,33 @@ not_none asked report e none = let no_way : ◌≡◌ {A = Option (List ℕ)} (S
 
 -- ---- a refusal
 
-fails_decides : (s : Scene) (status : ℕ) (asked : Asked) (files : Files) (refusal : Refusal) → Fails (Some files) s.reads_before s.reads_after asked refusal
+fails_decides : (s : Scene) (status : ℕ) (asked : Asked) (files : Files) (refusal : Refusal) → Fails (Some files) s.shelf_before s.shelf_after asked refusal
     → status ≡ status_of refusal → (status ≡ 11) ⊎ (IsOfFault s status ⊎ Decides files asked status)
 fails_decides s status asked files Words c e = absurd c
 fails_decides s status asked files NotWritten c e = absurd c
 fails_decides s status asked files Memory c e = inl e
-fails_decides s status asked files GameNotRead (inl risen) e = inr (inl (inl (e, risen)))
-fails_decides s status asked files GameNotRead (inr missing) e = inr (inr (no_game files asked status missing e))
-fails_decides s status asked files GameTooLong c e = inr (inr (long_game files asked status c.0 e))
-fails_decides s status asked files (GameRefused fault) c e = inr (inr (refused_game files asked status fault c e))
-fails_decides s status asked files NotYet (inl c) e = inr (inr (read_game files asked status c.game c.says (not_taken files asked c.game status c.not_taken e)))
-fails_decides s status asked files NotYet (inr c) e =
+fails_decides s status asked files GameNotRead (one, inl risen) e = inr (inl (inl (e, risen)))
+fails_decides s status asked files GameNotRead (one, inr missing) e = inr (inr (no_game files asked status missing e))
+fails_decides s status asked files GameTooLong (one, c) e = inr (inr (long_game files asked status c.0 e))
+fails_decides s status asked files (GameRefused fault) (one, c) e = inr (inr (refused_game files asked status fault c e))
+fails_decides s status asked files NotYet (inl (one, c)) e = inr (inr (read_game files asked status c.game c.says (not_taken files asked c.game status c.not_taken e)))
+fails_decides s status asked files NotYet (inr (two, c)) e =
     inr (inr (of_report files asked status _ c (λ g report h.
     read_report files asked g report status h.read h.says
     (at_true (has_cover h.read) (status ≡ 3) _ (true_from_ne_false (has_cover h.read) h.holds) e))))
-fails_decides s status asked files ReportNotRead c e =
+fails_decides s status asked files ReportNotRead (two, c) e =
     elim c.holds [
       | inl risen ↦ inr (inl (inl (e, risen)))
       | inr missing ↦ inr (inr (read_game files asked status c.game c.takes.says
           (by_pair files asked c.game c.report status c.takes.taken c.names (by_none report_limit _ (held files c.report) status missing e))))
     ]
-fails_decides s status asked files ReportTooLong c e =
+fails_decides s status asked files ReportTooLong (two, c) e =
     inr (inr (of_report files asked status _ c (λ g report h. by_long report_limit _ (held files report) status h e)))
-fails_decides s status asked files (ReportRefused fault) c e =
+fails_decides s status asked files (ReportRefused fault) (two, c) e =
     inr (inr (of_report files asked status _ c (λ g report h.
     by_bytes report_limit (λ bytes. ByReport (after_both asked g) (report_of bytes)) (held files report) h.bytes status h.reads.may_hold h.reads.within
     (by_report_fault (after_both asked g) (report_of h.bytes) fault status h.report e))))
-fails_decides s status asked files (ReportWrong line reason) c e =
+fails_decides s status asked files (ReportWrong line reason) (two, c) e =
     inr (inr (of_report files asked status _ c (λ g report h.
     read_report files asked g report status h.read h.says (wrong asked g h.read line reason status (not_none asked c.report c.names) h.holds e))))
 
@@ -229,10 +229,10 @@ stops_complete s status refusal e c =
     record {
       words = λ none. absurd (no_asked s c.asked none c.asks);
       told = λ asked files asks is.
-          let here : Fails (Some files) s.reads_before s.reads_after c.asked refusal =
-          subst (λ (f : Option Files). Fails f s.reads_before s.reads_after c.asked refusal) is c.cause in
+          let here : Fails (Some files) s.shelf_before s.shelf_after c.asked refusal =
+          subst (λ (f : Option Files). Fails f s.shelf_before s.shelf_after c.asked refusal) is c.cause in
           fails_decides s status asked files refusal
-          (subst (λ (a : Asked). Fails (Some files) s.reads_before s.reads_after a refusal) (same_asked s c.asked asked c.asks asks) here) e;
+          (subst (λ (a : Asked). Fails (Some files) s.shelf_before s.shelf_after a refusal) (same_asked s c.asked asked c.asks asks) here) e;
     }
 
 refused_complete : (s : Scene) (status : ℕ) (refusal : Refusal) → status ≡ status_of refusal → ComesOf s refusal → IsComplete s status

@@ -4,6 +4,7 @@ pub mod Lengths
 pub mod OneStatus
 pub mod Outcomes
 pub mod Pairs
+pub mod ReadCounts
 pub mod Stopping
 pub mod Tellings
 pub mod SmallNumbers

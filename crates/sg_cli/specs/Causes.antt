@@ -4,9 +4,11 @@ use Rattle.sg_model.specs.Games.{Game}
 use Rattle.sg_tree.specs.declared.report.Report.{Report}
 use Rattle.sg_bounds.specs.Checking.{IsRefused}
 use Rattle.sg_shelf.specs.Faults.{HasRisen, HasNotRisen}
+use Rattle.sg_shelf.specs.Counts.{ShelfCounts}
 use Rattle.sg_shelf.specs.Files.{Files, IsMissing, IsLong}
 use Rattle.sg_shelf.specs.Taken.{TakesFront}
 use Rattle.sg_words.specs.Commands.{Asked, solve, check, show}
+use Rattle.sg_cli.specs.ShelfReads.{ReadsAtMost, ReadsEach, ReadsOne, ReadsOneLong, ReadsTwo, ReadsTwoLong, file_count, files_named}
 use Rattle.sg_cli.specs.Scenes.{Scene, SaysGame, SaysReport, game_limit, game_name, report_limit, report_name}
 use Rattle.sg_cli.specs.Solutions.{IsSolved, IsChecked, IsCheckable}
 use Rattle.sg_cli.specs.Deeds.{Does}
@@ -20,13 +22,13 @@ IsTaken (check game report) g = IsChecked g
 IsTaken (show game report) g = IsChecked g
 
 -- the count of the shelf's faults rose, or the files are told and none has the name
-abbrev pub IsNotRead : Option Files → List ℕ → ℕ → ℕ → Type 0
-IsNotRead files name before after = HasRisen before after ⊎ IsMissing files name
+abbrev pub IsNotRead : Option Files → List ℕ → ShelfCounts → ShelfCounts → Type 0
+IsNotRead files name before after = HasRisen before.faults after.faults ⊎ IsMissing files name
 
 -- where the files are told, the game's has more bytes than it may and no fault was counted
-abbrev pub IsGameLong : Option Files → List ℕ → ℕ → ℕ → Type 0
+abbrev pub IsGameLong : Option Files → List ℕ → ShelfCounts → ShelfCounts → Type 0
 IsGameLong None name before after = Unit {0}
-IsGameLong (Some files) name before after = IsLong (Some files) name game_limit × HasNotRisen before after
+IsGameLong (Some files) name before after = IsLong (Some files) name game_limit × HasNotRisen before.faults after.faults
 
 -- where the files are told, the report's has more bytes than it may
 abbrev pub IsReportLong : Option Files → List ℕ → Type 0
@@ -63,18 +65,21 @@ pub record IsWrong (g : Game) (line reason : ℕ) (r : Report) : Type 0 where
   pub is_checkable : IsCheckable r
   pub refused : IsRefused g r line reason
 
--- what a refusal comes of before anything is written; want of memory may come at any time
-abbrev pub Fails : Option Files → ℕ → ℕ → Asked → Refusal → Type 0
-Fails files before after asked GameNotRead = IsNotRead files (game_name asked) before after
-Fails files before after asked GameTooLong = IsGameLong files (game_name asked) before after
-Fails files before after asked (GameRefused fault) = SaysGame files (game_name asked) (Err fault)
+-- what a refusal comes of before anything is written: of the game's file, which alone was read, or of the report's, which
+-- was read after it; want of memory may come at any time
+abbrev pub Fails : Option Files → ShelfCounts → ShelfCounts → Asked → Refusal → Type 0
+Fails files before after asked GameNotRead = ReadsOne before after × IsNotRead files (game_name asked) before after
+Fails files before after asked GameTooLong = ReadsOneLong before after × IsGameLong files (game_name asked) before after
+Fails files before after asked (GameRefused fault) = ReadsOne before after × SaysGame files (game_name asked) (Err fault)
 Fails files before after asked NotYet =
-    IsGameNotYet files asked ⊎ OfReport files asked (λ g report. ReadsReport files (λ r. ¬ (IsCheckable r)) report)
-Fails files before after asked ReportNotRead = OfReport files asked (λ g report. IsNotRead files report before after)
-Fails files before after asked ReportTooLong = OfReport files asked (λ g report. IsReportLong files report)
-Fails files before after asked (ReportRefused fault) = OfReport files asked (λ g report. SaysReport files report (Err fault))
-Fails files before after asked (ReportWrong line reason) = OfReport files asked (λ g report. ReadsReport files (IsWrong g line reason) report)
-Fails files before after asked Memory = Unit {0}
+    (ReadsOne before after × IsGameNotYet files asked)
+    ⊎ (ReadsTwo before after × OfReport files asked (λ g report. ReadsReport files (λ r. ¬ (IsCheckable r)) report))
+Fails files before after asked ReportNotRead = ReadsTwo before after × OfReport files asked (λ g report. IsNotRead files report before after)
+Fails files before after asked ReportTooLong = ReadsTwoLong before after × OfReport files asked (λ g report. IsReportLong files report)
+Fails files before after asked (ReportRefused fault) = ReadsTwo before after × OfReport files asked (λ g report. SaysReport files report (Err fault))
+Fails files before after asked (ReportWrong line reason) =
+    ReadsTwo before after × OfReport files asked (λ g report. ReadsReport files (IsWrong g line reason) report)
+Fails files before after asked Memory = ReadsAtMost (file_count asked) before after
 Fails files before after asked Words = ⊥
 Fails files before after asked NotWritten = ⊥
 
@@ -82,23 +87,25 @@ Fails files before after asked NotWritten = ⊥
 pub record Stops (s : Scene) (refusal : Refusal) : Type 0 where
   pub asked : Asked
   pub asks : s.asked ≡ Some asked
-  pub cause : Fails s.files s.reads_before s.reads_after asked refusal
+  pub cause : Fails s.files s.shelf_before s.shelf_after asked refusal
   pub kept : s.out_after ≡ s.out_before
 
--- the count of the output's faults rose, and the output took a front of the text that the command writes
+-- the command's files were read, the count of the output's faults rose, and the output took a front of the text that the
+-- command writes
 pub record IsNotWritten (s : Scene) : Type 0 where
-  pub fault : HasRisen s.writes_before s.writes_after
+  pub fault : HasRisen s.out_faults_before s.out_faults_after
   pub asked : Asked
   pub asks : s.asked ≡ Some asked
+  pub reads : ReadsEach asked s.shelf_before s.shelf_after
   pub status : ℕ
   pub text : List ℕ
   pub does : Does s.files asked status text
   pub takes : TakesFront s.out_before s.out_after text
 
--- what a refusal comes of
+-- what a refusal comes of; words that give no command leave the shelf's counts as they were
 abbrev pub ComesOf : Scene → Refusal → Type 0
-ComesOf s Words = (s.asked ≡ None) × (s.out_after ≡ s.out_before)
-ComesOf s Memory = s.out_after ≡ s.out_before
+ComesOf s Words = (s.asked ≡ None) × (s.shelf_after ≡ s.shelf_before) × (s.out_after ≡ s.out_before)
+ComesOf s Memory = ReadsAtMost (files_named s.asked) s.shelf_before s.shelf_after × (s.out_after ≡ s.out_before)
 ComesOf s NotWritten = IsNotWritten s
 ComesOf s GameNotRead = Stops s GameNotRead
 ComesOf s GameTooLong = Stops s GameTooLong

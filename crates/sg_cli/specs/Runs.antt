@@ -4,6 +4,7 @@ use Rattle.sg_shelf.specs.Faults.{HasRisen, HasNotRisen}
 use Rattle.sg_shelf.specs.Files.{Files}
 use Rattle.sg_shelf.specs.Taken.{Takes, TakesFront}
 use Rattle.sg_words.specs.Commands.{Asked}
+use Rattle.sg_cli.specs.ShelfReads.{ReadsEach}
 use Rattle.sg_cli.specs.Scenes.{Scene}
 use Rattle.sg_cli.specs.Deeds.{Does}
 use Rattle.sg_cli.specs.Causes.{ComesOf}
@@ -11,10 +12,12 @@ use Rattle.sg_cli.specs.Decisions.{Decides}
 use Rattle.sg_cli.specs.Refusals.{status_of, line_of}
 use Rattle.sg_cli.specs.declared.refusal.Refusal.{Refusal}
 
--- the command that the words ask for was done, with this status: the output took its text, and nothing else
+-- the command that the words ask for was done, with this status: its files were read, and no other, and the output took its
+-- text, and nothing else
 pub record IsDone (s : Scene) (status : ℕ) : Type 0 where
   pub asked : Asked
   pub asks : s.asked ≡ Some asked
+  pub reads : ReadsEach asked s.shelf_before s.shelf_after
   pub text : List ℕ
   pub does : Does s.files asked status text
   pub takes : Takes s.out_before s.out_after text
@@ -39,7 +42,7 @@ Answers s err_faults_before err_faults_after err_before err_after status =
 -- the status of a fault that the shelf or the output counted
 abbrev pub IsOfFault : Scene → ℕ → Type 0
 IsOfFault s status =
-    ((status ≡ 4) × HasRisen s.reads_before s.reads_after) ⊎ ((status ≡ 9) × HasRisen s.writes_before s.writes_after)
+    ((status ≡ 4) × HasRisen s.shelf_before.faults s.shelf_after.faults) ⊎ ((status ≡ 9) × HasRisen s.out_faults_before s.out_faults_after)
 
 -- what a run owes: but for want of memory it never gives up
 pub record IsComplete (s : Scene) (status : ℕ) : Type 0 where

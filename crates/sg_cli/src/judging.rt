@@ -2,6 +2,7 @@
 
 ghost use Rattle.std.specs.Prelude.{◌≡◌, ◌≤◌, IfOk, IfErr, List, OnOk, Ok, ℕ};
 ghost use Rattle.sg_words.specs.Commands as commands;
+ghost use Rattle.sg_cli.specs.ShelfReads.{ReadsOne, ReadsTwo, counts};
 ghost use Rattle.sg_cli.specs.Scenes.{SaysReport};
 ghost use Rattle.sg_cli.specs.Causes.{Fails};
 ghost use Rattle.sg_cli.specs.Deeds.{Accepts};
@@ -26,9 +27,16 @@ pub(crate) struct Accepted {
 /// The game in the file of that name, where reports on it are checked.
 fn checked_game<S: Shelf>(alloc: Global, shelf: &mut S, name: &str) -> Result<Game, Refusal>
     ensures files { S.files shelf.new ≡ S.files shelf.old }
-    ensures count { S.faults shelf.old ≤ S.faults shelf.new }
+    ensures faults { S.faults shelf.old ≤ S.faults shelf.new }
+    ensures reads { S.reads shelf.old ≤ S.reads shelf.new }
+    ensures long_reads { S.long_reads shelf.old ≤ S.long_reads shelf.new }
     ensures ok { IfOk result (HasChecked (S.files shelf.old) name.now) }
-    ensures err { IfErr result (λ e. (report : List ℕ) → Fails (S.files shelf.old) (S.faults shelf.old) (S.faults shelf.new) (commands.check name.now report) e) }
+    ensures one { OnOk result (ReadsOne
+        (counts (S.reads shelf.old) (S.long_reads shelf.old) (S.faults shelf.old))
+        (counts (S.reads shelf.new) (S.long_reads shelf.new) (S.faults shelf.new))) }
+    ensures err { IfErr result (λ e. (report : List ℕ) → Fails (S.files shelf.old)
+        (counts (S.reads shelf.old) (S.long_reads shelf.old) (S.faults shelf.old))
+        (counts (S.reads shelf.new) (S.long_reads shelf.new) (S.faults shelf.new)) (commands.check name.now report) e) }
 {
     let game = game_named(alloc, shelf, name)?;
     if game.types() == 1 {
@@ -63,9 +71,16 @@ pub(crate) fn accepted_named<S: Shelf>(
     shelf: &mut S,
 ) -> Result<Accepted, Refusal>
     ensures files { S.files shelf.new ≡ S.files shelf.old }
-    ensures count { S.faults shelf.old ≤ S.faults shelf.new }
+    ensures faults { S.faults shelf.old ≤ S.faults shelf.new }
+    ensures reads { S.reads shelf.old ≤ S.reads shelf.new }
+    ensures long_reads { S.long_reads shelf.old ≤ S.long_reads shelf.new }
     ensures ok { IfOk result (λ pair. Accepts (S.files shelf.old) name.now report.now pair.game pair.report) }
-    ensures err { IfErr result (Fails (S.files shelf.old) (S.faults shelf.old) (S.faults shelf.new) (commands.check name.now report.now)) }
+    ensures two { OnOk result (ReadsTwo
+        (counts (S.reads shelf.old) (S.long_reads shelf.old) (S.faults shelf.old))
+        (counts (S.reads shelf.new) (S.long_reads shelf.new) (S.faults shelf.new))) }
+    ensures err { IfErr result (Fails (S.files shelf.old)
+        (counts (S.reads shelf.old) (S.long_reads shelf.old) (S.faults shelf.old))
+        (counts (S.reads shelf.new) (S.long_reads shelf.new) (S.faults shelf.new)) (commands.check name.now report.now)) }
 {
     let game = match checked_game(alloc, shelf, name) {
         Ok(game) => game,

@@ -1,9 +1,10 @@
 //! Reads games and reports from a shelf.
 
-ghost use Rattle.std.specs.Prelude.{◌≡◌, ◌≤◌, IfOk, IfErr, Ok};
+ghost use Rattle.std.specs.Prelude.{◌≡◌, ◌≤◌, IfOk, IfErr, OnOk, Ok};
 ghost use Rattle.sg_format.specs.GameFiles.{game_of_bytes};
 ghost use Rattle.sg_cert.specs.Reading.{report_of};
 ghost use Rattle.sg_shelf.specs.Files.{Reads};
+ghost use Rattle.sg_cli.specs.ShelfReads.{ReadsOne, counts};
 ghost use Rattle.sg_cli.specs.Scenes.{SaysGame, SaysReport, game_limit, report_limit};
 ghost use Rattle.sg_cli.specs.Readings.{GameBytesFail, GameFails, GameFileFails, ReportBytesFail, ReportFails, ReportFileFails};
 
@@ -22,9 +23,16 @@ const REPORT_LIMIT: usize = 536_870_912;
 /// The bytes of a file that is at most as long as a game file may be.
 fn game_bytes<S: Shelf>(alloc: Global, shelf: &mut S, name: &str) -> Result<Vec<u8>, Refusal>
     ensures files { S.files shelf.new ≡ S.files shelf.old }
-    ensures count { S.faults shelf.old ≤ S.faults shelf.new }
+    ensures faults { S.faults shelf.old ≤ S.faults shelf.new }
+    ensures reads { S.reads shelf.old ≤ S.reads shelf.new }
+    ensures long_reads { S.long_reads shelf.old ≤ S.long_reads shelf.new }
     ensures ok { IfOk result (λ bytes. Reads (S.files shelf.old) name.now game_limit bytes.items) }
-    ensures err { IfErr result (GameBytesFail (S.files shelf.old) name.now (S.faults shelf.old) (S.faults shelf.new)) }
+    ensures one { OnOk result (ReadsOne
+        (counts (S.reads shelf.old) (S.long_reads shelf.old) (S.faults shelf.old))
+        (counts (S.reads shelf.new) (S.long_reads shelf.new) (S.faults shelf.new))) }
+    ensures err { IfErr result (GameBytesFail (S.files shelf.old) name.now
+        (counts (S.reads shelf.old) (S.long_reads shelf.old) (S.faults shelf.old))
+        (counts (S.reads shelf.new) (S.long_reads shelf.new) (S.faults shelf.new))) }
 {
     match shelf.read(alloc, name, GAME_LIMIT) {
         Ok(bytes) => Ok(bytes),
@@ -53,9 +61,16 @@ pub(crate) fn game_named<S: Shelf>(
     name: &str,
 ) -> Result<Game, Refusal>
     ensures files { S.files shelf.new ≡ S.files shelf.old }
-    ensures count { S.faults shelf.old ≤ S.faults shelf.new }
+    ensures faults { S.faults shelf.old ≤ S.faults shelf.new }
+    ensures reads { S.reads shelf.old ≤ S.reads shelf.new }
+    ensures long_reads { S.long_reads shelf.old ≤ S.long_reads shelf.new }
     ensures ok { IfOk result (λ game. SaysGame (S.files shelf.old) name.now (Ok game)) }
-    ensures err { IfErr result (GameFileFails (S.files shelf.old) name.now (S.faults shelf.old) (S.faults shelf.new)) }
+    ensures one { OnOk result (ReadsOne
+        (counts (S.reads shelf.old) (S.long_reads shelf.old) (S.faults shelf.old))
+        (counts (S.reads shelf.new) (S.long_reads shelf.new) (S.faults shelf.new))) }
+    ensures err { IfErr result (GameFileFails (S.files shelf.old) name.now
+        (counts (S.reads shelf.old) (S.long_reads shelf.old) (S.faults shelf.old))
+        (counts (S.reads shelf.new) (S.long_reads shelf.new) (S.faults shelf.new))) }
 {
     let bytes = game_bytes(alloc, shelf, name)?;
     game_of(alloc, &bytes)
@@ -64,9 +79,16 @@ pub(crate) fn game_named<S: Shelf>(
 /// The bytes of a file that is at most as long as a report may be.
 fn report_bytes<S: Shelf>(alloc: Global, shelf: &mut S, name: &str) -> Result<Vec<u8>, Refusal>
     ensures files { S.files shelf.new ≡ S.files shelf.old }
-    ensures count { S.faults shelf.old ≤ S.faults shelf.new }
+    ensures faults { S.faults shelf.old ≤ S.faults shelf.new }
+    ensures reads { S.reads shelf.old ≤ S.reads shelf.new }
+    ensures long_reads { S.long_reads shelf.old ≤ S.long_reads shelf.new }
     ensures ok { IfOk result (λ bytes. Reads (S.files shelf.old) name.now report_limit bytes.items) }
-    ensures err { IfErr result (ReportBytesFail (S.files shelf.old) name.now (S.faults shelf.old) (S.faults shelf.new)) }
+    ensures one { OnOk result (ReadsOne
+        (counts (S.reads shelf.old) (S.long_reads shelf.old) (S.faults shelf.old))
+        (counts (S.reads shelf.new) (S.long_reads shelf.new) (S.faults shelf.new))) }
+    ensures err { IfErr result (ReportBytesFail (S.files shelf.old) name.now
+        (counts (S.reads shelf.old) (S.long_reads shelf.old) (S.faults shelf.old))
+        (counts (S.reads shelf.new) (S.long_reads shelf.new) (S.faults shelf.new))) }
 {
     match shelf.read(alloc, name, REPORT_LIMIT) {
         Ok(bytes) => Ok(bytes),
@@ -95,9 +117,16 @@ pub(crate) fn report_named<S: Shelf>(
     name: &str,
 ) -> Result<Report, Refusal>
     ensures files { S.files shelf.new ≡ S.files shelf.old }
-    ensures count { S.faults shelf.old ≤ S.faults shelf.new }
+    ensures faults { S.faults shelf.old ≤ S.faults shelf.new }
+    ensures reads { S.reads shelf.old ≤ S.reads shelf.new }
+    ensures long_reads { S.long_reads shelf.old ≤ S.long_reads shelf.new }
     ensures ok { IfOk result (λ report. SaysReport (S.files shelf.old) name.now (Ok report)) }
-    ensures err { IfErr result (ReportFileFails (S.files shelf.old) name.now (S.faults shelf.old) (S.faults shelf.new)) }
+    ensures one { OnOk result (ReadsOne
+        (counts (S.reads shelf.old) (S.long_reads shelf.old) (S.faults shelf.old))
+        (counts (S.reads shelf.new) (S.long_reads shelf.new) (S.faults shelf.new))) }
+    ensures err { IfErr result (ReportFileFails (S.files shelf.old) name.now
+        (counts (S.reads shelf.old) (S.long_reads shelf.old) (S.faults shelf.old))
+        (counts (S.reads shelf.new) (S.long_reads shelf.new) (S.faults shelf.new))) }
 {
     let bytes = report_bytes(alloc, shelf, name)?;
     report_of(alloc, &bytes)

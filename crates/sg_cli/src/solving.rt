@@ -1,7 +1,8 @@
 //! What `solve` does: reads a game, solves it, and writes its report.
 
-ghost use Rattle.std.specs.Prelude.{◌≡◌, ◌≢◌, ◌≤◌, IfOk, IfErr, Some};
+ghost use Rattle.std.specs.Prelude.{◌≡◌, ◌≢◌, ◌≤◌, IfOk, IfErr, OnOk, Some};
 ghost use Rattle.sg_words.specs.Commands as commands;
+ghost use Rattle.sg_cli.specs.ShelfReads.{ReadsOne, counts};
 ghost use Rattle.sg_cli.specs.Scenes.{scene};
 ghost use Rattle.sg_cli.specs.Causes.{ComesOf, Fails};
 ghost use Rattle.sg_cli.specs.Solutions.{IsSolved, IsAnswer};
@@ -45,9 +46,16 @@ fn solved(alloc: Global, game: &Game) -> Result<Report, Refusal>
 /// A right report on the game in the file of that name.
 fn solution_named<S: Shelf>(alloc: Global, name: &str, shelf: &mut S) -> Result<Report, Refusal>
     ensures files { S.files shelf.new ≡ S.files shelf.old }
-    ensures count { S.faults shelf.old ≤ S.faults shelf.new }
+    ensures faults { S.faults shelf.old ≤ S.faults shelf.new }
+    ensures reads { S.reads shelf.old ≤ S.reads shelf.new }
+    ensures long_reads { S.long_reads shelf.old ≤ S.long_reads shelf.new }
     ensures ok { IfOk result (HasSolution (S.files shelf.old) name.now) }
-    ensures err { IfErr result (Fails (S.files shelf.old) (S.faults shelf.old) (S.faults shelf.new) (commands.solve name.now)) }
+    ensures one { OnOk result (ReadsOne
+        (counts (S.reads shelf.old) (S.long_reads shelf.old) (S.faults shelf.old))
+        (counts (S.reads shelf.new) (S.long_reads shelf.new) (S.faults shelf.new))) }
+    ensures err { IfErr result (Fails (S.files shelf.old)
+        (counts (S.reads shelf.old) (S.long_reads shelf.old) (S.faults shelf.old))
+        (counts (S.reads shelf.new) (S.long_reads shelf.new) (S.faults shelf.new)) (commands.solve name.now)) }
 {
     let game = game_named(alloc, shelf, name)?;
     solved(alloc, &game)
@@ -61,12 +69,18 @@ pub(crate) fn solve_named<S: Shelf, O: Sink>(
     out: &mut O,
 ) -> Result<u8, Refusal>
     ensures files { S.files shelf.new ≡ S.files shelf.old }
-    ensures reads { S.faults shelf.old ≤ S.faults shelf.new }
-    ensures writes { O.faults out.old ≤ O.faults out.new }
+    ensures faults { S.faults shelf.old ≤ S.faults shelf.new }
+    ensures reads { S.reads shelf.old ≤ S.reads shelf.new }
+    ensures long_reads { S.long_reads shelf.old ≤ S.long_reads shelf.new }
+    ensures out_faults { O.faults out.old ≤ O.faults out.new }
     ensures kept { IfErr result (λ e. e ≢ Refusal.NotWritten → out.new ≡ out.old) }
-    ensures ok { IfOk result (IsDone (scene (Some (commands.solve name.now)) (S.files shelf.old) (S.faults shelf.old) (S.faults shelf.new)
+    ensures ok { IfOk result (IsDone (scene (Some (commands.solve name.now)) (S.files shelf.old)
+        (counts (S.reads shelf.old) (S.long_reads shelf.old) (S.faults shelf.old))
+        (counts (S.reads shelf.new) (S.long_reads shelf.new) (S.faults shelf.new))
         (O.faults out.old) (O.faults out.new) (O.taken out.old) (O.taken out.new))) }
-    ensures err { IfErr result (ComesOf (scene (Some (commands.solve name.now)) (S.files shelf.old) (S.faults shelf.old) (S.faults shelf.new)
+    ensures err { IfErr result (ComesOf (scene (Some (commands.solve name.now)) (S.files shelf.old)
+        (counts (S.reads shelf.old) (S.long_reads shelf.old) (S.faults shelf.old))
+        (counts (S.reads shelf.new) (S.long_reads shelf.new) (S.faults shelf.new))
         (O.faults out.old) (O.faults out.new) (O.taken out.old) (O.taken out.new))) }
 {
     let report = match solution_named(alloc, name, shelf) {

@@ -150,6 +150,8 @@ fn writes_after_a_failed_telling(alloc: Global) -> Result<bool, AllocError> {
 #[derive(Drop)]
 struct LongReport {
     game: Vec<u8>,
+    reads: u64,
+    long_reads: u64,
 }
 
 impl Shelf for LongReport {
@@ -157,17 +159,28 @@ impl Shelf for LongReport {
 
     ghost faults = { λ shelf. 0 };
 
+    ghost reads = { λ shelf. shelf.reads };
+
+    ghost long_reads = { λ shelf. shelf.long_reads };
+
     fn read(&mut self, alloc: Global, name: &str, limit: usize) -> Result<Vec<u8>, ShelfError> {
         if name == "report" {
+            self.reads = self.reads.saturating_add(1);
+            self.long_reads = self.long_reads.saturating_add(1);
             return Err(ShelfError::TooLong { seen: 536_870_913 });
         }
         if self.game.len() > limit {
+            self.reads = self.reads.saturating_add(1);
+            self.long_reads = self.long_reads.saturating_add(1);
             return Err(ShelfError::TooLong {
                 seen: self.game.len() as u64,
             });
         }
         match Vec::from_slice(alloc, &self.game) {
-            Ok(bytes) => Ok(bytes),
+            Ok(bytes) => {
+                self.reads = self.reads.saturating_add(1);
+                Ok(bytes)
+            }
             Err(_) => Err(ShelfError::Memory),
         }
     }
@@ -176,13 +189,18 @@ impl Shelf for LongReport {
 /// Whether a command refuses a report that is too long.
 fn refuses_a_long_report(alloc: Global, words: &[&str]) -> Result<bool, AllocError> {
     let game = Vec::from_slice(alloc, TWO_ROWS.as_bytes())?;
-    let mut shelf = LongReport { game };
+    let mut shelf = LongReport {
+        game,
+        reads: 0,
+        long_reads: 0,
+    };
     let expected = Answer {
         status: 5,
         out: "",
         err: "report too long\n",
     };
-    answers_on(alloc, words, &mut shelf, &NO_PUT, &expected)
+    let answered = answers_on(alloc, words, &mut shelf, &NO_PUT, &expected)?;
+    Ok(answered && shelf.reads == 2 && shelf.long_reads == 1)
 }
 
 #[test]

@@ -8,6 +8,7 @@ returns-in-Ok-put-clause-ok g c =
     record {
       asked = commands.check c.args.name.now c.args.report.now;
       asks = refl;
+      reads = c.in-Ok.ensures.two;
       text = c.as_bytes.result.now;
       does = record {
         game = c.in-Ok.pair.game;
@@ -25,6 +26,7 @@ returns-clause-err g c =
       fault = c.in-Err-put.ensures.failed;
       asked = commands.check c.args.name.now c.args.report.now;
       asks = refl;
+      reads = c.in-Ok.ensures.two;
       status = yes_status c.in-Ok.pair.report;
       text = c.as_bytes.result.now;
       does = record {

@@ -9,6 +9,7 @@ returns-in-Ok-put-clause-ok g c =
     record {
       asked = commands.show c.args.name.now c.args.report.now;
       asks = refl;
+      reads = c.in-Ok.ensures.two;
       text = c.deref.result.now;
       does = record {
         game = pair.game;
@@ -27,6 +28,7 @@ returns-clause-err g c =
       fault = c.in-Err-put.ensures.failed;
       asked = commands.show c.args.name.now c.args.report.now;
       asks = refl;
+      reads = c.in-Ok.ensures.two;
       status = 0;
       text = c.deref.result.now;
       does = record {

@@ -9,6 +9,7 @@ returns-in-Ok-write_report-clause-ok g c =
     record {
       asked = commands.solve c.args.name.now;
       asks = refl;
+      reads = c.in-Ok.ensures.one;
       text = report_text c.in-Ok.report;
       does = record { game = s.game; says = s.says; is_solved = s.solution.is_solved; report = c.in-Ok.report; answer = s.solution.answer; done = refl; written = refl };
       takes = c.in-Ok-write_report.ensures.whole;
@@ -21,6 +22,7 @@ returns-clause-err g c =
       fault = c.in-Err-write_report.ensures.failed;
       asked = commands.solve c.args.name.now;
       asks = refl;
+      reads = c.in-Ok.ensures.one;
       status = 0;
       text = report_text c.in-Ok.report;
       does = record { game = s.game; says = s.says; is_solved = s.solution.is_solved; report = c.in-Ok.report; answer = s.solution.answer; done = refl; written = refl };
