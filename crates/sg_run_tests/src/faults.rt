@@ -1,6 +1,7 @@
 //! Faults of the outside: reads, writes and tellings that fail, and a report that is too long.
 
-ghost use Rattle.std.specs.Prelude.{None};
+ghost use Rattle.std.specs.Prelude.{◌≡◌, ◌≤◌, None};
+ghost use Rattle.sg_shelf.specs.Faults.{raised};
 
 use crate::reports::{MET_REPORT, TWO_ROWS};
 use crate::scenes::{Answer, Failing, NO_PUT, answers_on, shelf_of, sink_of, words_of};
@@ -146,6 +147,14 @@ fn writes_after_a_failed_telling(alloc: Global) -> Result<bool, AllocError> {
     Ok(first == 4 && second == 0 && out.bytes() == SOLVED.as_bytes())
 }
 
+/// The count raised by one, or at its last value.
+fn one_more(count: u64) -> u64
+    ensures at_least { count ≤ result }
+    ensures raised { result ≡ raised count }
+{
+    count.saturating_add(1)
+}
+
 /// A shelf that tells nothing, with one game and a report that is too long.
 #[derive(Drop)]
 struct LongReport {
@@ -164,21 +173,23 @@ impl Shelf for LongReport {
     ghost long_reads = { λ shelf. shelf.long_reads };
 
     fn read(&mut self, alloc: Global, name: &str, limit: usize) -> Result<Vec<u8>, ShelfError> {
+        let read = one_more(self.reads);
+        let long_read = one_more(self.long_reads);
         if name == "report" {
-            self.reads = self.reads.saturating_add(1);
-            self.long_reads = self.long_reads.saturating_add(1);
+            self.reads = read;
+            self.long_reads = long_read;
             return Err(ShelfError::TooLong { seen: 536_870_913 });
         }
         if self.game.len() > limit {
-            self.reads = self.reads.saturating_add(1);
-            self.long_reads = self.long_reads.saturating_add(1);
+            self.reads = read;
+            self.long_reads = long_read;
             return Err(ShelfError::TooLong {
                 seen: self.game.len() as u64,
             });
         }
         match Vec::from_slice(alloc, &self.game) {
             Ok(bytes) => {
-                self.reads = self.reads.saturating_add(1);
+                self.reads = read;
                 Ok(bytes)
             }
             Err(_) => Err(ShelfError::Memory),
