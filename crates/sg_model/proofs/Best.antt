@@ -9,6 +9,7 @@ use Rattle.std.proofs.lemmas.List.Sums.{AllPass-from_list_all, list_all-from_All
 use Rattle.sg_model.specs.declared.ticket.Ticket.{Ticket}
 use Rattle.sg_model.specs.Commitments.{is_best, sum_a, sum_d, take_of}
 use Rattle.sg_model.specs.Games.{Game, action_count}
+use Rattle.sg_model.specs.PayoffLaws.{IsBestResponse, IsTake}
 use Rattle.sg_model.specs.Sums.{greatest, numbers}
 use Rattle.sg_model.proofs.Numbers.{All-numbers, All-numbers-at, InRange-numbers, numbers-some, map-none}
 use Rattle.sg_model.proofs.Greatest.{Contains-head, Contains-tail}
@@ -113,3 +114,19 @@ take_of-bounds g k l a low high best =
     let Below : ℕ → Type 0 = λ (b : ℕ). sum_d g k l b ≤ℤ take_of g k l in
     let below : All Below (filter test (numbers m)) = All-from_map (sum_d g k l) (λ z. z ≤ℤ take_of g k l) (filter test (numbers m)) (greatest-bounds (map (sum_d g k l) (filter test (numbers m)))) in
     All-numbers-at (λ b. test b ≡ true → Below b) m (passes_have test Below (numbers m) below) a low high (is_best-from g k l a best)
+
+pub take_of-is_take : (g : Game) (k : List Ticket) (l : ℕ) → 1 ≤ action_count g l → IsTake g k l (take_of g k l)
+take_of-is_take g k l some =
+    let r = take_of-reached g k l some in
+    record {
+      response = r.0;
+      is_best = record { from_one = r.1.from_one; in_range = r.1.in_range; best = r.1.best };
+      gives = r.1.gives;
+      most = λ a h. take_of-bounds g k l a h.from_one h.in_range h.best;
+    }
+
+-- there is one such number
+pub is_take-one : (g : Game) (k : List Ticket) (l : ℕ) → 1 ≤ action_count g l → (taken : ℤ) → IsTake g k l taken → taken ≡ take_of g k l
+is_take-one g k l some taken h =
+    let own = take_of-is_take g k l some in
+    omega (arith, ints, h.gives, own.gives, h.most own.response own.is_best, own.most h.response h.is_best)

@@ -34,6 +34,7 @@ pub use origami_laws::{
 };
 pub use payoff_laws::{
     greatest_is_bound, payoffs_are_bounded, payoffs_are_listed, take_is_bounded,
+    take_is_of_best_responses,
 };
 pub use play_laws::{
     covers_are_few, covers_where_held, held_pays_covered, patrols_cover_choices,

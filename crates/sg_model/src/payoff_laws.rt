@@ -1,10 +1,11 @@
-//! Laws about the greatest payoff and the shift, each as the contract of a function that does nothing.
+//! Laws about the greatest payoff, the shift and what an attacker leaves the defender, each as the contract of a function that does nothing.
 
 ghost use Rattle.sg_model.specs.PayoffLaws.{
   GreatestIsBound,
   PayoffsAreBounded,
   PayoffsAreListed,
   TakeIsBounded,
+  TakeIsOfBestResponses,
 };
 
 /// What the defender gets of a legal play is one of the payoffs that it may get.
@@ -15,6 +16,12 @@ pub fn payoffs_are_listed()
 /// It is at most the greatest against that type, and with the shift at least 1.
 pub fn payoffs_are_bounded()
     ensures { PayoffsAreBounded }
+{}
+
+/// A type leaves the defender what one of its best responses gives, and no best response gives more: ties go to the
+/// defender (the strong Stackelberg equilibrium: Breton, Alj and Haurie, 1988).
+pub fn take_is_of_best_responses()
+    ensures { TakeIsOfBestResponses }
 {}
 
 /// What a type leaves the defender is at most its greatest payoff for each ticket.
