@@ -156,25 +156,25 @@ fails_decides s status asked files GameNotRead (one, inr missing) e = inr (inr (
 fails_decides s status asked files GameTooLong (one, c) e = inr (inr (long_game files asked status c.0 e))
 fails_decides s status asked files (GameRefused fault) (one, c) e = inr (inr (refused_game files asked status fault c e))
 fails_decides s status asked files NotYet (inl (one, c)) e = inr (inr (read_game files asked status c.game c.says (not_taken files asked c.game status c.not_taken e)))
-fails_decides s status asked files NotYet (inr (two, c)) e =
+fails_decides s status asked files NotYet (inr c) e =
     inr (inr (of_report files asked status _ c (λ g report h.
-    read_report files asked g report status h.read h.says
-    (at_true (has_cover h.read) (status ≡ 3) _ (true_from_ne_false (has_cover h.read) h.holds) e))))
-fails_decides s status asked files ReportNotRead (two, c) e =
-    elim c.holds [
+    read_report files asked g report status h.1.read h.1.says
+    (at_true (has_cover h.1.read) (status ≡ 3) _ (true_from_ne_false (has_cover h.1.read) h.1.holds) e))))
+fails_decides s status asked files ReportNotRead c e =
+    elim c.holds.1 [
       | inl risen ↦ inr (inl (inl (e, risen)))
       | inr missing ↦ inr (inr (read_game files asked status c.game c.takes.says
           (by_pair files asked c.game c.report status c.takes.taken c.names (by_none report_limit _ (held files c.report) status missing e))))
     ]
-fails_decides s status asked files ReportTooLong (two, c) e =
-    inr (inr (of_report files asked status _ c (λ g report h. by_long report_limit _ (held files report) status h e)))
-fails_decides s status asked files (ReportRefused fault) (two, c) e =
+fails_decides s status asked files ReportTooLong c e =
+    inr (inr (of_report files asked status _ c (λ g report h. by_long report_limit _ (held files report) status h.1 e)))
+fails_decides s status asked files (ReportRefused fault) c e =
     inr (inr (of_report files asked status _ c (λ g report h.
-    by_bytes report_limit (λ bytes. ByReport (after_both asked g) (report_of bytes)) (held files report) h.bytes status h.reads.may_hold h.reads.within
-    (by_report_fault (after_both asked g) (report_of h.bytes) fault status h.report e))))
-fails_decides s status asked files (ReportWrong line reason) (two, c) e =
+    by_bytes report_limit (λ bytes. ByReport (after_both asked g) (report_of bytes)) (held files report) h.1.bytes status h.1.reads.may_hold h.1.reads.within
+    (by_report_fault (after_both asked g) (report_of h.1.bytes) fault status h.1.report e))))
+fails_decides s status asked files (ReportWrong line reason) c e =
     inr (inr (of_report files asked status _ c (λ g report h.
-    read_report files asked g report status h.read h.says (wrong asked g h.read line reason status (not_none asked c.report c.names) h.holds e))))
+    read_report files asked g report status h.1.read h.1.says (wrong asked g h.1.read line reason status (not_none asked c.report c.names) h.1.holds e))))
 
 -- ---- what was done
 

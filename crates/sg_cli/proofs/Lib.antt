@@ -1,10 +1,10 @@
 pub mod Completes
 pub mod Formed
 pub mod Lengths
+pub mod Logged
 pub mod OneStatus
 pub mod Outcomes
 pub mod Pairs
-pub mod ReadCounts
+pub mod SmallNumbers
 pub mod Stopping
 pub mod Tellings
-pub mod SmallNumbers

@@ -1,45 +1,52 @@
 -- A run that tells a refusal answers by it.
-use Rattle.std.proofs.Common.{◌≡◌, ◌≢◌, ◌⊎◌, ℕ, ◌≤◌, List, Option, Some, refl, sym, ◌∙◌, ap, subst, arith, inl, inr}
+use Rattle.std.proofs.Common.{◌≡◌, ◌≢◌, ◌⊎◌, ℕ, List, [], ◌∷◌, Option, Some, refl, sym, ◌∙◌, ap, subst, arith, inl, inr}
 use Rattle.sg_cli.specs.Refusals.{status_of, HasNumbers}
 use Rattle.sg_words.specs.Commands.{Asked, solve, check, show}
-use Rattle.sg_cli.specs.ShelfReads.{HasRead, ReadsAtMost, file_count, files_named}
-use Rattle.sg_cli.specs.Scenes.{Scene, report_name}
+use Rattle.sg_shelf.specs.Logs.{Log}
+use Rattle.sg_shelf.specs.declared.log.Outcome.TheVariants.{Given}
+use Rattle.sg_cli.specs.ShelfReads.{ReadsBoth, ReadsFront, ReadsGameFile, game_read, reads_asked, reads_of, report_read}
+use Rattle.sg_cli.specs.Scenes.{Scene, game_name, report_name}
 use Rattle.sg_cli.specs.Causes.{ComesOf}
 use Rattle.sg_cli.specs.Runs.{Tells, Answers}
-use Rattle.sg_cli.proofs.ReadCounts.{at_most}
+use Rattle.sg_cli.proofs.Logged.{all_read, front_named}
 use Rattle.sg_cli.specs.declared.refusal.Refusal.{Refusal}
 use Rattle.sg_cli.specs.declared.refusal.Refusal.TheVariants.{Words, GameNotRead, GameTooLong, GameRefused, NotYet, ReportNotRead, ReportTooLong, ReportRefused, ReportWrong, NotWritten, Memory}
 
--- a command that reads a report names two files
-two_files : (asked : Asked) (report : List ℕ) → report_name asked ≡ Some report → file_count asked ≡ 2
+-- the files that a command which reads a report names
+two_files : (asked : Asked) (report : List ℕ) → report_name asked ≡ Some report → reads_of asked ≡ game_read (game_name asked) Given ∷ report_read report Given ∷ []
 two_files (solve game) report e = let no_way : ⊥ = cc in absurd no_way
-two_files (check game other) report e = refl
-two_files (show game other) report e = refl
+two_files (check game other) report e = let same : other ≡ report = cc in ap (λ (r : List ℕ). game_read game Given ∷ report_read r Given ∷ []) same
+two_files (show game other) report e = let same : other ≡ report = cc in ap (λ (r : List ℕ). game_read game Given ∷ report_read r Given ∷ []) same
 
--- so many reads are at most those of what the words ask for
-at_most_asked : (s : Scene) (asked : Asked) (count : ℕ) → s.asked ≡ Some asked → count ≤ file_count asked → HasRead count 0 s.shelf_before s.shelf_after
-    → ReadsAtMost (files_named s.asked) s.shelf_before s.shelf_after
-at_most_asked s asked count asks le h =
-    subst (λ (a : Option Asked). ReadsAtMost (files_named a) s.shelf_before s.shelf_after) (sym asks) (at_most count (file_count asked) s.shelf_before s.shelf_after le h)
+-- what was read of a command's files is of those of what the words ask for
+of_asked : (s : Scene) (asked : Asked) → s.asked ≡ Some asked → ReadsFront (reads_of asked) s.shelf_before s.shelf_after
+    → ReadsFront (reads_asked s.asked) s.shelf_before s.shelf_after
+of_asked s asked asks h = subst (λ (a : Option Asked). ReadsFront (reads_asked a) s.shelf_before s.shelf_after) (sym asks) h
 
-one_file : (asked : Asked) → 1 ≤ file_count asked
-one_file (solve game) = omega arith
-one_file (check game report) = omega arith
-one_file (show game report) = omega arith
+-- the game's file alone was read
+one_read : (s : Scene) (asked : Asked) → s.asked ≡ Some asked → ReadsGameFile (game_name asked) Given s.shelf_before s.shelf_after
+    → ReadsFront (reads_asked s.asked) s.shelf_before s.shelf_after
+one_read s asked asks h = of_asked s asked asks (front_named asked s.shelf_before s.shelf_after (all_read (game_read (game_name asked) Given ∷ []) s.shelf_before s.shelf_after h))
+
+-- both were read
+two_read : (s : Scene) (asked : Asked) (report : List ℕ) → s.asked ≡ Some asked → report_name asked ≡ Some report
+    → ReadsBoth (game_name asked) report Given s.shelf_before s.shelf_after → ReadsFront (reads_asked s.asked) s.shelf_before s.shelf_after
+two_read s asked report asks names h =
+    of_asked s asked asks
+    (subst (λ (n : Log). ReadsFront n s.shelf_before s.shelf_after) (sym (two_files asked report names))
+    (all_read (game_read (game_name asked) Given ∷ report_read report Given ∷ []) s.shelf_before s.shelf_after h))
 
 -- where there is no memory for a line with numbers, want of memory has its cause too
 memory_comes : (s : Scene) (r : Refusal) → HasNumbers r → ComesOf s r → ComesOf s Memory
 memory_comes s Words k c = absurd k
 memory_comes s GameNotRead k c = absurd k
 memory_comes s GameTooLong k c = absurd k
-memory_comes s (GameRefused fault) k c = (at_most_asked s c.asked 1 c.asks (one_file c.asked) c.cause.0, c.kept)
+memory_comes s (GameRefused fault) k c = (one_read s c.asked c.asks c.cause.0, c.kept)
 memory_comes s NotYet k c = absurd k
 memory_comes s ReportNotRead k c = absurd k
 memory_comes s ReportTooLong k c = absurd k
-memory_comes s (ReportRefused fault) k c =
-    (at_most_asked s c.asked 2 c.asks (omega (arith, two_files c.asked c.cause.1.report c.cause.1.names)) c.cause.0, c.kept)
-memory_comes s (ReportWrong line reason) k c =
-    (at_most_asked s c.asked 2 c.asks (omega (arith, two_files c.asked c.cause.1.report c.cause.1.names)) c.cause.0, c.kept)
+memory_comes s (ReportRefused fault) k c = (two_read s c.asked c.cause.report c.asks c.cause.names c.cause.holds.0, c.kept)
+memory_comes s (ReportWrong line reason) k c = (two_read s c.asked c.cause.report c.asks c.cause.names c.cause.holds.0, c.kept)
 memory_comes s NotWritten k c = absurd k
 memory_comes s Memory k c = absurd k
 

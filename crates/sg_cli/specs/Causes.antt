@@ -4,11 +4,12 @@ use Rattle.sg_model.specs.Games.{Game}
 use Rattle.sg_tree.specs.declared.report.Report.{Report}
 use Rattle.sg_bounds.specs.Checking.{IsRefused}
 use Rattle.sg_shelf.specs.Faults.{HasRisen, HasNotRisen}
-use Rattle.sg_shelf.specs.Counts.{ShelfCounts}
+use Rattle.sg_shelf.specs.Logs.{Trail}
+use Rattle.sg_shelf.specs.declared.log.Outcome.TheVariants.{Given, TooLong, Failed}
 use Rattle.sg_shelf.specs.Files.{Files, IsMissing, IsLong}
 use Rattle.sg_shelf.specs.Taken.{TakesFront}
 use Rattle.sg_words.specs.Commands.{Asked, solve, check, show}
-use Rattle.sg_cli.specs.ShelfReads.{ReadsAtMost, ReadsEach, ReadsOne, ReadsOneLong, ReadsTwo, ReadsTwoLong, file_count, files_named}
+use Rattle.sg_cli.specs.ShelfReads.{ReadsEach, ReadsFront, ReadsGameFile, ReadsBoth, reads_asked, reads_of}
 use Rattle.sg_cli.specs.Scenes.{Scene, SaysGame, SaysReport, game_limit, game_name, report_limit, report_name}
 use Rattle.sg_cli.specs.Solutions.{IsSolved, IsChecked, IsCheckable}
 use Rattle.sg_cli.specs.Deeds.{Does}
@@ -22,11 +23,11 @@ IsTaken (check game report) g = IsChecked g
 IsTaken (show game report) g = IsChecked g
 
 -- the count of the shelf's faults rose, or the files are told and none has the name
-abbrev pub IsNotRead : Option Files → List ℕ → ShelfCounts → ShelfCounts → Type 0
+abbrev pub IsNotRead : Option Files → List ℕ → Trail → Trail → Type 0
 IsNotRead files name before after = HasRisen before.faults after.faults ⊎ IsMissing files name
 
 -- where the files are told, the game's has more bytes than it may and no fault was counted
-abbrev pub IsGameLong : Option Files → List ℕ → ShelfCounts → ShelfCounts → Type 0
+abbrev pub IsGameLong : Option Files → List ℕ → Trail → Trail → Type 0
 IsGameLong None name before after = Unit {0}
 IsGameLong (Some files) name before after = IsLong (Some files) name game_limit × HasNotRisen before.faults after.faults
 
@@ -67,19 +68,21 @@ pub record IsWrong (g : Game) (line reason : ℕ) (r : Report) : Type 0 where
 
 -- what a refusal comes of before anything is written: of the game's file, which alone was read, or of the report's, which
 -- was read after it; want of memory may come at any time
-abbrev pub Fails : Option Files → ShelfCounts → ShelfCounts → Asked → Refusal → Type 0
-Fails files before after asked GameNotRead = ReadsOne before after × IsNotRead files (game_name asked) before after
-Fails files before after asked GameTooLong = ReadsOneLong before after × IsGameLong files (game_name asked) before after
-Fails files before after asked (GameRefused fault) = ReadsOne before after × SaysGame files (game_name asked) (Err fault)
+abbrev pub Fails : Option Files → Trail → Trail → Asked → Refusal → Type 0
+Fails files before after asked GameNotRead = ReadsGameFile (game_name asked) Failed before after × IsNotRead files (game_name asked) before after
+Fails files before after asked GameTooLong = ReadsGameFile (game_name asked) TooLong before after × IsGameLong files (game_name asked) before after
+Fails files before after asked (GameRefused fault) = ReadsGameFile (game_name asked) Given before after × SaysGame files (game_name asked) (Err fault)
 Fails files before after asked NotYet =
-    (ReadsOne before after × IsGameNotYet files asked)
-    ⊎ (ReadsTwo before after × OfReport files asked (λ g report. ReadsReport files (λ r. ¬ (IsCheckable r)) report))
-Fails files before after asked ReportNotRead = ReadsTwo before after × OfReport files asked (λ g report. IsNotRead files report before after)
-Fails files before after asked ReportTooLong = ReadsTwoLong before after × OfReport files asked (λ g report. IsReportLong files report)
-Fails files before after asked (ReportRefused fault) = ReadsTwo before after × OfReport files asked (λ g report. SaysReport files report (Err fault))
+    (ReadsGameFile (game_name asked) Given before after × IsGameNotYet files asked)
+    ⊎ OfReport files asked (λ g report. ReadsBoth (game_name asked) report Given before after × ReadsReport files (λ r. ¬ (IsCheckable r)) report)
+Fails files before after asked ReportNotRead =
+    OfReport files asked (λ g report. ReadsBoth (game_name asked) report Failed before after × IsNotRead files report before after)
+Fails files before after asked ReportTooLong = OfReport files asked (λ g report. ReadsBoth (game_name asked) report TooLong before after × IsReportLong files report)
+Fails files before after asked (ReportRefused fault) =
+    OfReport files asked (λ g report. ReadsBoth (game_name asked) report Given before after × SaysReport files report (Err fault))
 Fails files before after asked (ReportWrong line reason) =
-    ReadsTwo before after × OfReport files asked (λ g report. ReadsReport files (IsWrong g line reason) report)
-Fails files before after asked Memory = ReadsAtMost (file_count asked) before after
+    OfReport files asked (λ g report. ReadsBoth (game_name asked) report Given before after × ReadsReport files (IsWrong g line reason) report)
+Fails files before after asked Memory = ReadsFront (reads_of asked) before after
 Fails files before after asked Words = ⊥
 Fails files before after asked NotWritten = ⊥
 
@@ -102,10 +105,10 @@ pub record IsNotWritten (s : Scene) : Type 0 where
   pub does : Does s.files asked status text
   pub takes : TakesFront s.out_before s.out_after text
 
--- what a refusal comes of; words that give no command leave the shelf's counts as they were
+-- what a refusal comes of; words that give no command leave the shelf's log and count as they were
 abbrev pub ComesOf : Scene → Refusal → Type 0
 ComesOf s Words = (s.asked ≡ None) × (s.shelf_after ≡ s.shelf_before) × (s.out_after ≡ s.out_before)
-ComesOf s Memory = ReadsAtMost (files_named s.asked) s.shelf_before s.shelf_after × (s.out_after ≡ s.out_before)
+ComesOf s Memory = ReadsFront (reads_asked s.asked) s.shelf_before s.shelf_after × (s.out_after ≡ s.out_before)
 ComesOf s NotWritten = IsNotWritten s
 ComesOf s GameNotRead = Stops s GameNotRead
 ComesOf s GameTooLong = Stops s GameTooLong

@@ -1,14 +1,15 @@
 -- What the steps of a run answer: what they got from the files, or why not.
-use Rattle.std.specs.Prelude.{◌≡◌, ℕ, List, Option, Result, Ok, Err}
+use Rattle.std.specs.Prelude.{◌≡◌, ℕ, List, [], ◌∷◌, Option, Result, Ok, Err}
 use Rattle.sg_model.specs.declared.fault.GameFault.{GameFault}
 use Rattle.sg_model.specs.Games.{Game}
 use Rattle.sg_tree.specs.declared.report.Report.{Report}
 use Rattle.sg_cert.specs.declared.fault.ReportFault.{ReportFault}
 use Rattle.sg_bounds.specs.Accepted.{IsAccepted}
 use Rattle.sg_bounds.specs.ReportLaws.{Means}
-use Rattle.sg_shelf.specs.Counts.{ShelfCounts}
+use Rattle.sg_shelf.specs.Logs.{Trail}
+use Rattle.sg_shelf.specs.declared.log.Outcome.TheVariants.{Given, TooLong, Failed}
 use Rattle.sg_shelf.specs.Files.{Files}
-use Rattle.sg_cli.specs.ShelfReads.{ReadsAtMost, ReadsOne, ReadsOneLong}
+use Rattle.sg_cli.specs.ShelfReads.{ReadsFront, ReadsGameFile, ReadsReportFile, game_read, report_read}
 use Rattle.sg_cli.specs.Scenes.{SaysGame, SaysReport}
 use Rattle.sg_cli.specs.Solutions.{IsSolved, IsAnswer, IsChecked, IsCheckable}
 use Rattle.sg_cli.specs.Causes.{IsNotRead, IsGameLong, IsReportLong, IsWrong}
@@ -16,10 +17,10 @@ use Rattle.sg_cli.specs.declared.refusal.Refusal.{Refusal}
 use Rattle.sg_cli.specs.declared.refusal.Refusal.TheVariants.{GameNotRead, GameTooLong, GameRefused, NotYet, ReportNotRead, ReportTooLong, ReportRefused, ReportWrong, Memory}
 
 -- no bytes were read of a game's file
-abbrev pub GameBytesFail : Option Files → List ℕ → ShelfCounts → ShelfCounts → Refusal → Type 0
-GameBytesFail files name before after GameNotRead = ReadsOne before after × IsNotRead files name before after
-GameBytesFail files name before after GameTooLong = ReadsOneLong before after × IsGameLong files name before after
-GameBytesFail files name before after Memory = ReadsAtMost 1 before after
+abbrev pub GameBytesFail : Option Files → List ℕ → Trail → Trail → Refusal → Type 0
+GameBytesFail files name before after GameNotRead = ReadsGameFile name Failed before after × IsNotRead files name before after
+GameBytesFail files name before after GameTooLong = ReadsGameFile name TooLong before after × IsGameLong files name before after
+GameBytesFail files name before after Memory = ReadsFront (game_read name Given ∷ []) before after
 GameBytesFail files name before after _ = ⊥
 
 -- bytes that give no game
@@ -29,18 +30,18 @@ GameFails says Memory = Unit {0}
 GameFails says _ = ⊥
 
 -- a file that gives no game
-abbrev pub GameFileFails : Option Files → List ℕ → ShelfCounts → ShelfCounts → Refusal → Type 0
-GameFileFails files name before after GameNotRead = ReadsOne before after × IsNotRead files name before after
-GameFileFails files name before after GameTooLong = ReadsOneLong before after × IsGameLong files name before after
-GameFileFails files name before after (GameRefused fault) = ReadsOne before after × SaysGame files name (Err fault)
-GameFileFails files name before after Memory = ReadsAtMost 1 before after
+abbrev pub GameFileFails : Option Files → List ℕ → Trail → Trail → Refusal → Type 0
+GameFileFails files name before after GameNotRead = ReadsGameFile name Failed before after × IsNotRead files name before after
+GameFileFails files name before after GameTooLong = ReadsGameFile name TooLong before after × IsGameLong files name before after
+GameFileFails files name before after (GameRefused fault) = ReadsGameFile name Given before after × SaysGame files name (Err fault)
+GameFileFails files name before after Memory = ReadsFront (game_read name Given ∷ []) before after
 GameFileFails files name before after _ = ⊥
 
 -- no bytes were read of a report's file
-abbrev pub ReportBytesFail : Option Files → List ℕ → ShelfCounts → ShelfCounts → Refusal → Type 0
-ReportBytesFail files name before after ReportNotRead = ReadsOne before after × IsNotRead files name before after
-ReportBytesFail files name before after ReportTooLong = ReadsOneLong before after × IsReportLong files name
-ReportBytesFail files name before after Memory = ReadsAtMost 1 before after
+abbrev pub ReportBytesFail : Option Files → List ℕ → Trail → Trail → Refusal → Type 0
+ReportBytesFail files name before after ReportNotRead = ReadsReportFile name Failed before after × IsNotRead files name before after
+ReportBytesFail files name before after ReportTooLong = ReadsReportFile name TooLong before after × IsReportLong files name
+ReportBytesFail files name before after Memory = ReadsFront (report_read name Given ∷ []) before after
 ReportBytesFail files name before after _ = ⊥
 
 -- bytes that give no report
@@ -50,11 +51,11 @@ ReportFails says Memory = Unit {0}
 ReportFails says _ = ⊥
 
 -- a file that gives no report
-abbrev pub ReportFileFails : Option Files → List ℕ → ShelfCounts → ShelfCounts → Refusal → Type 0
-ReportFileFails files name before after ReportNotRead = ReadsOne before after × IsNotRead files name before after
-ReportFileFails files name before after ReportTooLong = ReadsOneLong before after × IsReportLong files name
-ReportFileFails files name before after (ReportRefused fault) = ReadsOne before after × SaysReport files name (Err fault)
-ReportFileFails files name before after Memory = ReadsAtMost 1 before after
+abbrev pub ReportFileFails : Option Files → List ℕ → Trail → Trail → Refusal → Type 0
+ReportFileFails files name before after ReportNotRead = ReadsReportFile name Failed before after × IsNotRead files name before after
+ReportFileFails files name before after ReportTooLong = ReadsReportFile name TooLong before after × IsReportLong files name
+ReportFileFails files name before after (ReportRefused fault) = ReadsReportFile name Given before after × SaysReport files name (Err fault)
+ReportFileFails files name before after Memory = ReadsFront (report_read name Given ∷ []) before after
 ReportFileFails files name before after _ = ⊥
 
 -- a game that gives no report

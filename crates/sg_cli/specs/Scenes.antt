@@ -7,24 +7,24 @@ use Rattle.sg_format.specs.GameFiles.{game_of_bytes}
 use Rattle.sg_tree.specs.declared.report.Report.{Report}
 use Rattle.sg_cert.specs.declared.fault.ReportFault.{ReportFault}
 use Rattle.sg_cert.specs.Reading.{report_of}
-use Rattle.sg_shelf.specs.Counts.{ShelfCounts}
+use Rattle.sg_shelf.specs.Logs.{Trail}
 use Rattle.sg_shelf.specs.Files.{Files, Reads}
 use Rattle.sg_words.specs.Commands.{Asked, solve, check, show}
 
--- what the words ask for, the files of the shelf where they are told, what it counted before and after, the output's count
+-- what the words ask for, the files of the shelf where they are told, its log and faults before and after, the output's count
 -- of faults before and after, and the bytes that the output took before and after, where they are told
 pub record Scene : Type 0 where
   pub asked : Option Asked
   pub files : Option Files
-  pub shelf_before : ShelfCounts
-  pub shelf_after : ShelfCounts
+  pub shelf_before : Trail
+  pub shelf_after : Trail
   pub out_faults_before : ℕ
   pub out_faults_after : ℕ
   pub out_before : Option (List ℕ)
   pub out_after : Option (List ℕ)
 
 -- these, in one record
-abbrev pub scene : Option Asked → Option Files → (shelf_before shelf_after : ShelfCounts) → (out_faults_before out_faults_after : ℕ) → (out_before out_after : Option (List ℕ)) → Scene
+abbrev pub scene : Option Asked → Option Files → (shelf_before shelf_after : Trail) → (out_faults_before out_faults_after : ℕ) → (out_before out_after : Option (List ℕ)) → Scene
 scene asked files shelf_before shelf_after out_faults_before out_faults_after out_before out_after = record {
   asked = asked;
   files = files;

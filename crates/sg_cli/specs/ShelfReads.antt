@@ -1,56 +1,56 @@
--- How many files a run read.
-use Rattle.std.specs.Prelude.{◌≡◌, ℕ, zero, suc, ◌≤◌, Option, Some, None}
-use Rattle.sg_shelf.specs.Faults.{raised}
-use Rattle.sg_shelf.specs.Counts.{ShelfCounts}
+-- Which files a run read, in which order, and how the shelf answered.
+use Rattle.std.specs.Prelude.{◌≡◌, ℕ, List, [], ◌∷◌, ◌++◌, Option, Some, None}
+use Rattle.sg_shelf.specs.Logs.{Entry, Log, Trail, entry}
+use Rattle.sg_shelf.specs.declared.log.Outcome.{Outcome}
+use Rattle.sg_shelf.specs.declared.log.Outcome.TheVariants.{Given}
 use Rattle.sg_words.specs.Commands.{Asked, solve, check, show}
+use Rattle.sg_cli.specs.Scenes.{game_limit, report_limit}
 
--- what a shelf counts, in one record
-abbrev pub counts : (reads long_reads faults : ℕ) → ShelfCounts
-counts reads long_reads faults = record { reads = reads; long_reads = long_reads; faults = faults }
+-- what a shelf shows of its reads, in one record
+abbrev pub trail : Log → ℕ → Trail
+trail log faults = record { log = log; faults = faults }
 
--- a count raised so many times
-abbrev pub raised_by : ℕ → ℕ → ℕ
-raised_by zero count = count
-raised_by (suc more) count = raised_by more (raised count)
+-- The shelf answered exactly these reads, in this order.
+abbrev pub HasRead : Log → Trail → Trail → Type 0
+HasRead reads before after = after.log ≡ before.log ++ reads
 
--- The shelf answered exactly so many reads, and so many of them by too many bytes.
-pub record HasRead (count too_long : ℕ) (before after : ShelfCounts) : Type 0 where
-  pub reads : after.reads ≡ raised_by count before.reads
-  pub long_reads : after.long_reads ≡ raised_by too_long before.long_reads
+-- a read of a game's file, up to its limit, and one of a report's
+abbrev pub game_read : List ℕ → Outcome → Entry
+game_read name outcome = entry name game_limit outcome
 
--- One file was read, which was not too long.
-abbrev pub ReadsOne : ShelfCounts → ShelfCounts → Type 0
-ReadsOne before after = HasRead 1 0 before after
+abbrev pub report_read : List ℕ → Outcome → Entry
+report_read name outcome = entry name report_limit outcome
 
--- One file was read, which was too long.
-abbrev pub ReadsOneLong : ShelfCounts → ShelfCounts → Type 0
-ReadsOneLong before after = HasRead 1 1 before after
+-- The game's file alone was read, and answered so.
+abbrev pub ReadsGameFile : List ℕ → Outcome → Trail → Trail → Type 0
+ReadsGameFile name outcome before after = HasRead (game_read name outcome ∷ []) before after
 
--- Two files were read, neither of them too long.
-abbrev pub ReadsTwo : ShelfCounts → ShelfCounts → Type 0
-ReadsTwo before after = HasRead 2 0 before after
+-- The report's file alone was read, and answered so.
+abbrev pub ReadsReportFile : List ℕ → Outcome → Trail → Trail → Type 0
+ReadsReportFile name outcome before after = HasRead (report_read name outcome ∷ []) before after
 
--- Two files were read, one of which was too long.
-abbrev pub ReadsTwoLong : ShelfCounts → ShelfCounts → Type 0
-ReadsTwoLong before after = HasRead 2 1 before after
+-- The game's file was read, which gave its bytes, and then the report's, which was answered so.
+abbrev pub ReadsBoth : List ℕ → List ℕ → Outcome → Trail → Trail → Type 0
+ReadsBoth game report outcome before after = HasRead (game_read game Given ∷ report_read report outcome ∷ []) before after
 
--- At most so many files were read, none of them too long.
-pub record ReadsAtMost (most : ℕ) (before after : ShelfCounts) : Type 0 where
-  pub count : ℕ
-  pub at_most : count ≤ most
-  pub reads : HasRead count 0 before after
+-- Some of these reads were answered, from the first one on, and no other.
+pub record ReadsFront (due : Log) (before after : Trail) : Type 0 where
+  pub read : Log
+  pub unread : Log
+  pub in_order : read ++ unread ≡ due
+  pub reads : HasRead read before after
 
--- how many files a command names
-abbrev pub file_count : Asked → ℕ
-file_count (solve game) = 1
-file_count (check game report) = 2
-file_count (show game report) = 2
+-- the reads of the files that a command names, in order, each of which gives the bytes
+abbrev pub reads_of : Asked → Log
+reads_of (solve game) = game_read game Given ∷ []
+reads_of (check game report) = game_read game Given ∷ report_read report Given ∷ []
+reads_of (show game report) = game_read game Given ∷ report_read report Given ∷ []
 
--- how many files are named by what the words ask for
-abbrev pub files_named : Option Asked → ℕ
-files_named None = 0
-files_named (Some asked) = file_count asked
+-- the same for what the words ask for
+abbrev pub reads_asked : Option Asked → Log
+reads_asked None = []
+reads_asked (Some asked) = reads_of asked
 
--- Each file that the command names was read once, and none was too long.
-abbrev pub ReadsEach : Asked → ShelfCounts → ShelfCounts → Type 0
-ReadsEach asked before after = HasRead (file_count asked) 0 before after
+-- Each file that the command names was read once, in order, and gave its bytes.
+abbrev pub ReadsEach : Asked → Trail → Trail → Type 0
+ReadsEach asked before after = HasRead (reads_of asked) before after

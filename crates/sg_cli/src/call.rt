@@ -2,7 +2,7 @@
 
 ghost use Rattle.std.specs.Prelude.{◌≡◌, ◌≢◌, ◌≤◌, IfOk, IfErr};
 ghost use Rattle.sg_words.specs.Commands.{command_given};
-ghost use Rattle.sg_cli.specs.ShelfReads.{counts};
+ghost use Rattle.sg_cli.specs.ShelfReads.{trail};
 ghost use Rattle.sg_cli.specs.Scenes.{scene, texts};
 ghost use Rattle.sg_cli.specs.Causes.{ComesOf};
 ghost use Rattle.sg_cli.specs.Runs.{Answers, IsComplete, IsDone};
@@ -25,17 +25,15 @@ fn obey<S: Shelf, O: Sink>(
 ) -> Result<u8, Refusal>
     ensures files { S.files shelf.new ≡ S.files shelf.old }
     ensures faults { S.faults shelf.old ≤ S.faults shelf.new }
-    ensures reads { S.reads shelf.old ≤ S.reads shelf.new }
-    ensures long_reads { S.long_reads shelf.old ≤ S.long_reads shelf.new }
     ensures out_faults { O.faults out.old ≤ O.faults out.new }
     ensures kept { IfErr result (λ e. e ≢ Refusal.NotWritten → out.new ≡ out.old) }
     ensures ok { IfOk result (IsDone (scene (command_given (texts words.now)) (S.files shelf.old)
-        (counts (S.reads shelf.old) (S.long_reads shelf.old) (S.faults shelf.old))
-        (counts (S.reads shelf.new) (S.long_reads shelf.new) (S.faults shelf.new))
+        (trail (S.log shelf.old) (S.faults shelf.old))
+        (trail (S.log shelf.new) (S.faults shelf.new))
         (O.faults out.old) (O.faults out.new) (O.taken out.old) (O.taken out.new))) }
     ensures err { IfErr result (ComesOf (scene (command_given (texts words.now)) (S.files shelf.old)
-        (counts (S.reads shelf.old) (S.long_reads shelf.old) (S.faults shelf.old))
-        (counts (S.reads shelf.new) (S.long_reads shelf.new) (S.faults shelf.new))
+        (trail (S.log shelf.old) (S.faults shelf.old))
+        (trail (S.log shelf.new) (S.faults shelf.new))
         (O.faults out.old) (O.faults out.new) (O.taken out.old) (O.taken out.new))) }
 {
     match command_of(alloc, words) {
@@ -61,16 +59,16 @@ pub fn run<S: Shelf, O: Sink, E: Sink>(
     // The command was done, with the status and the text that are due, and nothing is told; or one refusal decides the
     // status, its cause and the line.
     ensures answer { Answers (scene (command_given (texts words.now.items)) (S.files shelf.old)
-        (counts (S.reads shelf.old) (S.long_reads shelf.old) (S.faults shelf.old))
-        (counts (S.reads shelf.new) (S.long_reads shelf.new) (S.faults shelf.new))
+        (trail (S.log shelf.old) (S.faults shelf.old))
+        (trail (S.log shelf.new) (S.faults shelf.new))
         (O.faults out.old) (O.faults out.new) (O.taken out.old) (O.taken out.new))
         (E.faults err.old) (E.faults err.new) (E.taken err.old) (E.taken err.new) result }
 
     // Where the files are told and no fault is counted, the status is the one that they decide: but for want of memory it
     // never gives up.
     ensures complete { IsComplete (scene (command_given (texts words.now.items)) (S.files shelf.old)
-        (counts (S.reads shelf.old) (S.long_reads shelf.old) (S.faults shelf.old))
-        (counts (S.reads shelf.new) (S.long_reads shelf.new) (S.faults shelf.new))
+        (trail (S.log shelf.old) (S.faults shelf.old))
+        (trail (S.log shelf.new) (S.faults shelf.new))
         (O.faults out.old) (O.faults out.new) (O.taken out.old) (O.taken out.new)) result }
 
     // With success nothing is told; with any refusal but a failing output that is not touched at all.
@@ -81,8 +79,6 @@ pub fn run<S: Shelf, O: Sink, E: Sink>(
     // The shelf's files are as they were, and no count falls.
     ensures files { S.files shelf.new ≡ S.files shelf.old }
     ensures faults { S.faults shelf.old ≤ S.faults shelf.new }
-    ensures reads { S.reads shelf.old ≤ S.reads shelf.new }
-    ensures long_reads { S.long_reads shelf.old ≤ S.long_reads shelf.new }
     ensures out_faults { O.faults out.old ≤ O.faults out.new }
     ensures err_faults { E.faults err.old ≤ E.faults err.new }
 {

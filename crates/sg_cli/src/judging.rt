@@ -2,7 +2,8 @@
 
 ghost use Rattle.std.specs.Prelude.{◌≡◌, ◌≤◌, IfOk, IfErr, List, OnOk, Ok, ℕ};
 ghost use Rattle.sg_words.specs.Commands as commands;
-ghost use Rattle.sg_cli.specs.ShelfReads.{ReadsOne, ReadsTwo, counts};
+ghost use Rattle.sg_shelf.specs.declared.log.Outcome.TheVariants.{Given};
+ghost use Rattle.sg_cli.specs.ShelfReads.{ReadsGameFile, ReadsBoth, trail};
 ghost use Rattle.sg_cli.specs.Scenes.{SaysReport};
 ghost use Rattle.sg_cli.specs.Causes.{Fails};
 ghost use Rattle.sg_cli.specs.Deeds.{Accepts};
@@ -28,15 +29,13 @@ pub(crate) struct Accepted {
 fn checked_game<S: Shelf>(alloc: Global, shelf: &mut S, name: &str) -> Result<Game, Refusal>
     ensures files { S.files shelf.new ≡ S.files shelf.old }
     ensures faults { S.faults shelf.old ≤ S.faults shelf.new }
-    ensures reads { S.reads shelf.old ≤ S.reads shelf.new }
-    ensures long_reads { S.long_reads shelf.old ≤ S.long_reads shelf.new }
     ensures ok { IfOk result (HasChecked (S.files shelf.old) name.now) }
-    ensures one { OnOk result (ReadsOne
-        (counts (S.reads shelf.old) (S.long_reads shelf.old) (S.faults shelf.old))
-        (counts (S.reads shelf.new) (S.long_reads shelf.new) (S.faults shelf.new))) }
+    ensures one { OnOk result (ReadsGameFile name.now Given
+        (trail (S.log shelf.old) (S.faults shelf.old))
+        (trail (S.log shelf.new) (S.faults shelf.new))) }
     ensures err { IfErr result (λ e. (report : List ℕ) → Fails (S.files shelf.old)
-        (counts (S.reads shelf.old) (S.long_reads shelf.old) (S.faults shelf.old))
-        (counts (S.reads shelf.new) (S.long_reads shelf.new) (S.faults shelf.new)) (commands.check name.now report) e) }
+        (trail (S.log shelf.old) (S.faults shelf.old))
+        (trail (S.log shelf.new) (S.faults shelf.new)) (commands.check name.now report) e) }
 {
     let game = game_named(alloc, shelf, name)?;
     if game.types() == 1 {
@@ -72,15 +71,13 @@ pub(crate) fn accepted_named<S: Shelf>(
 ) -> Result<Accepted, Refusal>
     ensures files { S.files shelf.new ≡ S.files shelf.old }
     ensures faults { S.faults shelf.old ≤ S.faults shelf.new }
-    ensures reads { S.reads shelf.old ≤ S.reads shelf.new }
-    ensures long_reads { S.long_reads shelf.old ≤ S.long_reads shelf.new }
     ensures ok { IfOk result (λ pair. Accepts (S.files shelf.old) name.now report.now pair.game pair.report) }
-    ensures two { OnOk result (ReadsTwo
-        (counts (S.reads shelf.old) (S.long_reads shelf.old) (S.faults shelf.old))
-        (counts (S.reads shelf.new) (S.long_reads shelf.new) (S.faults shelf.new))) }
+    ensures two { OnOk result (ReadsBoth name.now report.now Given
+        (trail (S.log shelf.old) (S.faults shelf.old))
+        (trail (S.log shelf.new) (S.faults shelf.new))) }
     ensures err { IfErr result (Fails (S.files shelf.old)
-        (counts (S.reads shelf.old) (S.long_reads shelf.old) (S.faults shelf.old))
-        (counts (S.reads shelf.new) (S.long_reads shelf.new) (S.faults shelf.new)) (commands.check name.now report.now)) }
+        (trail (S.log shelf.old) (S.faults shelf.old))
+        (trail (S.log shelf.new) (S.faults shelf.new)) (commands.check name.now report.now)) }
 {
     let game = match checked_game(alloc, shelf, name) {
         Ok(game) => game,

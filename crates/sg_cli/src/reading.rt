@@ -4,7 +4,8 @@ ghost use Rattle.std.specs.Prelude.{◌≡◌, ◌≤◌, IfOk, IfErr, OnOk, Ok}
 ghost use Rattle.sg_format.specs.GameFiles.{game_of_bytes};
 ghost use Rattle.sg_cert.specs.Reading.{report_of};
 ghost use Rattle.sg_shelf.specs.Files.{Reads};
-ghost use Rattle.sg_cli.specs.ShelfReads.{ReadsOne, counts};
+ghost use Rattle.sg_shelf.specs.declared.log.Outcome.TheVariants.{Given};
+ghost use Rattle.sg_cli.specs.ShelfReads.{ReadsGameFile, ReadsReportFile, trail};
 ghost use Rattle.sg_cli.specs.Scenes.{SaysGame, SaysReport, game_limit, report_limit};
 ghost use Rattle.sg_cli.specs.Readings.{GameBytesFail, GameFails, GameFileFails, ReportBytesFail, ReportFails, ReportFileFails};
 
@@ -24,15 +25,13 @@ const REPORT_LIMIT: usize = 536_870_912;
 fn game_bytes<S: Shelf>(alloc: Global, shelf: &mut S, name: &str) -> Result<Vec<u8>, Refusal>
     ensures files { S.files shelf.new ≡ S.files shelf.old }
     ensures faults { S.faults shelf.old ≤ S.faults shelf.new }
-    ensures reads { S.reads shelf.old ≤ S.reads shelf.new }
-    ensures long_reads { S.long_reads shelf.old ≤ S.long_reads shelf.new }
     ensures ok { IfOk result (λ bytes. Reads (S.files shelf.old) name.now game_limit bytes.items) }
-    ensures one { OnOk result (ReadsOne
-        (counts (S.reads shelf.old) (S.long_reads shelf.old) (S.faults shelf.old))
-        (counts (S.reads shelf.new) (S.long_reads shelf.new) (S.faults shelf.new))) }
+    ensures one { OnOk result (ReadsGameFile name.now Given
+        (trail (S.log shelf.old) (S.faults shelf.old))
+        (trail (S.log shelf.new) (S.faults shelf.new))) }
     ensures err { IfErr result (GameBytesFail (S.files shelf.old) name.now
-        (counts (S.reads shelf.old) (S.long_reads shelf.old) (S.faults shelf.old))
-        (counts (S.reads shelf.new) (S.long_reads shelf.new) (S.faults shelf.new))) }
+        (trail (S.log shelf.old) (S.faults shelf.old))
+        (trail (S.log shelf.new) (S.faults shelf.new))) }
 {
     match shelf.read(alloc, name, GAME_LIMIT) {
         Ok(bytes) => Ok(bytes),
@@ -62,15 +61,13 @@ pub(crate) fn game_named<S: Shelf>(
 ) -> Result<Game, Refusal>
     ensures files { S.files shelf.new ≡ S.files shelf.old }
     ensures faults { S.faults shelf.old ≤ S.faults shelf.new }
-    ensures reads { S.reads shelf.old ≤ S.reads shelf.new }
-    ensures long_reads { S.long_reads shelf.old ≤ S.long_reads shelf.new }
     ensures ok { IfOk result (λ game. SaysGame (S.files shelf.old) name.now (Ok game)) }
-    ensures one { OnOk result (ReadsOne
-        (counts (S.reads shelf.old) (S.long_reads shelf.old) (S.faults shelf.old))
-        (counts (S.reads shelf.new) (S.long_reads shelf.new) (S.faults shelf.new))) }
+    ensures one { OnOk result (ReadsGameFile name.now Given
+        (trail (S.log shelf.old) (S.faults shelf.old))
+        (trail (S.log shelf.new) (S.faults shelf.new))) }
     ensures err { IfErr result (GameFileFails (S.files shelf.old) name.now
-        (counts (S.reads shelf.old) (S.long_reads shelf.old) (S.faults shelf.old))
-        (counts (S.reads shelf.new) (S.long_reads shelf.new) (S.faults shelf.new))) }
+        (trail (S.log shelf.old) (S.faults shelf.old))
+        (trail (S.log shelf.new) (S.faults shelf.new))) }
 {
     let bytes = game_bytes(alloc, shelf, name)?;
     game_of(alloc, &bytes)
@@ -80,15 +77,13 @@ pub(crate) fn game_named<S: Shelf>(
 fn report_bytes<S: Shelf>(alloc: Global, shelf: &mut S, name: &str) -> Result<Vec<u8>, Refusal>
     ensures files { S.files shelf.new ≡ S.files shelf.old }
     ensures faults { S.faults shelf.old ≤ S.faults shelf.new }
-    ensures reads { S.reads shelf.old ≤ S.reads shelf.new }
-    ensures long_reads { S.long_reads shelf.old ≤ S.long_reads shelf.new }
     ensures ok { IfOk result (λ bytes. Reads (S.files shelf.old) name.now report_limit bytes.items) }
-    ensures one { OnOk result (ReadsOne
-        (counts (S.reads shelf.old) (S.long_reads shelf.old) (S.faults shelf.old))
-        (counts (S.reads shelf.new) (S.long_reads shelf.new) (S.faults shelf.new))) }
+    ensures one { OnOk result (ReadsReportFile name.now Given
+        (trail (S.log shelf.old) (S.faults shelf.old))
+        (trail (S.log shelf.new) (S.faults shelf.new))) }
     ensures err { IfErr result (ReportBytesFail (S.files shelf.old) name.now
-        (counts (S.reads shelf.old) (S.long_reads shelf.old) (S.faults shelf.old))
-        (counts (S.reads shelf.new) (S.long_reads shelf.new) (S.faults shelf.new))) }
+        (trail (S.log shelf.old) (S.faults shelf.old))
+        (trail (S.log shelf.new) (S.faults shelf.new))) }
 {
     match shelf.read(alloc, name, REPORT_LIMIT) {
         Ok(bytes) => Ok(bytes),
@@ -118,15 +113,13 @@ pub(crate) fn report_named<S: Shelf>(
 ) -> Result<Report, Refusal>
     ensures files { S.files shelf.new ≡ S.files shelf.old }
     ensures faults { S.faults shelf.old ≤ S.faults shelf.new }
-    ensures reads { S.reads shelf.old ≤ S.reads shelf.new }
-    ensures long_reads { S.long_reads shelf.old ≤ S.long_reads shelf.new }
     ensures ok { IfOk result (λ report. SaysReport (S.files shelf.old) name.now (Ok report)) }
-    ensures one { OnOk result (ReadsOne
-        (counts (S.reads shelf.old) (S.long_reads shelf.old) (S.faults shelf.old))
-        (counts (S.reads shelf.new) (S.long_reads shelf.new) (S.faults shelf.new))) }
+    ensures one { OnOk result (ReadsReportFile name.now Given
+        (trail (S.log shelf.old) (S.faults shelf.old))
+        (trail (S.log shelf.new) (S.faults shelf.new))) }
     ensures err { IfErr result (ReportFileFails (S.files shelf.old) name.now
-        (counts (S.reads shelf.old) (S.long_reads shelf.old) (S.faults shelf.old))
-        (counts (S.reads shelf.new) (S.long_reads shelf.new) (S.faults shelf.new))) }
+        (trail (S.log shelf.old) (S.faults shelf.old))
+        (trail (S.log shelf.new) (S.faults shelf.new))) }
 {
     let bytes = report_bytes(alloc, shelf, name)?;
     report_of(alloc, &bytes)

@@ -4,7 +4,7 @@ ghost use Rattle.std.specs.Prelude.{◌≡◌, ◌≢◌, ◌≤◌, IfOk, IfErr
 ghost use Rattle.sg_bounds.specs.Accepted.{IsAccepted};
 ghost use Rattle.sg_report.specs.Tables.{IsTable};
 ghost use Rattle.sg_words.specs.Commands as commands;
-ghost use Rattle.sg_cli.specs.ShelfReads.{counts};
+ghost use Rattle.sg_cli.specs.ShelfReads.{trail};
 ghost use Rattle.sg_cli.specs.Scenes.{scene};
 ghost use Rattle.sg_cli.specs.Causes.{ComesOf};
 ghost use Rattle.sg_cli.specs.Runs.{IsDone};
@@ -54,17 +54,15 @@ pub(crate) fn show_named<S: Shelf, O: Sink>(
 ) -> Result<u8, Refusal>
     ensures files { S.files shelf.new ≡ S.files shelf.old }
     ensures faults { S.faults shelf.old ≤ S.faults shelf.new }
-    ensures reads { S.reads shelf.old ≤ S.reads shelf.new }
-    ensures long_reads { S.long_reads shelf.old ≤ S.long_reads shelf.new }
     ensures out_faults { O.faults out.old ≤ O.faults out.new }
     ensures kept { IfErr result (λ e. e ≢ Refusal.NotWritten → out.new ≡ out.old) }
     ensures ok { IfOk result (IsDone (scene (Some (commands.show name.now report.now)) (S.files shelf.old)
-        (counts (S.reads shelf.old) (S.long_reads shelf.old) (S.faults shelf.old))
-        (counts (S.reads shelf.new) (S.long_reads shelf.new) (S.faults shelf.new))
+        (trail (S.log shelf.old) (S.faults shelf.old))
+        (trail (S.log shelf.new) (S.faults shelf.new))
         (O.faults out.old) (O.faults out.new) (O.taken out.old) (O.taken out.new))) }
     ensures err { IfErr result (ComesOf (scene (Some (commands.show name.now report.now)) (S.files shelf.old)
-        (counts (S.reads shelf.old) (S.long_reads shelf.old) (S.faults shelf.old))
-        (counts (S.reads shelf.new) (S.long_reads shelf.new) (S.faults shelf.new))
+        (trail (S.log shelf.old) (S.faults shelf.old))
+        (trail (S.log shelf.new) (S.faults shelf.new))
         (O.faults out.old) (O.faults out.new) (O.taken out.old) (O.taken out.new))) }
 {
     let pair = match accepted_named(alloc, name, report, shelf) {

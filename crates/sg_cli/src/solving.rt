@@ -2,7 +2,8 @@
 
 ghost use Rattle.std.specs.Prelude.{◌≡◌, ◌≢◌, ◌≤◌, IfOk, IfErr, OnOk, Some};
 ghost use Rattle.sg_words.specs.Commands as commands;
-ghost use Rattle.sg_cli.specs.ShelfReads.{ReadsOne, counts};
+ghost use Rattle.sg_shelf.specs.declared.log.Outcome.TheVariants.{Given};
+ghost use Rattle.sg_cli.specs.ShelfReads.{ReadsGameFile, trail};
 ghost use Rattle.sg_cli.specs.Scenes.{scene};
 ghost use Rattle.sg_cli.specs.Causes.{ComesOf, Fails};
 ghost use Rattle.sg_cli.specs.Solutions.{IsSolved, IsAnswer};
@@ -47,15 +48,13 @@ fn solved(alloc: Global, game: &Game) -> Result<Report, Refusal>
 fn solution_named<S: Shelf>(alloc: Global, name: &str, shelf: &mut S) -> Result<Report, Refusal>
     ensures files { S.files shelf.new ≡ S.files shelf.old }
     ensures faults { S.faults shelf.old ≤ S.faults shelf.new }
-    ensures reads { S.reads shelf.old ≤ S.reads shelf.new }
-    ensures long_reads { S.long_reads shelf.old ≤ S.long_reads shelf.new }
     ensures ok { IfOk result (HasSolution (S.files shelf.old) name.now) }
-    ensures one { OnOk result (ReadsOne
-        (counts (S.reads shelf.old) (S.long_reads shelf.old) (S.faults shelf.old))
-        (counts (S.reads shelf.new) (S.long_reads shelf.new) (S.faults shelf.new))) }
+    ensures one { OnOk result (ReadsGameFile name.now Given
+        (trail (S.log shelf.old) (S.faults shelf.old))
+        (trail (S.log shelf.new) (S.faults shelf.new))) }
     ensures err { IfErr result (Fails (S.files shelf.old)
-        (counts (S.reads shelf.old) (S.long_reads shelf.old) (S.faults shelf.old))
-        (counts (S.reads shelf.new) (S.long_reads shelf.new) (S.faults shelf.new)) (commands.solve name.now)) }
+        (trail (S.log shelf.old) (S.faults shelf.old))
+        (trail (S.log shelf.new) (S.faults shelf.new)) (commands.solve name.now)) }
 {
     let game = game_named(alloc, shelf, name)?;
     solved(alloc, &game)
@@ -70,17 +69,15 @@ pub(crate) fn solve_named<S: Shelf, O: Sink>(
 ) -> Result<u8, Refusal>
     ensures files { S.files shelf.new ≡ S.files shelf.old }
     ensures faults { S.faults shelf.old ≤ S.faults shelf.new }
-    ensures reads { S.reads shelf.old ≤ S.reads shelf.new }
-    ensures long_reads { S.long_reads shelf.old ≤ S.long_reads shelf.new }
     ensures out_faults { O.faults out.old ≤ O.faults out.new }
     ensures kept { IfErr result (λ e. e ≢ Refusal.NotWritten → out.new ≡ out.old) }
     ensures ok { IfOk result (IsDone (scene (Some (commands.solve name.now)) (S.files shelf.old)
-        (counts (S.reads shelf.old) (S.long_reads shelf.old) (S.faults shelf.old))
-        (counts (S.reads shelf.new) (S.long_reads shelf.new) (S.faults shelf.new))
+        (trail (S.log shelf.old) (S.faults shelf.old))
+        (trail (S.log shelf.new) (S.faults shelf.new))
         (O.faults out.old) (O.faults out.new) (O.taken out.old) (O.taken out.new))) }
     ensures err { IfErr result (ComesOf (scene (Some (commands.solve name.now)) (S.files shelf.old)
-        (counts (S.reads shelf.old) (S.long_reads shelf.old) (S.faults shelf.old))
-        (counts (S.reads shelf.new) (S.long_reads shelf.new) (S.faults shelf.new))
+        (trail (S.log shelf.old) (S.faults shelf.old))
+        (trail (S.log shelf.new) (S.faults shelf.new))
         (O.faults out.old) (O.faults out.new) (O.taken out.old) (O.taken out.new))) }
 {
     let report = match solution_named(alloc, name, shelf) {

@@ -1,12 +1,12 @@
 //! Faults of the outside: reads, writes and tellings that fail, and a report that is too long.
 
-ghost use Rattle.std.specs.Prelude.{◌≡◌, ◌≤◌, None};
-ghost use Rattle.sg_shelf.specs.Faults.{raised};
+ghost use Rattle.std.specs.Prelude.{◌≡◌, OnOk, OnErr, IfErr, None};
+ghost use Rattle.sg_shelf.specs.Logs.{log_of, logged};
 
 use crate::reports::{MET_REPORT, TWO_ROWS};
 use crate::scenes::{Answer, Failing, NO_PUT, answers_on, shelf_of, sink_of, words_of};
 use sg_cli::run;
-use sg_shelf::{Shelf, ShelfError};
+use sg_shelf::{Outcome, Reading, Shelf, ShelfError};
 use std::alloc::{AllocError, Global};
 use std::test::*;
 
@@ -147,54 +147,72 @@ fn writes_after_a_failed_telling(alloc: Global) -> Result<bool, AllocError> {
     Ok(first == 4 && second == 0 && out.bytes() == SOLVED.as_bytes())
 }
 
-/// The count raised by one, or at its last value.
-fn one_more(count: u64) -> u64
-    ensures at_least { count ≤ result }
-    ensures raised { result ≡ raised count }
-{
-    count.saturating_add(1)
-}
-
-/// A shelf that tells nothing, with one game and a report that is too long.
+/// A shelf that tells no file, with one game and a report that is too long. It logs its reads.
 #[derive(Drop)]
 struct LongReport {
     game: Vec<u8>,
-    reads: u64,
-    long_reads: u64,
+    log: Vec<Reading>,
+}
+
+/// Adds a reading to the log.
+fn keep(
+    alloc: Global,
+    log: &mut Vec<Reading>,
+    name: &str,
+    limit: usize,
+    outcome: Outcome,
+) -> Result<(), ShelfError>
+    ensures ok { OnOk result (log_of log.new.items ≡ logged (log_of log.old.items) name.now limit outcome) }
+    ensures err { IfErr result (λ error. error ≡ ShelfError.Memory) }
+    ensures kept { OnErr result (log.new.items ≡ log.old.items) }
+{
+    let name = match String::from_str(alloc, name) {
+        Ok(name) => name,
+        Err(_) => return Err(ShelfError::Memory),
+    };
+    match log.push(Reading { name, limit, outcome }) {
+        Ok(()) => Ok(()),
+        Err(_) => Err(ShelfError::Memory),
+    }
 }
 
 impl Shelf for LongReport {
+    ghost use Rattle.sg_shelf.specs.Logs.{log_of};
+
     ghost files = { λ shelf. None };
 
     ghost faults = { λ shelf. 0 };
 
-    ghost reads = { λ shelf. shelf.reads };
-
-    ghost long_reads = { λ shelf. shelf.long_reads };
+    ghost log = { λ shelf. log_of shelf.log.items };
 
     fn read(&mut self, alloc: Global, name: &str, limit: usize) -> Result<Vec<u8>, ShelfError> {
-        let read = one_more(self.reads);
-        let long_read = one_more(self.long_reads);
         if name == "report" {
-            self.reads = read;
-            self.long_reads = long_read;
+            keep(alloc, &mut self.log, name, limit, Outcome::TooLong)?;
             return Err(ShelfError::TooLong { seen: 536_870_913 });
         }
         if self.game.len() > limit {
-            self.reads = read;
-            self.long_reads = long_read;
+            keep(alloc, &mut self.log, name, limit, Outcome::TooLong)?;
             return Err(ShelfError::TooLong {
                 seen: self.game.len() as u64,
             });
         }
-        match Vec::from_slice(alloc, &self.game) {
-            Ok(bytes) => {
-                self.reads = read;
-                Ok(bytes)
-            }
-            Err(_) => Err(ShelfError::Memory),
-        }
+        let bytes = match Vec::from_slice(alloc, &self.game) {
+            Ok(bytes) => bytes,
+            Err(_) => return Err(ShelfError::Memory),
+        };
+        keep(alloc, &mut self.log, name, limit, Outcome::Given)?;
+        Ok(bytes)
     }
+}
+
+/// Whether these are the readings of the log, in order.
+fn is_logged(log: &[Reading], readings: &[(&str, usize, Outcome)]) -> bool {
+    log.len() == readings.len()
+        && log.iter().zip(readings).all(|(reading, (name, limit, outcome))| {
+            reading.name.as_str() == *name
+                && reading.limit == *limit
+                && reading.outcome == *outcome
+        })
 }
 
 /// Whether a command refuses a report that is too long.
@@ -202,8 +220,7 @@ fn refuses_a_long_report(alloc: Global, words: &[&str]) -> Result<bool, AllocErr
     let game = Vec::from_slice(alloc, TWO_ROWS.as_bytes())?;
     let mut shelf = LongReport {
         game,
-        reads: 0,
-        long_reads: 0,
+        log: Vec::new(alloc),
     };
     let expected = Answer {
         status: 5,
@@ -211,7 +228,11 @@ fn refuses_a_long_report(alloc: Global, words: &[&str]) -> Result<bool, AllocErr
         err: "report too long\n",
     };
     let answered = answers_on(alloc, words, &mut shelf, &NO_PUT, &expected)?;
-    Ok(answered && shelf.reads == 2 && shelf.long_reads == 1)
+    let readings = [
+        ("game.toml", 4_194_304, Outcome::Given),
+        ("report", 536_870_912, Outcome::TooLong),
+    ];
+    Ok(answered && is_logged(&shelf.log, &readings))
 }
 
 #[test]

@@ -1,7 +1,7 @@
 pub mod Faults
 pub mod Files
 pub mod ShelfErrors
-pub mod Counts
+pub mod Logs
 pub mod Taken
 pub mod Calls
 pub mod NamedFiles

@@ -21,15 +21,3 @@ abbrev pub faults_after : ShelfError → ℕ → ℕ
 faults_after Failed count = raised count
 faults_after (TooLong seen) count = count
 faults_after Memory count = count
-
--- the count of reads after the error: all but want of memory answers one more
-abbrev pub reads_after : ShelfError → ℕ → ℕ
-reads_after Failed count = raised count
-reads_after (TooLong seen) count = raised count
-reads_after Memory count = count
-
--- the count of long reads after the error: too many bytes are one more
-abbrev pub long_reads_after : ShelfError → ℕ → ℕ
-long_reads_after Failed count = count
-long_reads_after (TooLong seen) count = raised count
-long_reads_after Memory count = count

@@ -1,18 +1,18 @@
 -- What a shelf in memory holds, and what a read of it answers and leaves.
-use Rattle.std.specs.Prelude.{◌≡◌, ℕ, ◌+◌, List, length, Bool, ◌||◌, nat_lt, Option, Some, None, Result, Ok, Err, IsOk, if◌then◌else◌}
+use Rattle.std.specs.Prelude.{◌≡◌, ℕ, ◌+◌, List, length, Bool, ◌||◌, nat_lt, Option, Some, None, Result, Ok, Err, if◌then◌else◌}
 use Rattle.sg_shelf.specs.declared.shelf.ShelfError.{ShelfError}
 use Rattle.sg_shelf.specs.declared.shelf.ShelfError.TheVariants.{Failed, TooLong, Memory}
 use Rattle.sg_shelf.specs.Faults.{raised}
-use Rattle.sg_shelf.specs.ShelfErrors.{long_reads_after}
+use Rattle.sg_shelf.specs.Logs.{Log, log_with, outcome_of}
 use Rattle.sg_shelf.specs.Files.{Files, held}
 use Rattle.sg_shelf.specs.Calls.{is_spent, is_to_fail}
 
--- the files, the numbers of the reads that are to fail, and the reads, the long ones among them and the faults so far
+-- the files, the numbers of the reads that are to fail, the reads that were answered, how many these are, and the faults so far
 pub record ShelfState : Type 0 where
   pub files : Files
   pub fails : List ℕ
+  pub log : Log
   pub calls : ℕ
-  pub long_reads : ℕ
   pub faults : ℕ
 
 -- The next read is a fault: it is to fail, or a count stands at its last value.
@@ -28,21 +28,16 @@ answer_of (Some bytes) limit = if nat_lt limit (length bytes) then Err (TooLong 
 abbrev pub read_answer : ShelfState → List ℕ → ℕ → Result (List ℕ) ShelfError
 read_answer shelf name limit = if read_is_fault shelf then Err Failed else answer_of (held shelf.files name) limit
 
--- the count of long reads after the answer
-abbrev pub long_after : Result (List ℕ) ShelfError → ℕ → ℕ
-long_after (Ok bytes) count = count
-long_after (Err error) count = long_reads_after error count
-
--- the shelf after the read: one more call, one more long read where it is too long, and one more fault where it is one
+-- the shelf after the read: one more entry of the log, one more call, and one more fault where it is one
 abbrev pub after_read : ShelfState → List ℕ → ℕ → ShelfState
 after_read shelf name limit = record shelf {
+  log = log_with shelf.log name limit (outcome_of (read_answer shelf name limit));
   calls = raised shelf.calls;
-  long_reads = long_after (read_answer shelf name limit) shelf.long_reads;
   faults = if read_is_fault shelf then raised shelf.faults else shelf.faults;
 }
 
--- The read fails so. Want of memory comes only in place of bytes, and leaves the shelf as it was.
+-- The read fails so. Want of memory comes at any time, and leaves the shelf as it was.
 abbrev pub ReadFails : ShelfState → ShelfState → List ℕ → ℕ → ShelfError → Type 0
 ReadFails before after name limit Failed = (read_answer before name limit ≡ Err Failed) × (after ≡ after_read before name limit)
 ReadFails before after name limit (TooLong seen) = (read_answer before name limit ≡ Err (TooLong seen)) × (after ≡ after_read before name limit)
-ReadFails before after name limit Memory = IsOk (read_answer before name limit) × (after ≡ before)
+ReadFails before after name limit Memory = after ≡ before

@@ -1,14 +1,14 @@
 //! A shelf over the files of std.
 
-ghost use Rattle.std.specs.Prelude.{◌≡◌, ◌+◌, ◌*◌, ◌-◌, ◌^◌, ◌<◌, ◌≤◌, ◌++◌, min, max, length, ℕ, None, IfOk, IfErr, OnOk, IsErr, IsErrOf, vec_len, vec_capacity};
+ghost use Rattle.std.specs.Prelude.{◌≡◌, ◌+◌, ◌*◌, ◌-◌, ◌^◌, ◌<◌, ◌≤◌, ◌++◌, [], min, max, length, ℕ, None, IfOk, IfErr, OnOk, IsErr, IsErrOf, vec_len, vec_capacity};
 ghost use Rattle.std.specs.Io.KnownBytes.{Consumes, IsAtEnd};
-ghost use Rattle.sg_shelf.specs.Faults.{raised};
-ghost use Rattle.sg_shelf.specs.Counts.{ShelfCounts};
+ghost use Rattle.sg_shelf.specs.Logs.{logged, log_after};
 ghost use Rattle.sg_shelf.specs.ReaderState.{GivesAtMost, MayHaveMore};
-ghost use Rattle.sg_shelf.specs.ShelfErrors.{IsFailedOrMemory, faults_after, reads_after, long_reads_after};
+ghost use Rattle.sg_shelf.specs.ShelfErrors.{IsFailedOrMemory, faults_after};
+ghost use Rattle.sg_shelf.specs.declared.log.Outcome.TheVariants as Outcome;
 ghost use Rattle.sg_shelf.specs.declared.shelf.ShelfError.TheVariants.{Failed, TooLong, Memory};
 
-use crate::faults::raised_unless;
+use crate::log::{Reading, append, outcome_of, prepared};
 use crate::shelf::{Shelf, ShelfError};
 use crate::source::Source;
 use std::alloc::{AllocError, Global};
@@ -22,36 +22,31 @@ use std::rt::Files;
 const CHUNK: usize = 65_536;
 
 /// Reads the files of std, where a name is a path. A file that doesn't open and a read that fails, also one
-/// that a signal interrupts, are a fault each. Clauses see it as its counts.
+/// that a signal interrupts, are a fault each. Clauses see it as its log and its count.
 #[derive(Drop)]
 pub struct FileShelf<R: Files> {
     files: R,
-    reads: u64,
-    long_reads: u64,
+    log: Vec<Reading>,
     faults: u64,
 }
 
 impl<R: Files> Model for FileShelf<R> {
-    ghost use Rattle.sg_shelf.specs.Counts.{ShelfCounts};
+    ghost use Rattle.sg_shelf.specs.Logs.{Trail, log_of};
 
-    ghost Value = { ShelfCounts };
+    ghost Value = { Trail };
 
-    ghost view = { λ shelf. record {
-      reads = shelf.reads;
-      long_reads = shelf.long_reads;
-      faults = shelf.faults;
-    } };
+    ghost view = { λ shelf. record { log = log_of shelf.log.items; faults = shelf.faults } };
 }
 
-impl<R: Files> FileShelf<R> {
+impl<R: Files + AllocGlobal> FileShelf<R> {
     /// A shelf over these files, the runtime or a reference to it, that has been read no time.
     pub fn new(files: R) -> FileShelf<R>
-        ensures { result ≡ record { reads = 0; long_reads = 0; faults = 0 } }
+        ensures { result ≡ record { log = []; faults = 0 } }
     {
+        let log = Vec::new(files.alloc());
         FileShelf {
             files,
-            reads: 0,
-            long_reads: 0,
+            log,
             faults: 0,
         }
     }
@@ -62,38 +57,33 @@ impl<R: Files> Shelf for FileShelf<R> {
 
     ghost faults = { λ shelf. shelf.faults };
 
-    ghost reads = { λ shelf. shelf.reads };
-
-    ghost long_reads = { λ shelf. shelf.long_reads };
+    ghost log = { λ shelf. shelf.log };
 
     fn read(&mut self, alloc: Global, name: &str, limit: usize) -> Result<Vec<u8>, ShelfError>
         requires { limit ≤ 536870912 }
 
         ensures count { self.old.faults ≤ self.new.faults }
         ensures last_count { self.new.faults ≤ 2 ^ 64 - 1 }
-        ensures read_count { self.old.reads ≤ self.new.reads }
-        ensures last_read { self.new.reads ≤ 2 ^ 64 - 1 }
-        ensures long_read_count { self.old.long_reads ≤ self.new.long_reads }
-        ensures last_long_read { self.new.long_reads ≤ 2 ^ 64 - 1 }
         ensures within { IfOk result (λ bytes. vec_len bytes ≤ limit) }
         ensures long { (seen : ℕ) → IsErrOf result (TooLong seen) → seen ≡ limit + 1 }
 
-        // It counts a read unless it wants memory, a long read exactly where it answers that the file is too long, and a fault
-        // exactly where it answers that it failed.
-        ensures read { OnOk result (self.new.reads ≡ raised self.old.reads) }
-        ensures failed_read { IfErr result (λ error. self.new.reads ≡ reads_after error self.old.reads) }
-        ensures no_long_read { OnOk result (self.new.long_reads ≡ self.old.long_reads) }
-        ensures long_read { IfErr result (λ error. self.new.long_reads ≡ long_reads_after error self.old.long_reads) }
+        // It logs each read unless it wants memory, and counts a fault exactly where it answers that it failed.
+        ensures given { OnOk result (self.new.log ≡ logged self.old.log name.now limit Outcome.Given) }
+        ensures not_given { IfErr result (λ error. self.new.log ≡ log_after error name.now limit self.old.log) }
         ensures no_fault { OnOk result (self.new.faults ≡ self.old.faults) }
         ensures fault { IfErr result (λ error. self.new.faults ≡ faults_after error self.old.faults) }
         ensures memory { IsErrOf result Memory → self.new ≡ self.old }
     {
+        let mut faults = self.faults;
+        let prepared = match prepared(alloc, &mut self.log, name) {
+            Ok(prepared) => prepared,
+            Err(_) => return Err(ShelfError::Memory),
+        };
         let opened = File::open(&self.files, name);
-        let answer = read_opened(alloc, opened, limit, &mut self.faults);
-        let is_unanswered = matches!(answer, Err(ShelfError::Memory));
-        self.reads = raised_unless(is_unanswered, self.reads);
-        let is_within = !matches!(answer, Err(ShelfError::TooLong { .. }));
-        self.long_reads = raised_unless(is_within, self.long_reads);
+        let answer = read_opened(alloc, opened, limit, &mut faults);
+        self.faults = faults;
+        let outcome = outcome_of(&answer);
+        append(&mut self.log, prepared, limit, outcome);
         answer
     }
 }
@@ -215,6 +205,7 @@ fn make_room(bytes: &mut Vec<u8>, needed: usize, most: usize) -> Result<(), Allo
 #[cfg(test)]
 mod tests {
     use super::*;
+    use crate::log::{Outcome, is_logged};
     use crate::shelf::Shelf;
     use std::test::Fail;
     use std::{env, fs, process};
@@ -278,14 +269,26 @@ mod tests {
         assert!(rt; shelf.read(alloc, "/dev/null", 0)?.is_empty());
         let endless = shelf.read(alloc, "/dev/zero", 10);
         assert!(rt; matches!(endless, Err(ShelfError::TooLong { seen: 11 })));
-        assert_eq!(rt; (shelf.reads, shelf.long_reads, shelf.faults), (4, 2, 0));
+        assert_eq!(rt; shelf.faults, 0);
 
         for (name, faults) in [("/no/such/file", 1), ("/", 2)] {
             let failed = shelf.read(alloc, name, 10);
             assert!(rt; matches!(failed, Err(ShelfError::Failed)), "{name}");
             assert_eq!(rt; shelf.faults, faults, "{name}");
         }
-        assert_eq!(rt; (shelf.reads, shelf.long_reads), (6, 2));
+        assert!(rt;
+            is_logged(
+                &shelf.log,
+                &[
+                    (&path, Outcome::Given),
+                    (&path, Outcome::TooLong),
+                    ("/dev/null", Outcome::Given),
+                    ("/dev/zero", Outcome::TooLong),
+                    ("/no/such/file", Outcome::Failed),
+                    ("/", Outcome::Failed),
+                ],
+            )
+        );
         Ok(())
     }
 }

@@ -1,10 +1,14 @@
 //! A shelf in memory.
 
-ghost use Rattle.std.specs.Prelude.{◌≡◌, ◌-◌, ◌^◌, ◌≤◌, Ok, IfOk, OnOk, IfErr, Some, option_copied};
+ghost use Rattle.std.specs.Prelude.{◌≡◌, ◌≢◌, [], ◌-◌, ◌^◌, ◌≤◌, Ok, Err, IfOk, OnOk, IfErr, Some, option_copied};
 ghost use Rattle.sg_shelf.specs.Files.{held};
+ghost use Rattle.sg_shelf.specs.Logs.{log_of};
 ghost use Rattle.sg_shelf.specs.NamedFiles.{files_of};
-ghost use Rattle.sg_shelf.specs.ShelfState.{ShelfState, read_answer, after_read, ReadFails};
+ghost use Rattle.sg_shelf.specs.ShelfState.{ShelfState, answer_of, read_is_fault, read_answer, after_read, ReadFails};
+ghost use Rattle.sg_shelf.specs.declared.shelf.ShelfError.TheVariants.{Memory};
 
+use crate::faults::raised_unless;
+use crate::log::{Reading, append, outcome_of, prepared};
 use crate::shelf::{Shelf, ShelfError};
 use std::alloc::Global;
 use std::marker::Model;
@@ -18,17 +22,18 @@ pub struct NamedBytes {
 
 /// Holds files in memory, and tells them. Of two files with one name the first counts. A read is a fault where
 /// its number, counted from 1, is in `fails`, and where the count of reads or that of faults stands at its last
-/// value. A read that finds no memory is not counted.
+/// value. A read that finds no memory is not counted, and not logged.
 #[derive(Debug, Drop)]
 pub struct MemShelf {
     files: Vec<NamedBytes>,
     fails: Vec<u64>,
+    log: Vec<Reading>,
     calls: u64,
-    long_reads: u64,
     faults: u64,
 }
 
 impl Model for MemShelf {
+    ghost use Rattle.sg_shelf.specs.Logs.{log_of};
     ghost use Rattle.sg_shelf.specs.NamedFiles.{files_of};
     ghost use Rattle.sg_shelf.specs.ShelfState.{ShelfState};
 
@@ -37,8 +42,8 @@ impl Model for MemShelf {
     ghost view = { λ shelf. record {
       files = files_of shelf.files.items;
       fails = shelf.fails.items;
+      log = log_of shelf.log.items;
       calls = shelf.calls;
-      long_reads = shelf.long_reads;
       faults = shelf.faults;
     } };
 }
@@ -46,15 +51,23 @@ impl Model for MemShelf {
 impl MemShelf {
     /// A shelf of these files, that has been read no time.
     pub fn new(files: Vec<NamedBytes>, fails: Vec<u64>) -> MemShelf
-        ensures { result ≡ record { files = files_of files.items; fails = fails.items; calls = 0; long_reads = 0; faults = 0 } }
+        ensures { result ≡ record { files = files_of files.items; fails = fails.items; log = []; calls = 0; faults = 0 } }
     {
+        let log = Vec::new(*fails.allocator());
         MemShelf {
             files,
             fails,
+            log,
             calls: 0,
-            long_reads: 0,
             faults: 0,
         }
+    }
+
+    /// The reads that it answered, in order.
+    pub fn log(&self) -> &[Reading]
+        ensures { log_of result.now ≡ self.now.log }
+    {
+        &self.log
     }
 }
 
@@ -70,62 +83,83 @@ fn bytes_of<'a>(files: &'a [NamedBytes], name: &str) -> Option<&'a [u8]>
     None
 }
 
+// What a read up to the limit answers of the bytes under a name.
+fn answer_of(alloc: Global, bytes: Option<&[u8]>, limit: usize) -> Result<Vec<u8>, ShelfError>
+    ensures answer { IfOk result (λ given. answer_of (option_copied bytes.entry) limit ≡ Ok given.items) }
+    ensures fails { IfErr result (λ error. error ≢ Memory → answer_of (option_copied bytes.entry) limit ≡ Err error) }
+{
+    let bytes = match bytes {
+        Some(bytes) => bytes,
+        None => return Err(ShelfError::Failed),
+    };
+    if bytes.len() > limit {
+        return Err(ShelfError::TooLong {
+            seen: bytes.len() as u64,
+        });
+    }
+    match Vec::from_slice(alloc, bytes) {
+        Ok(bytes) => Ok(bytes),
+        Err(_) => Err(ShelfError::Memory),
+    }
+}
+
+impl MemShelf {
+    // Whether the next read is a fault.
+    fn is_due_to_fail(&self) -> bool
+        ensures { result ≡ read_is_fault self.now }
+    {
+        let is_spent = self.calls == u64::MAX || self.faults == u64::MAX;
+        is_spent || self.fails.contains(&self.calls.saturating_add(1))
+    }
+
+    // What the next read answers.
+    fn answer(&self, alloc: Global, name: &str, limit: usize) -> Result<Vec<u8>, ShelfError>
+        ensures answer { IfOk result (λ given. read_answer self.now name.now limit ≡ Ok given.items) }
+        ensures fails { IfErr result (λ error. error ≢ Memory → read_answer self.now name.now limit ≡ Err error) }
+    {
+        if self.is_due_to_fail() {
+            return Err(ShelfError::Failed);
+        }
+        answer_of(alloc, bytes_of(&self.files, name), limit)
+    }
+}
+
 impl Shelf for MemShelf {
     ghost files = { λ shelf. Some shelf.files };
 
     ghost faults = { λ shelf. shelf.faults };
 
-    ghost reads = { λ shelf. shelf.calls };
-
-    ghost long_reads = { λ shelf. shelf.long_reads };
+    ghost log = { λ shelf. shelf.log };
 
     fn read(&mut self, alloc: Global, name: &str, limit: usize) -> Result<Vec<u8>, ShelfError>
         ensures count { self.old.faults ≤ self.new.faults }
         ensures last_count { self.new.faults ≤ 2 ^ 64 - 1 }
-        ensures read_count { self.old.calls ≤ self.new.calls }
-        ensures last_read { self.new.calls ≤ 2 ^ 64 - 1 }
-        ensures long_read_count { self.old.long_reads ≤ self.new.long_reads }
-        ensures last_long_read { self.new.long_reads ≤ 2 ^ 64 - 1 }
 
         ensures answer { IfOk result (λ bytes. read_answer self.old name.now limit ≡ Ok bytes.items) }
         ensures after { OnOk result (self.new ≡ after_read self.old name.now limit) }
         ensures fails { IfErr result (ReadFails self.old self.new name.now limit) }
     {
-        let is_spent = self.calls == u64::MAX || self.faults == u64::MAX;
-        let call = self.calls.saturating_add(1);
-        let long_read = self.long_reads.saturating_add(1);
-        if is_spent || self.fails.contains(&call) {
-            self.calls = call;
-            self.faults = self.faults.saturating_add(1);
-            return Err(ShelfError::Failed);
-        }
-        let bytes = match bytes_of(&self.files, name) {
-            Some(bytes) => bytes,
-            None => {
-                self.calls = call;
-                return Err(ShelfError::Failed);
-            }
+        let calls = self.calls.saturating_add(1);
+        let faults = raised_unless(!self.is_due_to_fail(), self.faults);
+        let prepared = match prepared(alloc, &mut self.log, name) {
+            Ok(prepared) => prepared,
+            Err(_) => return Err(ShelfError::Memory),
         };
-        if bytes.len() > limit {
-            self.calls = call;
-            self.long_reads = long_read;
-            return Err(ShelfError::TooLong {
-                seen: bytes.len() as u64,
-            });
+        let answer = self.answer(alloc, name, limit);
+        let outcome = outcome_of(&answer);
+        if outcome.is_some() {
+            self.calls = calls;
+            self.faults = faults;
         }
-        match Vec::from_slice(alloc, bytes) {
-            Ok(bytes) => {
-                self.calls = call;
-                Ok(bytes)
-            }
-            Err(_) => Err(ShelfError::Memory),
-        }
+        append(&mut self.log, prepared, limit, outcome);
+        answer
     }
 }
 
 #[cfg(test)]
 mod tests {
     use super::*;
+    use crate::log::{Outcome, is_logged};
     use std::alloc::AllocError;
     use std::test::Fail;
 
@@ -169,7 +203,19 @@ mod tests {
             assert_eq!(rt; shelf.faults, faults, "{name} up to {limit}");
         }
         assert_eq!(rt; shelf.calls, 6);
-        assert_eq!(rt; shelf.long_reads, 1);
+        assert!(rt;
+            is_logged(
+                &shelf.log,
+                &[
+                    ("a", Outcome::Given),
+                    ("a", Outcome::Failed),
+                    ("a", Outcome::TooLong),
+                    ("c", Outcome::Failed),
+                    ("c", Outcome::Failed),
+                    ("b", Outcome::Given),
+                ],
+            )
+        );
         Ok(())
     }
 
@@ -185,8 +231,8 @@ mod tests {
             let mut shelf = MemShelf {
                 files: files(alloc)?,
                 fails: Vec::new(alloc),
+                log: Vec::new(alloc),
                 calls,
-                long_reads: 0,
                 faults,
             };
             let read = shelf.read(alloc, "a", 3);

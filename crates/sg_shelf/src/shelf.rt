@@ -1,9 +1,11 @@
 //! Where files are read.
 
 ghost use Rattle.std.specs.Prelude.{◌≡◌, ◌⊎◌, ◌-◌, ◌^◌, ◌≤◌, ◌<◌, ℕ, Option, IfOk, IfErr, OnOk, IsErrOf, IsErrAnd, IsSome};
-ghost use Rattle.sg_shelf.specs.Faults.{HasRisen, HasNotRisen, raised};
+ghost use Rattle.sg_shelf.specs.Faults.{HasRisen, HasNotRisen};
 ghost use Rattle.sg_shelf.specs.Files.{Files, Reads, IsMissing, IsLong};
-ghost use Rattle.sg_shelf.specs.ShelfErrors.{IsTooLongOrMemory, IsFailedOrMemory, reads_after, long_reads_after};
+ghost use Rattle.sg_shelf.specs.Logs.{Log, logged, log_after};
+ghost use Rattle.sg_shelf.specs.ShelfErrors.{IsTooLongOrMemory, IsFailedOrMemory};
+ghost use Rattle.sg_shelf.specs.declared.log.Outcome.TheVariants as Outcome;
 ghost use Rattle.sg_shelf.specs.declared.shelf.ShelfError.TheVariants.{Failed, TooLong, Memory};
 
 use std::alloc::Global;
@@ -31,30 +33,21 @@ pub trait Shelf {
     /// How many faults it has counted, 2^64 - 1 at most.
     ghost faults: { Self → ℕ };
 
-    /// How many reads it has answered, 2^64 - 1 at most. Want of memory is no answer.
-    ghost reads: { Self → ℕ };
-
-    /// How many of them it answered by `TooLong`, 2^64 - 1 at most.
-    ghost long_reads: { Self → ℕ };
+    /// The reads that it answered, in order: each name and limit, and whether it gave the bytes. Want of memory is no answer.
+    ghost log: { Self → Log };
 
     /// Reads a file of at most `limit` bytes, which may be 512 MiB at most.
     fn read(&mut self, alloc: Global, name: &str, limit: usize) -> Result<Vec<u8>, ShelfError>
         requires { limit ≤ 536870912 }
 
-        // No read changes the files, or whether they are told. No count falls.
+        // No read changes the files, or whether they are told. The count never falls.
         ensures files { files self.new ≡ files self.old }
         ensures count { faults self.old ≤ faults self.new }
         ensures last_count { faults self.new ≤ 2 ^ 64 - 1 }
-        ensures read_count { reads self.old ≤ reads self.new }
-        ensures last_read { reads self.new ≤ 2 ^ 64 - 1 }
-        ensures long_read_count { long_reads self.old ≤ long_reads self.new }
-        ensures last_long_read { long_reads self.new ≤ 2 ^ 64 - 1 }
 
-        // Every answer but want of memory is one more read, and one more long read exactly where it is `TooLong`.
-        ensures read { OnOk result (reads self.new ≡ raised (reads self.old)) }
-        ensures failed_read { IfErr result (λ error. reads self.new ≡ reads_after error (reads self.old)) }
-        ensures no_long_read { OnOk result (long_reads self.new ≡ long_reads self.old) }
-        ensures long_read { IfErr result (λ error. long_reads self.new ≡ long_reads_after error (long_reads self.old)) }
+        // Every answer but want of memory is one more entry of the log, and none is lost.
+        ensures given { OnOk result (log self.new ≡ logged (log self.old) name.now limit Outcome.Given) }
+        ensures not_given { IfErr result (λ error. log self.new ≡ log_after error name.now limit (log self.old)) }
 
         ensures bytes { IfOk result (λ bytes. Reads (files self.old) name.now limit bytes.items) }
 

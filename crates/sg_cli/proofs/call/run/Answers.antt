@@ -2,7 +2,7 @@ use Rattle.std.proofs.Common.{List, subst}
 use Rattle.std.specs.Prelude.{String}
 use Rattle.std.specs.declared.alloc.Global.{Global}
 use Rattle.sg_words.specs.Commands.{command_given}
-use Rattle.sg_cli.specs.ShelfReads.{counts}
+use Rattle.sg_cli.specs.ShelfReads.{trail}
 use Rattle.sg_cli.specs.Scenes.{scene, texts}
 use Rattle.sg_cli.specs.Causes.{ComesOf}
 use Rattle.sg_cli.proofs.Completes.{answers_complete}
@@ -13,8 +13,8 @@ pub returns-in-Err-clause-complete : goal.returns-in-Err-clause-complete
 returns-in-Err-clause-complete g c =
     let cause = subst (λ (words : List (String Global)). ComesOf (scene (command_given (texts words))
     (g.S.Shelf.files c.args.shelf.now)
-    (counts (g.S.Shelf.reads c.args.shelf.now) (g.S.Shelf.long_reads c.args.shelf.now) (g.S.Shelf.faults c.args.shelf.now))
-    (counts (g.S.Shelf.reads c.obey.new.shelf) (g.S.Shelf.long_reads c.obey.new.shelf) (g.S.Shelf.faults c.obey.new.shelf))
+    (trail (g.S.Shelf.log c.args.shelf.now) (g.S.Shelf.faults c.args.shelf.now))
+    (trail (g.S.Shelf.log c.obey.new.shelf) (g.S.Shelf.faults c.obey.new.shelf))
     (g.O.Sink.faults c.args.out.now) (g.O.Sink.faults c.obey.new.out) (g.O.Sink.taken c.args.out.now) (g.O.Sink.taken c.obey.new.out)) c.in-Err.refusal)
     c.deref.ensures.value c.in-Err.ensures.err in
     answers_complete _ _ _ _ _ c.status.result
