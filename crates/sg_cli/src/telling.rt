@@ -1,6 +1,7 @@
 //! Tells a refusal on the other output.
 
 ghost use Rattle.std.specs.Prelude.{◌≡◌, ◌≤◌, ◌⊎◌, IfOk, string_bytes};
+ghost use Rattle.sg_shelf.specs.Faults.{raised};
 ghost use Rattle.sg_cli.specs.Refusals.{HasNumbers, line_of};
 ghost use Rattle.sg_cli.specs.Runs.{Tells};
 
@@ -12,6 +13,7 @@ use std::alloc::{AllocError, Global};
 fn tell_plain<E: Sink>(refusal: Refusal, err: &mut E) -> Refusal
     requires { ¬ (HasNumbers refusal) }
     ensures count { E.faults err.old ≤ E.faults err.new }
+    ensures one_piece { E.puts err.new ≡ raised (E.puts err.old) }
     ensures same { result ≡ refusal }
     ensures tells { Tells (E.faults err.old) (E.faults err.new) (E.taken err.old) (E.taken err.new) refusal }
 {
@@ -23,6 +25,7 @@ fn tell_plain<E: Sink>(refusal: Refusal, err: &mut E) -> Refusal
 fn tell_line<E: Sink>(refusal: Refusal, line: Result<String, AllocError>, err: &mut E) -> Refusal
     requires line { IfOk line (λ text. string_bytes text ≡ line_of refusal) }
     ensures count { E.faults err.old ≤ E.faults err.new }
+    ensures one_piece { E.puts err.new ≡ raised (E.puts err.old) }
     ensures same { (result ≡ refusal) ⊎ (result ≡ Refusal.Memory) }
     ensures tells { Tells (E.faults err.old) (E.faults err.new) (E.taken err.old) (E.taken err.new) result }
 {
@@ -38,6 +41,7 @@ fn tell_line<E: Sink>(refusal: Refusal, line: Result<String, AllocError>, err: &
 /// Tells a refusal by its line. Where there is no memory for the line, that is told instead.
 pub(crate) fn tell<E: Sink>(alloc: Global, refusal: Refusal, err: &mut E) -> Refusal
     ensures count { E.faults err.old ≤ E.faults err.new }
+    ensures one_piece { E.puts err.new ≡ raised (E.puts err.old) }
     ensures same { (result ≡ refusal) ⊎ ((result ≡ Refusal.Memory) × HasNumbers refusal) }
     ensures tells { Tells (E.faults err.old) (E.faults err.new) (E.taken err.old) (E.taken err.new) result }
 {

@@ -8,6 +8,13 @@ pub record WriterState : Type 0 where
   pub faults : ℕ
   pub is_flushed : Bool
 
+-- the same of a sink over the writer, and the puts that it was given
+pub record OutState : Type 0 where
+  pub contents : Option (List ℕ)
+  pub faults : ℕ
+  pub is_flushed : Bool
+  pub puts : ℕ
+
 -- A front of the piece was added to the writer's bytes, where they are known.
 abbrev pub AppendsFront : Option (List ℕ) → Option (List ℕ) → List ℕ → Type 0
 AppendsFront before after piece = (n : ℕ) × Appends before after (take n piece)

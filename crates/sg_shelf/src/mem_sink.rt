@@ -79,6 +79,8 @@ impl Sink for MemSink {
 
     ghost faults = { λ sink. sink.faults };
 
+    ghost puts = { λ sink. sink.calls };
+
     fn put(&mut self, piece: &[u8]) -> Result<(), SinkError>
         ensures count { self.old.faults ≤ self.new.faults }
         ensures last_count { self.new.faults ≤ 2 ^ 64 - 1 }

@@ -16,23 +16,30 @@ use std::marker::Model;
 #[derive(Drop)]
 pub struct OutSink<W: Write> {
     outlet: Outlet<W>,
+    puts: u64,
 }
 
 impl<W: Write> Model for OutSink<W> {
-    ghost use Rattle.sg_shelf.specs.WriterState.{WriterState};
+    ghost use Rattle.sg_shelf.specs.WriterState.{OutState};
 
-    ghost Value = { WriterState };
+    ghost Value = { OutState };
 
-    ghost view = { λ sink. sink.outlet };
+    ghost view = { λ sink. record {
+      contents = sink.outlet.contents;
+      faults = sink.outlet.faults;
+      is_flushed = sink.outlet.is_flushed;
+      puts = sink.puts;
+    } };
 }
 
 impl<W: Write> OutSink<W> {
     /// A sink over the writer, with no fault.
     pub fn new(writer: W) -> OutSink<W>
-        ensures { result ≡ record { contents = W.contents writer; faults = 0; is_flushed = false } }
+        ensures { result ≡ record { contents = W.contents writer; faults = 0; is_flushed = false; puts = 0 } }
     {
         OutSink {
             outlet: Outlet::new(writer),
+            puts: 0,
         }
     }
 }
@@ -42,11 +49,15 @@ impl<W: Write> Sink for OutSink<W> {
 
     ghost faults = { λ sink. sink.faults };
 
+    ghost puts = { λ sink. sink.puts };
+
     fn put(&mut self, piece: &[u8]) -> Result<(), SinkError>
         ensures count { self.old.faults ≤ self.new.faults }
         ensures last_count { self.new.faults ≤ 2 ^ 64 - 1 }
         ensures no_fault { OnOk result (self.new.faults ≡ self.old.faults) }
         ensures fault { OnErr result (HasRisen self.old.faults self.new.faults) }
+
+        ensures put_count { self.new.puts ≡ raised self.old.puts }
 
         // A failing write and a failing flush are one fault each.
         ensures few_faults { self.new.faults ≤ self.old.faults + 2 }
@@ -57,6 +68,7 @@ impl<W: Write> Sink for OutSink<W> {
         ensures whole { OnOk result (Appends self.old.contents self.new.contents piece.now) }
         ensures front { AppendsFront self.old.contents self.new.contents piece.now }
     {
+        self.puts = self.puts.saturating_add(1);
         let is_written = write_whole(&mut self.outlet, piece);
         let is_flushed = self.outlet.flush();
         if is_written && is_flushed {

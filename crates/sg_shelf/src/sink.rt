@@ -1,7 +1,7 @@
 //! Where text is written.
 
-ghost use Rattle.std.specs.Prelude.{◌-◌, ◌^◌, ◌≤◌, ℕ, List, Option, OnOk, OnErr};
-ghost use Rattle.sg_shelf.specs.Faults.{HasRisen};
+ghost use Rattle.std.specs.Prelude.{◌≡◌, ◌-◌, ◌^◌, ◌≤◌, ℕ, List, Option, OnOk, OnErr};
+ghost use Rattle.sg_shelf.specs.Faults.{HasRisen, raised};
 ghost use Rattle.sg_shelf.specs.Taken.{Takes, TakesFront};
 
 use thiserror::Error;
@@ -22,11 +22,15 @@ pub trait Sink {
     /// How many faults it has counted, 2^64 - 1 at most.
     ghost faults: { Self → ℕ };
 
+    /// How many puts it has been given, 2^64 - 1 at most.
+    ghost puts: { Self → ℕ };
+
     /// Adds the piece to what it took, or where it fails a front of it.
     fn put(&mut self, piece: &[u8]) -> Result<(), SinkError>
         // The count never falls.
         ensures count { faults self.old ≤ faults self.new }
         ensures last_count { faults self.new ≤ 2 ^ 64 - 1 }
+        ensures put_count { puts self.new ≡ raised (puts self.old) }
 
         ensures whole { OnOk result (Takes (taken self.old) (taken self.new) piece.now) }
         ensures front { OnErr result (TakesFront (taken self.old) (taken self.new) piece.now) }
