@@ -1,21 +1,16 @@
 -- Fractions whose parts have a common divisor.
-use Rattle.std.proofs.Common.{◌≡◌, ℕ, zero, suc, ◌%◌, ◌≤◌, Bool, true, false, not, ◌&&◌, refl, sym, subst, ◌∙◌, arith, inl, inr}
+use Rattle.std.proofs.Common.{◌≡◌, ℕ, zero, suc, ◌%◌, ◌≤◌, Bool, true, false, ◌&&◌, refl, sym, subst, ◌∙◌, arith, inl, inr}
 use Rattle.std.specs.Prelude.{◌==◌, ◌||◌, nat_le}
 use Rattle.std.specs.Int.{◌∣◌, IsGcd}
-use Rattle.std.proofs.lemmas.Bool.{cases_lt, lt-ltb}
+use Rattle.std.proofs.lemmas.Bool.{cases_lt}
 use Rattle.std.proofs.lemmas.Bool.Decides.{nat_tests}
 use Rattle.std.proofs.lemmas.Nat.Gcd.{dvd_of_mod-eq-zero, mod-eq-zero_of_dvd, le_of_dvd}
 use Rattle.std.specs.Prelude.{ℤ, pos, negsuc, ◌≤ℤ◌, unsigned_abs}
-use Rattle.std.proofs.Common.{◌≢◌, ◌⊎◌}
 use Rattle.std.proofs.Math.Nat.{one-dvd}
 use Rattle.std.proofs.lemmas.Nat.Gcd.{dvd_refl}
 use Rattle.std.proofs.lemmas.Int.{ints}
-use Rattle.sg_frac.specs.Fractions.{Fraction, IsReduced, IsReducedForm, IsReducedFormWide}
-use Rattle.sg_num.specs.Exact.{fits}
-use Rattle.sg_frac.proofs.Reduced.{reduced_form-unique}
-use Rattle.std.specs.Prelude.{FitsSigned, Ok, Err}
-use Rattle.std.specs.Int.{w128}
-use Rattle.sg_cert.specs.LineReading.{shares, reduced_of}
+use Rattle.sg_frac.specs.Fractions.{Fraction, IsReduced}
+use Rattle.sg_cert.specs.LineReading.{shares}
 
 or_right : (x y : Bool) → y ≡ true → (x || y) ≡ true
 or_right true y e = refl
@@ -27,7 +22,7 @@ shares_here a b k low p q =
     rw (x, mod-eq-zero_of_dvd (suc k) p, mod-eq-zero_of_dvd (suc k) q) refl
 
 -- a divisor of both from 2 to k is found
-shares_some : (a b k d : ℕ) → 2 ≤ d → d ≤ k → d ∣ a → d ∣ b → shares a b k ≡ true
+pub shares_some : (a b k d : ℕ) → 2 ≤ d → d ≤ k → d ∣ a → d ∣ b → shares a b k ≡ true
 shares_some a b zero d low high p q = absurd (omega arith)
 shares_some a b (suc k) d low high p q =
     elim (cases_lt k d) [
@@ -56,25 +51,6 @@ pub shares_none : (a b k : ℕ) → IsGcd a b 1 → shares a b k ≡ false
 shares_none a b zero h = refl
 shares_none a b (suc k) h = rw (found_none a b k (nat_le 1 k) (a % suc k == 0) (b % suc k == 0) h refl refl refl) (shares_none a b k h)
 
--- a test for a common divisor by the greatest one
-pub shares_gcd : (a b g : ℕ) → 1 ≤ b → IsGcd a b g → shares a b b ≡ not (g == 1)
-shares_gcd a b zero low h = absurd (none h.1)
-  where
-    none : 0 ∣ b → ⊥
-    none p = let e = mod-eq-zero_of_dvd 0 p in omega (arith, e)
-shares_gcd a b (suc zero) low h = shares_none a b b h
-shares_gcd a b (suc (suc g)) low h =
-    let t : (suc (suc g) == 1) ≡ false = grind (arith, nat_tests) in
-    rw t (shares_some a b b (suc (suc g)) (omega arith) (le_of_dvd (omega arith) h.1) h.0 h.1)
-
--- what isn't found is 1
-pub coprime_from_shares : (a b g : ℕ) → 1 ≤ b → IsGcd a b g → shares a b b ≡ false → g ≡ 1
-coprime_from_shares a b g low h e = one (g == 1) refl (sym (shares_gcd a b g low h) ∙ e)
-  where
-    one : (t : Bool) → (g == 1) ≡ t → not t ≡ false → g ≡ 1
-    one true f k = grind (arith, nat_tests)
-    one false f k = absurd (let w : true ≡ false = k in cc)
-
 -- ---- a fraction whose parts are kept
 
 pub coprime_of_shares : (a b : ℕ) → 1 ≤ b → shares a b b ≡ false → IsGcd a b 1
@@ -89,7 +65,7 @@ some_abs : (d : ℤ) → pos 1 ≤ℤ d → 1 ≤ unsigned_abs d
 some_abs (pos d) h = omega (arith, ints, h)
 some_abs (negsuc d) h = absurd (omega (arith, ints, h))
 
-abbrev parts : ℤ → ℤ → Fraction
+abbrev pub parts : ℤ → ℤ → Fraction
 parts num den = record { num = num; den = den }
 
 pub reduced_from_shares : (n d : ℤ) → pos 1 ≤ℤ d → shares (unsigned_abs n) (unsigned_abs d) (unsigned_abs d) ≡ false → IsReduced (parts n d)
@@ -97,29 +73,3 @@ reduced_from_shares n d low e = record { positive = low; coprime = coprime_of_sh
 
 pub shares_from_reduced : (f : Fraction) → IsReduced f → shares (unsigned_abs f.num) (unsigned_abs f.den) (unsigned_abs f.den) ≡ false
 shares_from_reduced f h = shares_none (unsigned_abs f.num) (unsigned_abs f.den) (unsigned_abs f.den) h.coprime
-
-pub same_fraction : (n d : ℤ) (f : Fraction) → pos 1 ≤ℤ d → shares (unsigned_abs n) (unsigned_abs d) (unsigned_abs d) ≡ false → IsReducedForm n d f → f ≡ parts n d
-same_fraction n d f low e h =
-    let other : d ≢ pos 0 = λ z. absurd (omega (arith, ints, z, low)) in
-    reduced_form-unique n d f (parts n d) other h (record { reduced = reduced_from_shares n d low e; equal = refl })
-
-pub never_wide : (n d : ℤ) → pos 1 ≤ℤ d → fits n ≡ true → fits d ≡ true → shares (unsigned_abs n) (unsigned_abs d) (unsigned_abs d) ≡ false
-    → (d ≡ pos 0) ⊎ IsReducedFormWide n d → ⊥
-never_wide n d low a b e (inl z) = absurd (omega (arith, ints, z, low))
-never_wide n d low a b e (inr w) = let same = same_fraction n d w.0 low e w.1.0 in w.1.1 (rw same (a, b))
-
--- ---- what the code answers
-
-fits_signed : (z : ℤ) → FitsSigned w128 z → fits z ≡ true
-fits_signed (pos n) h = lt-ltb _ _ h.sfits
-fits_signed (negsuc n) h = lt-ltb _ _ h.sfits
-
-kept : (n d : ℤ) (a b : ℕ) → a ≡ unsigned_abs n → b ≡ unsigned_abs d → shares a b b ≡ false → shares (unsigned_abs n) (unsigned_abs d) (unsigned_abs d) ≡ false
-kept n d a b u v e = rw (u, v) at e
-
-pub reduced_some : (n d : ℤ) (a b : ℕ) (f : Fraction) → a ≡ unsigned_abs n → b ≡ unsigned_abs d → pos 1 ≤ℤ d → shares a b b ≡ false → IsReducedForm n d f → Ok f ≡ reduced_of n d
-reduced_some n d a b f u v low e h = let k = kept n d a b u v e in rw (k, same_fraction n d f low k h) refl
-
-pub reduced_none : (n d : ℤ) (a b : ℕ) → a ≡ unsigned_abs n → b ≡ unsigned_abs d → pos 1 ≤ℤ d → FitsSigned w128 n → FitsSigned w128 d → shares a b b ≡ false
-    → (d ≡ pos 0) ⊎ IsReducedFormWide n d → Err 6 ≡ reduced_of n d
-reduced_none n d a b u v low p q e w = absurd (never_wide n d low (fits_signed n p) (fits_signed d q) (kept n d a b u v e) w)

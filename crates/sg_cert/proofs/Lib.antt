@@ -1,13 +1,7 @@
 pub mod Cut
-pub mod Lining
-pub mod NumberLists
-pub mod Repeats
 pub mod Nodes
 pub mod Common
-pub mod CapLists
-pub mod Heads
 pub mod Rising
-pub mod Adding
 pub mod Rows
 pub mod Trees
 pub mod Numbers

@@ -1,63 +1,27 @@
 -- One node.
-use Rattle.std.proofs.Common.{◌≡◌, ℕ, zero, suc, ◌-◌, ◌<◌, true, false, List, [], Option, Result, Ok, Err, refl, ◌∙◌, arith}
+use Rattle.std.proofs.Common.{◌≡◌, ℕ, zero, suc, ◌-◌, ◌<◌, true, false, List, [], Option, Ok, refl, arith}
 use Rattle.std.specs.Prelude.{codes}
 use Rattle.sg_tree.specs.declared.fact.Fact.{Fact}
 use Rattle.sg_tree.specs.declared.tree.Tree.{Tree}
 use Rattle.sg_tree.specs.declared.tree.Tree.TheVariants.{Split}
-use Rattle.sg_cert.specs.declared.fault.ReportFault.{ReportFault}
-use Rattle.sg_cert.specs.declared.fault.ReportError.{ReportError}
-use Rattle.sg_cert.specs.declared.fault.ReportError.TheVariants as errors
 use Rattle.sg_cert.specs.Place.{Place}
 use Rattle.sg_cert.specs.Fields.{fields, has_word}
-use Rattle.sg_cert.specs.Lines.{Fails, Gives, line_at, at_line}
+use Rattle.sg_cert.specs.Lines.{line_at, at_line}
 use Rattle.sg_cert.specs.LineReading.{split_of}
-use Rattle.sg_cert.specs.Reading.{Read, repeat, base_at, leaf_from, split_from, deep_from, node_at}
+use Rattle.sg_cert.specs.Reading.{Read, repeat, base_at, leaf_from, split_from, node_at}
 
 pub split_done : (part : Place → Read Tree) (fs : List (List ℕ)) (p q r : Place) (l n : ℕ) (base : Option Fact) (parts : List Tree)
     → Ok (l, n) ≡ at_line p (split_of fs) → base_at p ≡ Ok (base, q) → repeat (λ done x. part x) [] n q ≡ Ok (parts, r) → split_from part fs p ≡ Ok (Split l base parts, r)
 unfolding split_from
 split_done part fs p q r l n base parts a b c = rw (← a, b, c) refl
 
-pub split_refused : (part : Place → Read Tree) (fs : List (List ℕ)) (p : Place) (f : ReportFault)
-    → Err f ≡ at_line p (split_of fs) → split_from part fs p ≡ Err f
-unfolding split_from
-split_refused part fs p f a = rw (← a) refl
-
-pub split_baseless : (part : Place → Read Tree) (fs : List (List ℕ)) (p : Place) (l n : ℕ) (e : ReportError)
-    → Ok (l, n) ≡ at_line p (split_of fs) → Fails e (base_at p) → Fails e (split_from part fs p)
-unfolding split_from
-split_baseless part fs p l n errors.Memory a b = tt
-split_baseless part fs p l n (errors.Refused f) a b = rw (← a, b) refl
-
-pub split_partless : (part : Place → Read Tree) (fs : List (List ℕ)) (p q : Place) (l n : ℕ) (base : Option Fact) (e : ReportError)
-    → Ok (l, n) ≡ at_line p (split_of fs) → base_at p ≡ Ok (base, q) → Fails e (repeat (λ done x. part x) [] n q) → Fails e (split_from part fs p)
-unfolding split_from
-split_partless part fs p q l n base errors.Memory a b c = tt
-split_partless part fs p q l n base (errors.Refused f) a b c = rw (← a, b, c) refl
-
 -- what a node gives, by its line
-pub node_unread : (left : ℕ) (p : Place) (f : ReportFault) → line_at p ≡ Err f → node_at left p ≡ Err f
-unfolding node_at
-node_unread zero p f h = rw h refl
-node_unread (suc left) p f h = rw h refl
-
 pub node_leaf : (left : ℕ) (p q : Place) (line : List ℕ) → line_at p ≡ Ok (line, q) → has_word 0 (codes "split") (fields line) ≡ false → node_at left p ≡ leaf_from (fields line) q
 unfolding node_at
 node_leaf zero p q line h w = rw (h, w) refl
 node_leaf (suc left) p q line h w = rw (h, w) refl
 
-pub node_deep : (left : ℕ) (p q : Place) (line : List ℕ) → left ≡ 0 → line_at p ≡ Ok (line, q) → has_word 0 (codes "split") (fields line) ≡ true → node_at left p ≡ deep_from (fields line) q
-unfolding node_at
-node_deep zero p q line e h w = rw (h, w) refl
-node_deep (suc left) p q line e h w = absurd (omega (arith, e))
-
 pub node_split : (left : ℕ) (p q : Place) (line : List ℕ) → 0 < left → line_at p ≡ Ok (line, q) → has_word 0 (codes "split") (fields line) ≡ true → node_at left p ≡ split_from (node_at (left - 1)) (fields line) q
 unfolding node_at
 node_split zero p q line e h w = absurd (omega (arith, e))
 node_split (suc left) p q line e h w = let k : suc left - 1 ≡ left = omega arith in rw (h, w, k) refl
-
--- along an equation of what was read
-pub gives_along : (r : Result Tree ReportError) (q : Place) (x y : Read Tree) → x ≡ y → Gives (λ t. t) r q y → Gives (λ t. t) r q x
-gives_along (Ok t) q x y e g = e ∙ g
-gives_along (Err errors.Memory) q x y e g = tt
-gives_along (Err (errors.Refused f)) q x y e g = e ∙ g

@@ -1,5 +1,5 @@
 -- The fields of a line, and the numbers that they are.
-use Rattle.std.specs.Prelude.{negsuc, ℕ, Bool, true, false, not, ◌&&◌, ◌==◌, nat_le, nat_lt, if◌then◌else◌, List, [], ◌∷◌, ◌++◌, length, Option, Some, None, Result, Ok, Err, ◌||◌, ◌≡◌, ℤ, pos, ◌-ℤ◌, bytes_eq, codes, position, slice_get, take, drop, ◌+◌}
+use Rattle.std.specs.Prelude.{negsuc, ℕ, Bool, true, false, not, ◌&&◌, ◌==◌, nat_le, nat_lt, if◌then◌else◌, List, [], ◌∷◌, ◌++◌, length, Option, Some, None, Result, Ok, Err, ◌||◌, ℤ, pos, ◌-ℤ◌, bytes_eq, codes, position, slice_get, take, drop, ◌+◌}
 use Rattle.std.specs.List.{slice_split, list_all}
 use Rattle.std.specs.Option.{option_map}
 use Rattle.std.specs.Int.Signed.{le_z}
@@ -9,10 +9,6 @@ use Rattle.std.specs.Str.Parse.{digits_value}
 -- what stands between the spaces of a line
 abbrev pub fields : List ℕ → List (List ℕ)
 fields line = slice_split (λ b. b == 32) line
-
--- those from here on, none at the end
-abbrev pub fields_left : List ℕ → Bool → List (List ℕ)
-fields_left rest ended = if ended then [] else fields rest
 
 abbrev pub is_digit : ℕ → Bool
 is_digit b = nat_le 48 b && nat_le b 57
@@ -47,11 +43,6 @@ infixl 10 ◌>>=◌
 abbrev pub ◌>>=◌ : {A B E : Type 0} → Result A E → (A → Result B E) → Result B E
 (Ok x) >>= f = f x
 (Err e) >>= f = Err e
-
--- what a call that moves on returned, and where it then stands, is what reading gives
-abbrev pub Steps : {A P E : Type 0} → Result A E → P → Result (A × P) E → Type 0
-Steps (Ok x) after read = read ≡ Ok (x, after)
-Steps (Err e) after read = read ≡ Err e
 
 -- a whole number from low to high
 abbrev pub natural_of : ℕ → ℕ → Option ℤ → Result ℕ ℕ

@@ -1,26 +1,11 @@
 -- Lines, and the fault of a line.
-use Rattle.std.specs.Prelude.{◌≡◌, ℕ, ◌+◌, length, ◌==◌, if◌then◌else◌, List, Option, Some, None, Result, Ok, Err}
+use Rattle.std.specs.Prelude.{ℕ, ◌+◌, length, ◌==◌, if◌then◌else◌, List, Option, Some, None, Result, Ok, Err}
 use Rattle.std.specs.Option.{option_map}
 use Rattle.sg_cert.specs.Place.{Place}
 use Rattle.sg_cert.specs.Fields.{split_once}
 use Rattle.sg_cert.specs.declared.fault.ReportFault.{ReportFault}
-use Rattle.sg_cert.specs.declared.fault.ReportError.{ReportError}
-use Rattle.sg_cert.specs.declared.fault.ReportError.TheVariants as errors
 
--- what a call that moves on returned, and where it then stands, is what reading gives
-abbrev pub Reads : {X Y : Type 0} → (X → Y) → Result X ReportFault → Place → Result (Y × Place) ReportFault → Type 0
-Reads view (Ok x) after read = read ≡ Ok (view x, after)
-Reads view (Err e) after read = read ≡ Err e
-
--- the same, unless memory ran out
-abbrev pub Fails : {Y : Type 0} → ReportError → Result Y ReportFault → Type 0
-Fails errors.Memory read = Unit {0}
-Fails (errors.Refused f) read = read ≡ Err f
-
-abbrev pub Gives : {X Y : Type 0} → (X → Y) → Result X ReportError → Place → Result (Y × Place) ReportFault → Type 0
-Gives view (Ok x) after read = read ≡ Ok (view x, after)
-Gives view (Err e) after read = Fails e read
-
+-- before line 1
 abbrev pub start : List ℕ → Place
 start bytes = record { rest = bytes; line = 0 }
 
@@ -45,8 +30,3 @@ at_line p (Err reason) = Err (record { line = p.line; reason = reason })
 -- no line is left
 abbrev pub ended : Place → Result (Unit {0}) ReportFault
 ended p = if length p.rest == 0 then Ok tt else Err (record { line = p.line + 1; reason = 9 })
-
--- what a function over all of the bytes returned is what reading gives, unless memory ran out
-abbrev pub Tells : {X Y : Type 0} → (X → Y) → Result X ReportError → Result Y ReportFault → Type 0
-Tells view (Ok x) read = read ≡ Ok (view x)
-Tells view (Err e) read = Fails e read

@@ -10,7 +10,7 @@ ghost use Rattle.sg_cli.specs.Scenes.{SaysGame, SaysReport, game_limit, report_l
 ghost use Rattle.sg_cli.specs.Readings.{GameBytesFail, GameFails, GameFileFails, ReportBytesFail, ReportFails, ReportFileFails};
 
 use crate::refusal::Refusal;
-use sg_cert::{ReportError, read_report};
+use sg_cert_reader::{ReportError, read_report};
 use sg_file::{GameError, read_game};
 use sg_game::Game;
 use sg_shelf::{Shelf, ShelfError};

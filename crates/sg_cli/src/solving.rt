@@ -13,7 +13,7 @@ ghost use Rattle.sg_cli.specs.Runs.{IsDone};
 use crate::ranges::lies_in_ranges;
 use crate::reading::game_named;
 use crate::refusal::Refusal;
-use sg_cert::write_report;
+use sg_cert_writer::write_report;
 use sg_game::{Game, is_origami};
 use sg_shelf::{Shelf, Sink};
 use sg_solve::solve;

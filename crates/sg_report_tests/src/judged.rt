@@ -1,6 +1,6 @@
 //! Games and reports out of texts, and what the checker says of them.
 
-use sg_cert::{ReportError, read_report};
+use sg_cert_reader::{ReportError, read_report};
 use sg_check::{Verdict, check, has_cover};
 use sg_file::read_game;
 use sg_game::Game;

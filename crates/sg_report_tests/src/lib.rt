@@ -1,4 +1,4 @@
-//! Tests of reports: what they hold (`sg_tree`), their text (`sg_cert`), and what the checker says of them (`sg_check`).
+//! Tests of reports: what they hold (`sg_tree`), their text (`sg_cert_reader`, `sg_cert_writer`), and what the checker says of them (`sg_check`).
 //!
 //! They go through public calls alone. They stand apart from the libraries, so that each library is proved once and this
 //! crate proves the tests alone, over the libraries' statements.

@@ -1,6 +1,7 @@
 //! Texts of reports: the first fault of each, and that a report is written as it was read.
 
-use sg_cert::{ReportError, read_report, write_report};
+use sg_cert_reader::{ReportError, read_report};
+use sg_cert_writer::write_report;
 use sg_shelf::MemSink;
 use std::alloc::{AllocError, Global};
 use std::test::*;

@@ -1,5 +1,0 @@
-use Rattle.sg_cert.proofs.Trees.{SplitSoFar}
-use Rattle.sg_cert.proofs.writing.+put_node.Given as goal
-
-abbrev pub invariant-loop-part : goal.invariant-loop-part
-invariant-loop-part g l = SplitSoFar (g.O.Sink.taken l.fn.out, g.O.Sink.faults l.fn.out) l.fn.block (g.O.Sink.taken l.out, g.O.Sink.faults l.out) l.block l.tree l.part-items l.part-index

@@ -1,0 +1,12 @@
+use Rattle.std.specs.Prelude.{FitsSigned}
+use Rattle.std.specs.Int.{w64}
+use Rattle.std.proofs.Common.{rules}
+use Rattle.std.proofs.lemmas.Int.{to_z-of_z}
+use Rattle.sg_cert.specs.Fields.{fields}
+use Rattle.sg_cert_reader.proofs.Heads.{plain_done}
+use Rattle.sg_cert_reader.proofs.node.plain_in.Goals as goal
+
+pub returns : goal.returns
+returns c =
+    let b : FitsSigned w64 c.in_ok-v.v = search rules in
+    simp to_z-of_z (plain_done (fields c.args.line.now) c.in_ok-l.field-0 c.in_ok-v.v c.natural.new.self c.next_bound.new.left c.in_ok-shaped.ensures (rw c.after-left.ensures at c.in_ok-l.ensures.read) (rw c.after-left-2.ensures at c.in_ok-v.ensures))

@@ -1,0 +1,12 @@
+use Rattle.sg_cert_writer.proofs.Adding.{Writes-trans, Writes-as, Stops-early, Stops-as}
+use Rattle.std.proofs.Common.{[], ◌∷◌, ◌++◌, map}
+use Rattle.std.specs.Fmt.{signed_decimal}
+use Rattle.sg_cert.specs.Text.{spaced}
+use Rattle.sg_cert_writer.proofs.LineTexts.{line_text}
+use Rattle.sg_cert_writer.proofs.row.put_line.Goals as goal
+
+pub returns-in-Ok : goal.returns-in-Ok
+returns-in-Ok g c = Writes-as c.put_bytes.result _ _ c.args.block.now _ _ _ (line_text c.args.words.now (map signed_decimal c.args.numbers.now)) (Writes-trans c.put_bytes.result _ _ _ c.args.block.now _ _ (c.args.words.now ++ spaced (map signed_decimal c.args.numbers.now)) (10 ∷ []) c.in-Ok.ensures c.put_bytes.ensures)
+
+pub returns-in-Err : goal.returns-in-Err
+returns-in-Err g c = Stops-as _ _ c.args.block.now _ _ (line_text c.args.words.now (map signed_decimal c.args.numbers.now)) (Stops-early _ _ c.args.block.now (c.args.words.now ++ spaced (map signed_decimal c.args.numbers.now)) (10 ∷ []) c.in-Err.ensures)
