@@ -1,6 +1,6 @@
 -- Reading the items of an array one after the other, as a loop does.
-use Rattle.std.proofs.Common.{◌≡◌, ℕ, suc, ◌+◌, ◌<◌, ◌≤◌, List, [], ◌∷◌, ◌++◌, length, get_or, drop, Result, Ok, Err, refl, ap}
-use Rattle.std.proofs.lemmas.List.{drop_all}
+use Rattle.std.proofs.Common.{◌≡◌, ℕ, suc, ◌+◌, ◌<◌, ◌≤◌, List, [], ◌∷◌, ◌++◌, length, get_or, drop, Result, Ok, Err, map, refl, sym, ap, ◌∙◌}
+use Rattle.std.proofs.lemmas.List.{drop_all, length-map, map_push}
 use Rattle.toml.specs.Data.{Data}
 use Rattle.toml.specs.View.{view as data_of, items_view}
 use Rattle.toml.specs.declared.value.Value.{Value}
@@ -36,3 +36,18 @@ module _ {A : Type 0} (read : List A → Data → Result A GameFault) (before : 
   pub each-done : length vs ≤ i → each read before (items_view (drop i vs)) ≡ Ok before
   unfolding each
   each-done past = rw (drop_all i vs past) refl
+
+-- the same where each item is read by its number, counted from 1, and kept in a form of its own
+module _ {X A : Type 0} (show : X → A) (read : ℕ → List A → Data → Result A GameFault) (xs : List X) (vs : List Value) (i : ℕ) (count : length xs ≡ i) where
+  number : length (map show xs) + 1 ≡ i + 1
+  number = ap (λ (n : ℕ). n + 1) (length-map xs show ∙ count)
+
+  -- an item that isn't read
+  pub numbered-Fails : (v : Value) (e : GameError) → i < length vs → Fails e (read (i + 1) (map show xs) (data_of (get_or vs i v)))
+      → Fails e (each (λ before. read (length before + 1) before) (map show xs) (items_view (drop i vs)))
+  numbered-Fails v e within h = each-Fails (λ (before : List A). read (length before + 1) before) (map show xs) vs i v e within (rw number h)
+
+  -- an item that is read and kept
+  pub numbered-next : (v : Value) (x : X) → i < length vs → read (i + 1) (map show xs) (data_of (get_or vs i v)) ≡ Ok (show x)
+      → each (λ before. read (length before + 1) before) (map show (xs ++ x ∷ [])) (items_view (drop (i + 1) vs)) ≡ each (λ before. read (length before + 1) before) (map show xs) (items_view (drop i vs))
+  numbered-next v x within h = rw (map_push show xs x) (sym (each-next (λ (before : List A). read (length before + 1) before) (map show xs) vs i v (show x) within (rw number h)))

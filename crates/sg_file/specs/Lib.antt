@@ -1,4 +1,3 @@
 pub mod Answers
 pub mod Sections
 pub mod Numbers
-pub mod Writing

@@ -1,5 +1,5 @@
 -- The game of an accepted file keeps every promise of a game file.
-use Rattle.std.proofs.Common.{◌≡◌, ℕ, ◌≤◌, ◌^◌, Bool, true, false, not, ◌&&◌, nat_le, int_lt, int_rem, List, [], length, map, ℤ, pos, negsuc, ◌≤ℤ◌, Option, Some, None, is_some, unwrap_or, Ok, refl, sym, ap, subst, ◌∙◌, arith}
+use Rattle.std.proofs.Common.{◌≡◌, ℕ, ◌≤◌, Bool, true, false, ◌&&◌, nat_le, int_lt, int_rem, List, length, map, ℤ, pos, negsuc, ◌≤ℤ◌, is_some, unwrap_or, Ok, refl, sym, ap, subst, ◌∙◌, arith}
 use Rattle.std.specs.Prelude.{codes, if◌then◌else◌}
 use Rattle.std.specs.List.{All, list_all}
 use Rattle.std.proofs.lemmas.Int.{ints}
@@ -7,42 +7,18 @@ use Rattle.std.proofs.lemmas.Bool.{and_parts, eqb-true}
 use Rattle.std.proofs.lemmas.List.{length-map}
 use Rattle.toml.specs.Data.{Data, Members, get_member}
 use Rattle.sg_model.specs.declared.fault.Place.TheVariants as place_of
-use Rattle.sg_model.specs.declared.kind.Kind.{Kind}
-use Rattle.sg_model.specs.declared.kind.Kind.TheVariants.{Security, Matrix}
 use Rattle.sg_model.specs.Games.{Attacker, Game, Named, Payoff}
 use Rattle.sg_model.specs.Origami.{IsScaled, gap}
 use Rattle.sg_model.specs.Limits.{AreLists, IsGame, IsMatrixGame, IsSecurityGame, IsWithin, program_rows}
 use Rattle.sg_model.proofs.Deciding.{all_pass, at_most}
-use Rattle.sg_format.specs.Documents.{document_of, has_only, needed_at, number_at}
-use Rattle.sg_format.specs.Lists.{names_at, resources_at, schedules_at}
-use Rattle.sg_format.specs.Types.{matrix_types_at, security_types_at}
-use Rattle.sg_format.specs.GameFiles.{count_of, fits_scale, form_of, game_of_bytes, game_of_form, game_of_table, is_matrix_key, is_patrols_key, is_resources_key, is_zero, limits_of, listed_game, matrix_game, patrols_game, resources_game, scale_at, security_game, version_of}
-use Rattle.sg_format.proofs.Inversion.{after, after_test, passed_is}
-use Rattle.sg_format.proofs.Values.{number_at-within}
+use Rattle.sg_format.specs.Documents.{document_of}
+use Rattle.sg_format.specs.GameFiles.{count_of, fits_scale, game_of_bytes, game_of_table, is_zero, limits_of}
+use Rattle.sg_format.proofs.Inversion.{after, passed_is}
+use Rattle.sg_format.proofs.Values.{number_at-within, scale_at-scale}
+use Rattle.sg_format.proofs.Files.{IsListedFile, IsMatrixFile, IsPatrolsFile, by_file, patrolled, scheduled, tabled}
 use Rattle.sg_format.proofs.Listed.{names_at-names, named_lists_at-lists}
 use Rattle.sg_format.proofs.Typed.{matrix_types_at-types, security_types_at-types}
 use Rattle.sg_format.specs.GameFileLaws.{AcceptedIsGame}
-
--- the scale of a game: 0, or from 1 where one is declared
-pub record IsScale (declared : Bool) (z : ℤ) : Type 0 where
-  pub is : int_lt (pos 0) z ≡ declared
-  pub range : IsWithin (pos 0) (pos (2 ^ 32)) z
-
-pub scale_at-scale : (declared : Option Data) (scale : Option ℤ) → scale_at declared ≡ Ok scale → IsScale (is_some declared) (unwrap_or scale (pos 0))
-unfolding scale_at
-scale_at-scale None scale h =
-    let same : None ≡ scale = cc in
-    let is : IsScale false (pos 0) = record { is = refl; range = record { at_least = omega (arith, ints); at_most = omega (arith, ints) } } in
-    subst (λ (o : Option ℤ). IsScale false (unwrap_or o (pos 0))) same is
-scale_at-scale (Some value) scale h =
-    after (number_at place_of.Document (pos 1) (pos (2 ^ 32)) value) h (λ z e last.
-    let same : Some z ≡ scale = cc in
-    let within = number_at-within place_of.Document (pos 1) (pos (2 ^ 32)) value z e in
-    let is : IsScale true z = record {
-      is = sym (omega (arith, ints, within.at_least));
-      range = record { at_least = omega (arith, ints, within.at_least); at_most = within.at_most };
-    } in
-    subst (λ (o : Option ℤ). IsScale true (unwrap_or o (pos 0))) same is)
 
 zero_is : (z : ℤ) → is_zero z ≡ true → z ≡ pos 0
 zero_is (pos n) e = ap (λ (k : ℕ). pos k) (eqb-true n 0 e)
@@ -83,34 +59,15 @@ scale_off scaled z e zero = sym e ∙ ap (int_lt (pos 0)) zero
 scale_on : (scaled : Bool) (z : ℤ) → int_lt (pos 0) z ≡ scaled → pos 1 ≤ℤ z → scaled ≡ true
 scale_on scaled z e low = let yes : true ≡ int_lt (pos 0) z = omega (arith, ints, low) in sym (yes ∙ e)
 
-patrols_game-game : (given : Data) (table : Members) (g : Game) → patrols_game given table ≡ Ok g → IsGame g
-unfolding patrols_game
-patrols_game-game given table g h =
-    after_test (has_only is_patrols_key table) _ _ h (λ e1 h1.
-    after (needed_at place_of.Document (codes "targets") table) h1 (λ listed e2 h2.
-    after (needed_at place_of.Document (codes "type") table) h2 (λ attackers e3 h3.
-    let declared = get_member (codes "scale") table in
-    let scaled : Bool = is_some declared in
-    after (names_at place_of.Document place_of.Target (if scaled then 10000 else 200) listed) h3 (λ targets e4 h4.
-    after (scale_at declared) h4 (λ scale e5 h5.
-    after (number_at place_of.Document (pos 0) (pos (if scaled then 200 else 32)) given) h5 (λ patrols e6 h6.
-    after (security_types_at scaled (length targets) attackers) h6 (λ types e7 h7.
-    let y : Game = record {
-      kind = Security;
-      scale = unwrap_or scale (pos 0);
-      patrols = Some (count_of patrols);
-      goals = targets;
-      schedules = [];
-      resources = [];
-      types = types;
-    } in
-    after (limits_of y scaled) h7 (λ u e8 last.
-    let same : y ≡ g = cc in
-    let names = names_at-names place_of.Document place_of.Target (if scaled then 10000 else 200) listed targets e4 in
-    let is_scale = scale_at-scale declared scale e5 in
-    let count = few_patrols scaled patrols (number_at-within place_of.Document (pos 0) (pos (if scaled then 200 else 32)) given patrols e6) in
-    let people = security_types_at-types scaled (length targets) attackers types e7 in
-    let limited = limits_of-limited y scaled u e8 in
+patrols_promised : (given : Data) (table : Members) (g : Game) → IsPatrolsFile given table g → IsGame g
+patrols_promised given table g p =
+    let scaled : Bool = is_some (get_member (codes "scale") table) in
+    let y = patrolled (unwrap_or p.scale (pos 0)) (count_of p.count) g.goals g.types in
+    let names = names_at-names place_of.Document place_of.Target (if scaled then 10000 else 200) p.listed g.goals p.targets in
+    let is_scale = scale_at-scale (get_member (codes "scale") table) p.scale p.scale_read in
+    let count = few_patrols scaled p.count (number_at-within place_of.Document (pos 0) (pos (if scaled then 200 else 32)) given p.count p.count_read) in
+    let people = security_types_at-types scaled (length g.goals) p.attackers g.types p.types in
+    let limited = limits_of-limited y scaled tt p.limits in
     let is : IsSecurityGame y = record {
       targets = names.apart;
       target_count = rw is_scale.is names.count;
@@ -123,75 +80,33 @@ patrols_game-game given table g h =
           let yes = scale_on scaled y.scale is_scale.is positive in
           record { identical = λ none. absurd (cc); one_type = people.one_type yes; prior_one = people.prior_one yes; targets = limited.fits yes });
     } in
-    subst IsGame same is))))))))
+    subst IsGame p.whole is
 
-listed_game-game : (listed given manned attackers : Data) (g : Game) → listed_game listed given manned attackers ≡ Ok g → IsGame g
-unfolding listed_game
-listed_game-game listed given manned attackers g h =
-    after (names_at place_of.Document place_of.Target 200 listed) h (λ targets e1 h1.
-    after (schedules_at targets given) h1 (λ schedules e2 h2.
-    after (resources_at schedules manned) h2 (λ resources e3 h3.
-    after (security_types_at false (length targets) attackers) h3 (λ types e4 h4.
-    let y : Game = record {
-      kind = Security;
-      scale = pos 0;
-      patrols = None;
-      goals = targets;
-      schedules = schedules;
-      resources = resources;
-      types = types;
-    } in
-    after (limits_of y false) h4 (λ u e5 last.
-    let same : y ≡ g = cc in
-    let names = names_at-names place_of.Document place_of.Target 200 listed targets e1 in
-    let people = security_types_at-types false (length targets) attackers types e4 in
-    let held = named_lists_at-lists place_of.Schedule (codes "targets") targets 500 200 given schedules e2 in
-    let known : List (List ℕ) = map (λ (x : Named). x.name) schedules in
-    let hands = named_lists_at-lists place_of.Resource (codes "schedules") known 32 500 manned resources e3 in
+listed_promised : (table : Members) (g : Game) → IsListedFile table g → IsGame g
+listed_promised table g l =
+    let y = scheduled g.goals g.schedules g.resources g.types in
+    let names = names_at-names place_of.Document place_of.Target 200 l.listed g.goals l.targets in
+    let people = security_types_at-types false (length g.goals) l.attackers g.types l.types in
+    let held = named_lists_at-lists place_of.Schedule (codes "targets") g.goals 500 200 l.given g.schedules l.schedules in
+    let known : List (List ℕ) = map (λ (x : Named). x.name) g.schedules in
+    let hands = named_lists_at-lists place_of.Resource (codes "schedules") known 32 500 l.manned g.resources l.resources in
     let is : IsSecurityGame y = record {
       targets = names.apart;
       target_count = names.count;
       scale_range = record { at_least = omega (arith, ints); at_most = omega (arith, ints) };
-      defended = record { schedules = held; resources = subst (λ (n : ℕ). AreLists n 32 500 resources) (length-map schedules (λ (x : Named). x.name)) hands };
+      defended = record { schedules = held; resources = subst (λ (n : ℕ). AreLists n 32 500 g.resources) (length-map g.schedules (λ (x : Named). x.name)) hands };
       types = people.apart;
       each_type = people.all;
-      few_rows = λ zero. (limits_of-limited y false u e5).small refl;
+      few_rows = λ zero. (limits_of-limited y false tt l.limits).small refl;
       scaled = λ positive. absurd (omega (arith, ints, positive));
     } in
-    subst IsGame same is)))))
+    subst IsGame l.whole is
 
-resources_game-game : (table : Members) (g : Game) → resources_game table ≡ Ok g → IsGame g
-unfolding resources_game
-resources_game-game table g h =
-    after_test (has_only is_resources_key table) _ _ h (λ e1 h1.
-    after (needed_at place_of.Document (codes "targets") table) h1 (λ listed e2 h2.
-    after_test (not (is_some (get_member (codes "scale") table))) _ _ h2 (λ e3 h3.
-    after (needed_at place_of.Document (codes "schedule") table) h3 (λ given e4 h4.
-    after (needed_at place_of.Document (codes "resource") table) h4 (λ manned e5 h5.
-    after (needed_at place_of.Document (codes "type") table) h5 (λ attackers e6 last.
-    listed_game-game listed given manned attackers g last))))))
-
-matrix_game-game : (table : Members) (g : Game) → matrix_game table ≡ Ok g → IsGame g
-unfolding matrix_game
-matrix_game-game table g h =
-    after_test (has_only is_matrix_key table) _ _ h (λ e1 h1.
-    after (needed_at place_of.Document (codes "rows") table) h1 (λ listed e2 h2.
-    after (needed_at place_of.Document (codes "type") table) h2 (λ attackers e3 h3.
-    after (names_at place_of.Document place_of.Row 4096 listed) h3 (λ rows e4 h4.
-    after (matrix_types_at (length rows) attackers) h4 (λ types e5 h5.
-    let y : Game = record {
-      kind = Matrix;
-      scale = pos 0;
-      patrols = None;
-      goals = rows;
-      schedules = [];
-      resources = [];
-      types = types;
-    } in
-    after (limits_of y false) h5 (λ u e6 last.
-    let same : y ≡ g = cc in
-    let names = names_at-names place_of.Document place_of.Row 4096 listed rows e4 in
-    let people = matrix_types_at-types (length rows) attackers types e5 in
+matrix_promised : (table : Members) (g : Game) → IsMatrixFile table g → IsGame g
+matrix_promised table g m =
+    let y = tabled g.goals g.types in
+    let names = names_at-names place_of.Document place_of.Row 4096 m.listed g.goals m.rows in
+    let people = matrix_types_at-types (length g.goals) m.attackers g.types m.types in
     let is : IsMatrixGame y = record {
       rows = names.apart;
       row_count = names.count;
@@ -201,24 +116,13 @@ matrix_game-game table g h =
       no_resources = refl;
       types = people.apart;
       each_type = people.all;
-      few_rows = (limits_of-limited y false u e6).small refl;
+      few_rows = (limits_of-limited y false tt m.limits).small refl;
     } in
-    subst IsGame same is))))))
-
-security_game-game : (given : Option Data) (table : Members) (g : Game) → security_game given table ≡ Ok g → IsGame g
-security_game-game (Some given) table g h = patrols_game-game given table g h
-security_game-game None table g h = resources_game-game table g h
-
-game_of_form-game : (kind : Kind) (table : Members) (g : Game) → game_of_form kind table ≡ Ok g → IsGame g
-game_of_form-game Security table g h = security_game-game (get_member (codes "patrols") table) table g h
-game_of_form-game Matrix table g h = matrix_game-game table g h
+    subst IsGame m.whole is
 
 pub game_of_table-game : (table : Members) (g : Game) → game_of_table table ≡ Ok g → IsGame g
-unfolding game_of_table
 game_of_table-game table g h =
-    after (version_of table) h (λ version e1 h1.
-    after (form_of table) h1 (λ kind e2 last.
-    game_of_form-game kind table g last))
+    by_file table g (IsGame g) h (λ head m. matrix_promised table g m) (λ head given there p. patrols_promised given table g p) (λ head there l. listed_promised table g l)
 
 -- the game of a file's bytes keeps every promise of a game file
 pub accepted : AcceptedIsGame

@@ -1,14 +1,15 @@
 -- A list with a fault of its own, in the document of a game.
-use Rattle.std.proofs.Common.{◌≡◌, ◌≢◌, ◌∙◌, ℕ, true, false, List, length, ℤ, pos, Option, Some, None, is_some, Result, Ok, Err, refl, ap, subst, inl, inr}
+use Rattle.std.proofs.Common.{◌≡◌, ◌≢◌, ◌∙◌, ℕ, Bool, true, false, List, length, ℤ, pos, Option, Some, None, is_some, Result, Ok, Err, refl, ap, subst, inl, inr}
 use Rattle.std.specs.Prelude.{bytes_eq, codes, if◌then◌else◌}
 use Rattle.std.proofs.lemmas.Bool.{cases_Bool}
 use Rattle.toml.specs.Data.{Data, Members, get_member}
+use Rattle.sg_model.specs.declared.fault.Place.{Place}
 use Rattle.sg_model.specs.declared.fault.Place.TheVariants as place_of
 use Rattle.sg_model.specs.declared.fault.GameFault.{GameFault}
 use Rattle.sg_model.specs.declared.kind.Kind.TheVariants.{Security, Matrix}
 use Rattle.sg_model.specs.Games.{Game, Named}
 use Rattle.sg_format.specs.Documents.{has_only, number_at}
-use Rattle.sg_format.specs.Lists.{names_at, resources_at, schedules_at}
+use Rattle.sg_format.specs.Lists.{few_at, named_lists_at, names_at, resources_at, schedules_at, some_at}
 use Rattle.sg_format.specs.Types.{matrix_types_at, security_types_at}
 use Rattle.sg_format.specs.GameFiles.{game_of_table, is_matrix_key, is_patrols_key, is_resources_key, listed_game, matrix_game, patrols_game, resources_game, scale_at}
 use Rattle.sg_format.specs.Changes.{DiffersAt, fault_in, list_fault}
@@ -16,6 +17,21 @@ use Rattle.sg_format.specs.FaultLaws.{FaultyListIsRefused}
 use Rattle.sg_format.proofs.Keys.{apart, changed_only, same}
 use Rattle.sg_format.proofs.Files.{IsHeaded, IsListedFile, IsMatrixFile, IsPatrolsFile, by_file}
 use Rattle.sg_format.proofs.Faults.{headed}
+
+-- a fault of the first step is the list's fault
+pub matrix_begin : (rows : ℕ) (value : Data) (fault : GameFault) → some_at place_of.Document 8 value ≡ Err fault → matrix_types_at rows value ≡ Err fault
+unfolding matrix_types_at
+matrix_begin rows value fault e = rw e refl
+
+pub security_begin : (scaled : Bool) (targets : ℕ) (value : Data) (fault : GameFault) → some_at place_of.Document (if scaled then 1 else 8) value ≡ Err fault
+    → security_types_at scaled targets value ≡ Err fault
+unfolding security_types_at
+security_begin scaled targets value fault e = rw e refl
+
+pub named_begin : (place : ℕ → Place) (key : List ℕ) (known : List (List ℕ)) (limit members : ℕ) (value : Data) (fault : GameFault) → few_at place_of.Document limit value ≡ Err fault
+    → named_lists_at place key known limit members value ≡ Err fault
+unfolding named_lists_at
+named_begin place key known limit members value fault e = rw e refl
 
 fails_by : {A : Type 0} (r : Result A GameFault) (fault : GameFault) → fault_in r ≡ Some fault → r ≡ Err fault
 fails_by (Ok x) fault e = absurd (cc)

@@ -1,19 +1,29 @@
 -- The steps by which a document is the document of a game.
-use Rattle.std.proofs.Common.{◌≡◌, ℕ, Bool, true, false, not, [], length, ℤ, pos, Option, Some, None, is_some, unwrap_or, Ok, refl, subst}
+use Rattle.std.proofs.Common.{◌≡◌, ℕ, Bool, true, false, not, List, [], length, ℤ, pos, Option, Some, None, is_some, unwrap_or, Ok, refl, subst}
 use Rattle.std.specs.Prelude.{codes, if◌then◌else◌}
 use Rattle.std.proofs.lemmas.Bool.{not-true}
 use Rattle.toml.specs.Data.{Data, Members, get_member}
 use Rattle.sg_model.specs.declared.fault.Place.TheVariants as place_of
 use Rattle.sg_model.specs.declared.kind.Kind.{Kind}
 use Rattle.sg_model.specs.declared.kind.Kind.TheVariants.{Security, Matrix}
-use Rattle.sg_model.specs.Games.{Game}
+use Rattle.sg_model.specs.Games.{Attacker, Game, Named}
 use Rattle.sg_model.specs.Limits.{is_scaled}
 use Rattle.sg_format.specs.Documents.{has_only, needed_at, number_at}
 use Rattle.sg_format.specs.Lists.{names_at, resources_at, schedules_at}
 use Rattle.sg_format.specs.Types.{matrix_types_at, security_types_at}
 use Rattle.sg_format.specs.GameFiles.{count_of, form_of, game_of_form, game_of_table, is_matrix_key, is_patrols_key, is_resources_key, limits_of, listed_game, matrix_game, patrols_game, resources_game, scale_at, security_game, version_of}
-use Rattle.sg_format.proofs.Accepted.{scale_at-scale}
 use Rattle.sg_format.proofs.Inversion.{after, after_test, needed_is}
+use Rattle.sg_format.proofs.Values.{scale_at-scale}
+
+-- the games of the three kinds, from what their documents list
+abbrev pub tabled : List (List ℕ) → List Attacker → Game
+tabled rows types = record { kind = Matrix; scale = pos 0; patrols = None; goals = rows; schedules = []; resources = []; types = types }
+
+abbrev pub patrolled : ℤ → ℕ → List (List ℕ) → List Attacker → Game
+patrolled scale patrols targets types = record { kind = Security; scale = scale; patrols = Some patrols; goals = targets; schedules = []; resources = []; types = types }
+
+abbrev pub scheduled : List (List ℕ) → List Named → List Named → List Attacker → Game
+scheduled targets schedules resources types = record { kind = Security; scale = pos 0; patrols = None; goals = targets; schedules = schedules; resources = resources; types = types }
 
 -- a document in matrix form
 pub record IsMatrixFile (table : Members) (g : Game) : Type 0 where
@@ -25,6 +35,8 @@ pub record IsMatrixFile (table : Members) (g : Game) : Type 0 where
   pub types_there : get_member (codes "type") table ≡ Some attackers
   pub rows : names_at place_of.Document place_of.Row 4096 listed ≡ Ok g.goals
   pub types : matrix_types_at (length g.goals) attackers ≡ Ok g.types
+  pub whole : tabled g.goals g.types ≡ g
+  pub limits : limits_of (tabled g.goals g.types) false ≡ Ok tt
 
 matrix_file : (table : Members) (g : Game) → matrix_game table ≡ Ok g → IsMatrixFile table g
 unfolding matrix_game
@@ -34,7 +46,7 @@ matrix_file table g h =
     after (needed_at place_of.Document (codes "type") table) h2 (λ attackers e3 h3.
     after (names_at place_of.Document place_of.Row 4096 listed) h3 (λ rows e4 h4.
     after (matrix_types_at (length rows) attackers) h4 (λ types e5 h5.
-    let y : Game = record { kind = Matrix; scale = pos 0; patrols = None; goals = rows; schedules = []; resources = []; types = types } in
+    let y = tabled rows types in
     after (limits_of y false) h5 (λ u e6 last.
     let same : y ≡ g = cc in
     let is : IsMatrixFile table y = record {
@@ -46,6 +58,8 @@ matrix_file table g h =
       types_there = needed_is (get_member (codes "type") table) _ _ attackers e3;
       rows = e4;
       types = e5;
+      whole = refl;
+      limits = e6;
     } in
     subst (IsMatrixFile table) same is))))))
 
@@ -68,6 +82,8 @@ pub record IsPatrolsFile (given : Data) (table : Members) (g : Game) : Type 0 wh
   pub scale_read : scale_at (get_member (codes "scale") table) ≡ Ok scale
   pub count_read : number_at place_of.Document (pos 0) (pos (if is_some (get_member (codes "scale") table) then 200 else 32)) given ≡ Ok count
   pub types : security_types_at (is_some (get_member (codes "scale") table)) (length g.goals) attackers ≡ Ok g.types
+  pub whole : patrolled (unwrap_or scale (pos 0)) (count_of count) g.goals g.types ≡ g
+  pub limits : limits_of (patrolled (unwrap_or scale (pos 0)) (count_of count) g.goals g.types) (is_some (get_member (codes "scale") table)) ≡ Ok tt
 
 patrols_file : (given : Data) (table : Members) (g : Game) → patrols_game given table ≡ Ok g → IsPatrolsFile given table g
 unfolding patrols_game
@@ -81,7 +97,7 @@ patrols_file given table g h =
     after (scale_at declared) h4 (λ scale e5 h5.
     after (number_at place_of.Document (pos 0) (pos (if scaled then 200 else 32)) given) h5 (λ patrols e6 h6.
     after (security_types_at scaled (length targets) attackers) h6 (λ types e7 h7.
-    let y : Game = record { kind = Security; scale = unwrap_or scale (pos 0); patrols = Some (count_of patrols); goals = targets; schedules = []; resources = []; types = types } in
+    let y = patrolled (unwrap_or scale (pos 0)) (count_of patrols) targets types in
     after (limits_of y scaled) h7 (λ u e8 last.
     let same : y ≡ g = cc in
     let is : IsPatrolsFile given table y = record {
@@ -102,6 +118,8 @@ patrols_file given table g h =
       types_there = needed_is (get_member (codes "type") table) _ _ attackers e3;
       targets = e4;
       types = e7;
+      whole = refl;
+      limits = e8;
     } in
     subst (IsPatrolsFile given table) same is))))))))
 
@@ -124,6 +142,8 @@ pub record IsListedFile (table : Members) (g : Game) : Type 0 where
   pub schedules : schedules_at g.goals given ≡ Ok g.schedules
   pub resources : resources_at g.schedules manned ≡ Ok g.resources
   pub types : security_types_at false (length g.goals) attackers ≡ Ok g.types
+  pub whole : scheduled g.goals g.schedules g.resources g.types ≡ g
+  pub limits : limits_of (scheduled g.goals g.schedules g.resources g.types) false ≡ Ok tt
 
 listed_file : (table : Members) (g : Game) → resources_game table ≡ Ok g → IsListedFile table g
 unfolding resources_game listed_game
@@ -138,7 +158,7 @@ listed_file table g h =
     after (schedules_at targets given) h7 (λ schedules e8 h8.
     after (resources_at schedules manned) h8 (λ resources e9 h9.
     after (security_types_at false (length targets) attackers) h9 (λ types e10 h10.
-    let y : Game = record { kind = Security; scale = pos 0; patrols = None; goals = targets; schedules = schedules; resources = resources; types = types } in
+    let y = scheduled targets schedules resources types in
     after (limits_of y false) h10 (λ u e11 last.
     let same : y ≡ g = cc in
     let is : IsListedFile table y = record {
@@ -159,6 +179,8 @@ listed_file table g h =
       schedules = e8;
       resources = e9;
       types = e10;
+      whole = refl;
+      limits = e11;
     } in
     subst (IsListedFile table) same is)))))))))))
 

@@ -16,12 +16,6 @@ pub after_test : {B Goal : Type 0} (test : Bool) (reason : ℕ) (place : Place) 
 after_test true reason place h k = k refl h
 after_test false reason place h k = absurd (cc)
 
--- a value that was there
-pub after_need : {A B Goal : Type 0} (o : Option A) (reason : ℕ) (place : Place) {next : A → Result B GameFault} {answer : B} → (needed o reason place >>= next) ≡ Ok answer
-    → ((x : A) → o ≡ Some x → next x ≡ Ok answer → Goal) → Goal
-after_need (Some x) reason place h k = k x refl h
-after_need None reason place h k = absurd (cc)
-
 pub passed_is : (test : Bool) (reason : ℕ) (place : Place) (x : Unit {0}) → passed test reason place ≡ Ok x → test ≡ true
 passed_is true reason place x h = refl
 passed_is false reason place x h = absurd (cc)

@@ -9,7 +9,6 @@ pub mod Keys
 pub mod Files
 pub mod Faults
 pub mod FaultyLists
-pub mod TopLists
 pub mod Broken
 pub mod Entries
 pub mod Parted

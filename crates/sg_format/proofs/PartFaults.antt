@@ -26,8 +26,7 @@ use Rattle.sg_format.proofs.Keys.{apart}
 use Rattle.sg_format.proofs.Listed.{named_lists_at-lists, names_at-names}
 use Rattle.sg_format.proofs.Files.{IsHeaded, IsListedFile, IsMatrixFile, IsPatrolsFile, by_file}
 use Rattle.sg_format.proofs.Faults.{form_same, version_same}
-use Rattle.sg_format.proofs.FaultyLists.{IsListedTable, listed_steps, listed_targets_fail, listed_types_fail, matrix_types_fail, patrols_types_fail, resources_fail, rows_fail, schedules_fail, targets_fail}
-use Rattle.sg_format.proofs.TopLists.{matrix_begin, named_begin, security_begin}
+use Rattle.sg_format.proofs.FaultyLists.{IsListedTable, listed_steps, listed_targets_fail, listed_types_fail, matrix_begin, matrix_types_fail, named_begin, patrols_types_fail, resources_fail, rows_fail, schedules_fail, security_begin, targets_fail}
 use Rattle.sg_format.proofs.Broken.{few_fails, no_reason, number_fails, reason_of, some_fails}
 use Rattle.sg_format.proofs.Entries.{at_set, before_set, count_set, entry_at, few_is, few_other, some_is, some_other}
 use Rattle.sg_format.proofs.Parted.{front_is, names_part_fails, names_place, only, place_is}

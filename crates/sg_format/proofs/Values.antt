@@ -1,17 +1,20 @@
 -- What the values and names that are read promise.
-use Rattle.std.proofs.Common.{◌≡◌, ◌≢◌, ℕ, Bool, true, false, not, ◌&&◌, int_le, List, [], ◌∷◌, ◌++◌, ℤ, Ok, sym, subst, ◌∙◌, arith, bytes_eq}
+use Rattle.std.proofs.Common.{◌≡◌, ◌≢◌, ℕ, ◌^◌, Bool, true, false, not, ◌&&◌, int_le, int_lt, List, [], ◌∷◌, ◌++◌, ℤ, pos, Option, Some, None, is_some, unwrap_or, Ok, refl, sym, subst, ◌∙◌, arith, bytes_eq}
 use Rattle.std.specs.List.{All, list_any}
 use Rattle.std.proofs.lemmas.Bool.{true≢false, not-true, or_parts}
 use Rattle.std.proofs.lemmas.List.Elements.{All-nil, All-cons, All-push, All-weaker}
 use Rattle.std.proofs.lemmas.List.Quantifiers.{all_pairs_push}
 use Rattle.std.proofs.lemmas.Slice.Eq.{bytes_eq-Decides}
+use Rattle.std.proofs.lemmas.Int.{ints}
 use Rattle.toml.specs.Data.{Data}
 use Rattle.sg_model.specs.declared.fault.Place.{Place}
+use Rattle.sg_model.specs.declared.fault.Place.TheVariants as place_of
 use Rattle.sg_model.specs.Names.{AreNames, is_name}
 use Rattle.sg_model.specs.Limits.{IsWithin}
 use Rattle.sg_model.proofs.Deciding.{range_by}
 use Rattle.sg_format.specs.Documents.{integer_at, text_at, number_at, name_at}
 use Rattle.sg_format.specs.Lists.{new_name}
+use Rattle.sg_format.specs.GameFiles.{scale_at}
 use Rattle.sg_format.proofs.Inversion.{after, after_test}
 
 pub number_at-within : (place : Place) (low high : ℤ) (value : Data) (z : ℤ) → number_at place low high value ≡ Ok z → IsWithin low high z
@@ -63,3 +66,24 @@ AreNames-push before name h is = record {
   spelled = All-push (λ x. is_name x ≡ true) before name h.spelled is.spelled;
   distinct = all_pairs_push (λ x y. x ≢ y) before name h.distinct is.new;
 }
+
+-- the scale of a game: 0, or from 1 where one is declared
+pub record IsScale (declared : Bool) (z : ℤ) : Type 0 where
+  pub is : int_lt (pos 0) z ≡ declared
+  pub range : IsWithin (pos 0) (pos (2 ^ 32)) z
+
+pub scale_at-scale : (declared : Option Data) (scale : Option ℤ) → scale_at declared ≡ Ok scale → IsScale (is_some declared) (unwrap_or scale (pos 0))
+unfolding scale_at
+scale_at-scale None scale h =
+    let same : None ≡ scale = cc in
+    let is : IsScale false (pos 0) = record { is = refl; range = record { at_least = omega (arith, ints); at_most = omega (arith, ints) } } in
+    subst (λ (o : Option ℤ). IsScale false (unwrap_or o (pos 0))) same is
+scale_at-scale (Some value) scale h =
+    after (number_at place_of.Document (pos 1) (pos (2 ^ 32)) value) h (λ z e last.
+    let same : Some z ≡ scale = cc in
+    let within = number_at-within place_of.Document (pos 1) (pos (2 ^ 32)) value z e in
+    let is : IsScale true z = record {
+      is = sym (omega (arith, ints, within.at_least));
+      range = record { at_least = omega (arith, ints, within.at_least); at_most = within.at_most };
+    } in
+    subst (λ (o : Option ℤ). IsScale true (unwrap_or o (pos 0))) same is)

@@ -1,5 +1,5 @@
 -- A document in which one key was changed, the keys of a game's document, and the fault of a value at one of them.
-use Rattle.std.specs.Prelude.{◌≡◌, ◌≢◌, ℕ, Bool, false, not, ◌&&◌, ◌||◌, if◌then◌else◌, List, length, Option, Some, None, Result, Ok, Err, codes, bytes_eq}
+use Rattle.std.specs.Prelude.{◌≡◌, ◌≢◌, ℕ, Bool, false, if◌then◌else◌, List, length, Option, Some, None, Result, Ok, Err, codes, bytes_eq}
 use Rattle.toml.specs.Data.{Data, Members, get_member}
 use Rattle.sg_model.specs.declared.kind.Kind.{Kind}
 use Rattle.sg_model.specs.declared.kind.Kind.TheVariants.{Security, Matrix}
@@ -9,7 +9,6 @@ use Rattle.sg_model.specs.Games.{Game}
 use Rattle.sg_model.specs.Limits.{is_scaled}
 use Rattle.sg_format.specs.Lists.{names_at, resources_at, schedules_at}
 use Rattle.sg_format.specs.Types.{matrix_types_at, security_types_at}
-use Rattle.sg_format.specs.GameText.{goals_key, is_listed}
 use Rattle.sg_format.specs.GameFiles.{is_matrix_key, is_patrols_key, is_resources_key}
 
 -- the second table differs from the first at one key alone: there it has this value, or none
@@ -22,14 +21,6 @@ abbrev pub is_key_of : Kind → Option ℕ → List ℕ → Bool
 is_key_of Matrix patrols key = is_matrix_key key
 is_key_of Security (Some n) key = is_patrols_key key
 is_key_of Security None key = is_resources_key key
-
--- the top keys of a game
-abbrev pub is_top_key : Game → List ℕ → Bool
-is_top_key g key = is_key_of g.kind g.patrols key
-
--- the top keys that a game needs: all but the scale
-abbrev pub is_needed_key : Game → List ℕ → Bool
-is_needed_key g key = not (bytes_eq key (codes "scale")) && is_top_key g key
 
 -- the fault with which a reading ends, if it does
 abbrev pub fault_in : {A : Type 0} → Result A GameFault → Option GameFault
@@ -52,18 +43,3 @@ list_fault Security None g key value =
     else if bytes_eq key (codes "resource") then fault_in (resources_at g.schedules value)
     else if bytes_eq key (codes "type") then fault_in (security_types_at false (length g.goals) value)
     else None
-
--- the key of a list that must have an item: targets or rows, and types
-abbrev pub is_filled_key : Game → List ℕ → Bool
-is_filled_key g key = bytes_eq key (goals_key g.kind) || bytes_eq key (codes "type")
-
--- the key of a list in the document of a game
-abbrev pub is_list_key : Game → List ℕ → Bool
-is_list_key g key = is_filled_key g key || (is_listed g && (bytes_eq key (codes "schedule") || bytes_eq key (codes "resource")))
-
--- how many items the list at a key may have
-abbrev pub list_limit : Kind → Option ℕ → Bool → List ℕ → ℕ
-list_limit Matrix patrols scaled key = if bytes_eq key (codes "rows") then 4096 else 8
-list_limit Security (Some n) scaled key = if bytes_eq key (codes "targets") then (if scaled then 10000 else 200) else (if scaled then 1 else 8)
-list_limit Security None scaled key =
-    if bytes_eq key (codes "targets") then 200 else (if bytes_eq key (codes "schedule") then 500 else (if bytes_eq key (codes "resource") then 32 else 8))

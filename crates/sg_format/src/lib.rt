@@ -9,9 +9,8 @@ mod laws;
 mod part_laws;
 
 pub use laws::{
-    accepted_is_game, empty_list_is_refused, faulty_list_is_refused, long_list_is_refused,
-    missing_key_is_refused, not_toml_is_refused, other_form_is_refused, other_kind_is_refused,
-    other_version_is_refused, unknown_key_is_refused, worked_texts,
+    accepted_is_game, faulty_list_is_refused, not_toml_is_refused, other_version_is_refused,
+    worked_texts,
 };
 pub use part_laws::{
     bad_scale_is_refused, empty_part_is_refused, head_is_refused, long_part_is_refused,

@@ -1,8 +1,9 @@
 //! Game files: the games that they are, and their canonical texts.
 use crate::samples::{FOUR_TARGETS, MATRIX, TWO_TARGETS, TWO_TYPES};
 use crate::shown::{Part, Pay, shows};
-use sg_file::{GameError, read_game, write_game};
+use sg_file::{GameError, read_game};
 use sg_game::Kind;
+use sg_game_text::write_game;
 use std::alloc::Global;
 
 /// Files, and facts on their games.

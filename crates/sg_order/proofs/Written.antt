@@ -15,7 +15,7 @@ use Rattle.std.proofs.lemmas.Str.{IsAscii-append}
 use Rattle.std.proofs.lemmas.Str.Ascii.{IsAscii-from_all}
 use Rattle.toml_parser.specs.Lexical.{is_bare}
 use Rattle.toml_writer.specs.Text.{Encoding, basic, encoded, encoding_of, escaped, key_text, literal, multi_basic, multi_literal, needs_escape, opening_newline, quotes_after, string_text, has}
-use Rattle.toml.specs.Data.{Data, depth, integer, items_depth, members_depth, string}
+use Rattle.toml.specs.Data.{Data, Members, depth, integer, items_depth, member, members_depth, no_members, string}
 use Rattle.sg_model.specs.declared.kind.Kind.{Kind}
 use Rattle.sg_model.specs.declared.kind.Kind.TheVariants.{Security, Matrix}
 use Rattle.sg_model.specs.Games.{Attacker, Game, Named, Payoff}
@@ -28,7 +28,7 @@ use Rattle.sg_game.proofs.Steps.{and_both}
 use Rattle.sg_format.specs.FaultExamples.{items_of, listed}
 use Rattle.sg_format.specs.GameFiles.{game_of_bytes}
 use Rattle.sg_format.proofs.Accepted.{accepted}
-use Rattle.sg_order.specs.Tables.{matrix_table, member_names, names_array, patrols_table, pays_array, resources_table, table_array}
+use Rattle.sg_order.specs.Tables.{matrix_table, member_names, names_array, patrols_table, pays_array, resources_table, table_array, with_scale}
 use Rattle.sg_order.specs.Documents.{declared_scale, game_table, game_table_by, named_entry, resource_entries, schedule_entries, type_entries, type_entry}
 use Rattle.sg_order.specs.Acceptance.{AcceptedFiles}
 use Rattle.sg_order.proofs.Ascending.{ascending}
@@ -247,94 +247,30 @@ scale_plain : (scaled : Bool) (z : ℤ) → IsWithin (pos 0) (pos (2 ^ 32)) z �
 scale_plain true z h = number_plain z (record { at_least = omega (arith, ints, h.at_least); at_most = h.at_most })
 scale_plain false z h = tt
 
+-- what holds with a plain scale before the members, and with none
+scaled : (P : Members → Type 0) (scale : Option ℤ) (rest : Members) → ((z : ℤ) → IsPlain (integer z) → P (member (codes "scale") (integer z) rest)) → P rest → IsPlainScale scale → P (with_scale scale rest)
+scaled P (Some z) rest with without plain = with z plain
+scaled P None rest with without plain = without
+
+-- the members at the end of a document in security form
+targets_on : (targets types : Data) → IsPlain targets → IsPlain types → HasPlain (member (codes "targets") targets (member (codes "type") types (member (codes "version") (integer (pos 1)) no_members)))
+targets_on targets types a b = (bare_key (codes "targets") refl refl, a, refl, (bare_key (codes "type") refl refl, b, refl, (bare_key (codes "version") refl refl, one_plain, refl, tt)))
+
 patrols_file : (scale : Option ℤ) (patrols : ℤ) (targets types : Data) → IsPlainScale scale → IsPlain (integer patrols) → IsPlain targets → IsPlain types → HasPlain (patrols_table scale patrols targets types)
-patrols_file (Some scale) patrols targets types a b c d = (
-  bare_key (codes "form") refl refl,
-  security_word,
-  refl,
-  (
-    bare_key (codes "patrols") refl refl,
-    b,
-    refl,
-    (
-      bare_key (codes "scale") refl refl,
-      a,
-      refl,
-      (
-        bare_key (codes "targets") refl refl,
-        c,
-        refl,
-        (bare_key (codes "type") refl refl, d, refl, (bare_key (codes "version") refl refl, one_plain, refl, tt)),
-      ),
-    ),
-  ),
-)
-patrols_file None patrols targets types a b c d = (
-  bare_key (codes "form") refl refl,
-  security_word,
-  refl,
-  (
-    bare_key (codes "patrols") refl refl,
-    b,
-    refl,
-    (
-      bare_key (codes "targets") refl refl,
-      c,
-      refl,
-      (bare_key (codes "type") refl refl, d, refl, (bare_key (codes "version") refl refl, one_plain, refl, tt)),
-    ),
-  ),
-)
+patrols_file scale patrols targets types a b c d =
+    let on = targets_on targets types c d in
+    scaled (λ (ms : Members). HasPlain (member (codes "form") (string (codes "security")) (member (codes "patrols") (integer patrols) ms))) scale _
+    (λ z plain. (bare_key (codes "form") refl refl, security_word, refl, (bare_key (codes "patrols") refl refl, b, refl, (bare_key (codes "scale") refl refl, plain, refl, on))))
+    (bare_key (codes "form") refl refl, security_word, refl, (bare_key (codes "patrols") refl refl, b, refl, on)) a
 
 resources_file : (scale : Option ℤ) (targets schedules resources types : Data) → IsPlainScale scale → IsPlain targets → IsPlain schedules → IsPlain resources → IsPlain types
     → HasPlain (resources_table scale targets schedules resources types)
-resources_file (Some scale) targets schedules resources types a b c d e = (
-  bare_key (codes "form") refl refl,
-  security_word,
-  refl,
-  (
-    bare_key (codes "resource") refl refl,
-    d,
-    refl,
-    (
-      bare_key (codes "scale") refl refl,
-      a,
-      refl,
-      (
-        bare_key (codes "schedule") refl refl,
-        c,
-        refl,
-        (
-          bare_key (codes "targets") refl refl,
-          b,
-          refl,
-          (bare_key (codes "type") refl refl, e, refl, (bare_key (codes "version") refl refl, one_plain, refl, tt)),
-        ),
-      ),
-    ),
-  ),
-)
-resources_file None targets schedules resources types a b c d e = (
-  bare_key (codes "form") refl refl,
-  security_word,
-  refl,
-  (
-    bare_key (codes "resource") refl refl,
-    d,
-    refl,
-    (
-      bare_key (codes "schedule") refl refl,
-      c,
-      refl,
-      (
-        bare_key (codes "targets") refl refl,
-        b,
-        refl,
-        (bare_key (codes "type") refl refl, e, refl, (bare_key (codes "version") refl refl, one_plain, refl, tt)),
-      ),
-    ),
-  ),
-)
+resources_file scale targets schedules resources types a b c d e =
+    let on : HasPlain (member (codes "schedule") schedules (member (codes "targets") targets (member (codes "type") types (member (codes "version") (integer (pos 1)) no_members)))) =
+    (bare_key (codes "schedule") refl refl, c, refl, targets_on targets types b e) in
+    scaled (λ (ms : Members). HasPlain (member (codes "form") (string (codes "security")) (member (codes "resource") resources ms))) scale _
+    (λ z plain. (bare_key (codes "form") refl refl, security_word, refl, (bare_key (codes "resource") refl refl, d, refl, (bare_key (codes "scale") refl refl, plain, refl, on))))
+    (bare_key (codes "form") refl refl, security_word, refl, (bare_key (codes "resource") refl refl, d, refl, on)) a
 
 matrix_file : (rows types : Data) → IsPlain rows → IsPlain types → HasPlain (matrix_table rows types)
 matrix_file rows types a b =

@@ -1,4 +1,4 @@
-use Rattle.std.proofs.Common.{◌≡◌, ◌∙◌, ◌+◌, ◌++◌, ◌∷◌, [], List, length, map, get_or, Ok, sym, arith}
+use Rattle.std.proofs.Common.{◌≡◌, ◌∙◌, ◌+◌, length, map, get_or, Ok, sym, arith}
 use Rattle.std.proofs.lemmas.List.{map_push, length-map}
 use Rattle.toml.specs.View.{view as data_of}
 use Rattle.sg_model.specs.Games.{Attacker}
@@ -6,31 +6,28 @@ use Rattle.sg_model.specs.declared.fault.Place.TheVariants as place_of
 use Rattle.sg_game.specs.Seen.{attacker_of}
 use Rattle.sg_format.specs.Types.{security_type_at}
 use Rattle.sg_file.specs.Answers.{Fails}
-use Rattle.sg_file.proofs.Items.{each-Fails, each-next, each-done}
+use Rattle.sg_file.proofs.Items.{each-done, numbered-Fails, numbered-next}
 use Rattle.sg_file.proofs.types.security_types_of.Goals as goal
 
 pub returns-in-Err : goal.returns-in-Err
 returns-in-Err c =
     let before = map attacker_of c.loop-i.types.items in
-    let count : length before ≡ c.loop-i.i = omega (arith, length-map c.loop-i.types.items attacker_of) in
-    let read : Fails c.in-Err.e (security_type_at (place_of.Attacker (length before + 1)) c.args.scaled c.args.targets before (data_of (get_or c.args.values.now c.loop-i.i c.index-values-i.result))) =
-    rw (count, ← c.index-values-i.is) (c.in-Err.ensures.gives before c.loop-i.invariant.indexed) in
-    rw (← c.loop-i.invariant.read) (each-Fails _ before c.args.values.now c.loop-i.i c.index-values-i.result c.in-Err.e c.loop-i-test.true read)
+    let read : Fails c.in-Err.e (security_type_at (place_of.Attacker (c.loop-i.i + 1)) c.args.scaled c.args.targets before (data_of (get_or c.args.values.now c.loop-i.i c.index-values-i.result))) =
+    rw (← c.index-values-i.is) (c.in-Err.ensures.gives before c.loop-i.invariant.indexed) in
+    rw (← c.loop-i.invariant.read) (numbered-Fails attacker_of (λ n. security_type_at (place_of.Attacker n) c.args.scaled c.args.targets) c.loop-i.types.items c.args.values.now c.loop-i.i (omega arith) c.index-values-i.result c.in-Err.e c.loop-i-test.true read)
 
 pub loop-i-preserved : goal.loop-i-preserved
 loop-i-preserved c =
     let before = map attacker_of c.loop-i.types.items in
-    let count : length before ≡ c.loop-i.i = omega (arith, length-map c.loop-i.types.items attacker_of) in
-    let read : security_type_at (place_of.Attacker (length before + 1)) c.args.scaled c.args.targets before (data_of (get_or c.args.values.now c.loop-i.i c.index-values-i.result)) ≡ Ok (attacker_of c.in-Ok.attacker) =
-    rw (count, ← c.index-values-i.is) (c.in-Ok.ensures.gives before c.loop-i.invariant.indexed) in
-    let step = each-next (λ (earlier : List Attacker). security_type_at (place_of.Attacker (length earlier + 1)) c.args.scaled c.args.targets earlier) before c.args.values.now c.loop-i.i c.index-values-i.result _ c.loop-i-test.true read in
-    let pushed : map attacker_of c.push.new.self.items ≡ before ++ attacker_of c.in-Ok.attacker ∷ [] =
-    rw (c.in_ok-push-in-Ok.ensures.items) (map_push attacker_of c.loop-i.types.items c.in-Ok.attacker) in
-    let names_count : c.loop-i.i + 1 ≡ length (map (λ (x : Attacker). x.name) before) + 1 = omega (arith, length-map before (λ (x : Attacker). x.name)) in
+    let read : security_type_at (place_of.Attacker (c.loop-i.i + 1)) c.args.scaled c.args.targets before (data_of (get_or c.args.values.now c.loop-i.i c.index-values-i.result)) ≡ Ok (attacker_of c.in-Ok.attacker) =
+    rw (← c.index-values-i.is) (c.in-Ok.ensures.gives before c.loop-i.invariant.indexed) in
+    let next = numbered-next attacker_of (λ n. security_type_at (place_of.Attacker n) c.args.scaled c.args.targets) c.loop-i.types.items c.args.values.now c.loop-i.i (omega arith) c.index-values-i.result c.in-Ok.attacker c.loop-i-test.true read in
+    let names_count : c.loop-i.i + 1 ≡ length (map (λ (x : Attacker). x.name) before) + 1 = omega (arith, length-map before (λ (x : Attacker). x.name), length-map c.loop-i.types.items attacker_of) in
     record {
       count = rw (c.in_ok-push-in-Ok.ensures.len) (omega arith);
-      indexed = rw (pushed, map_push (λ (x : Attacker). x.name) before (attacker_of c.in-Ok.attacker)) (c.in-Ok.ensures.indexed (map (λ (x : Attacker). x.name) before) c.loop-i.invariant.indexed names_count);
-      read = rw pushed (sym step ∙ c.loop-i.invariant.read);
+      indexed = rw (c.in_ok-push-in-Ok.ensures.items, map_push attacker_of c.loop-i.types.items c.in-Ok.attacker, map_push (λ (x : Attacker). x.name) before (attacker_of c.in-Ok.attacker))
+          (c.in-Ok.ensures.indexed (map (λ (x : Attacker). x.name) before) c.loop-i.invariant.indexed names_count);
+      read = rw (c.in_ok-push-in-Ok.ensures.items) (next ∙ c.loop-i.invariant.read);
     }
 
 pub returns : goal.returns

@@ -1,9 +1,0 @@
-use Rattle.std.proofs.Common.{◌≡◌, ◌++◌, map, take}
-use Rattle.sg_model.specs.Games.{attacker}
-use Rattle.sg_format.specs.GameText.{joined, pays_array}
-use Rattle.sg_file.specs.Writing.{table_of}
-use Rattle.sg_file.proofs.tables.put_table.Given as goal
-
--- the items so far
-abbrev pub invariant-loop-i : goal.invariant-loop-i
-invariant-loop-i l = l.text.items ≡ l.initial.text.items ++ joined (map pays_array (take l.i (table_of l.side (attacker l.game l.l))))

@@ -1,7 +1,0 @@
-use Rattle.std.proofs.Common.{◌≡◌, ◌++◌, map, take}
-use Rattle.sg_format.specs.GameText.{joined, quoted}
-use Rattle.sg_file.proofs.write.put_goal_names.Given as goal
-
--- the items so far
-abbrev pub invariant-loop-t : goal.invariant-loop-t
-invariant-loop-t l = l.text.items ≡ l.initial.text.items ++ joined (map quoted (take l.t l.game.goals))
