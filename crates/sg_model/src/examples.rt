@@ -9,7 +9,7 @@ pub fn worked_examples()
     ensures { WorkedExamples }
 {}
 
-/// Cases at the edges (`specs/EdgeExamples.antt`): sums of several types, a bound over 0, which bytes spell names, and
+/// Cases at the edges (`specs/EdgeExamples.antt`): sums of several types, a bound over 0, which bytes spell names, texts, and
 /// games that break one rule each and are none.
 pub fn worked_edges()
     ensures { WorkedEdges }
