@@ -15,6 +15,8 @@ pub mod Listed
 pub mod Deciding
 pub mod Answering
 pub mod Worked
+pub mod WorkedOrders
+pub mod WorkedSizes
 pub mod Waters
 pub mod Small
 pub mod Spans

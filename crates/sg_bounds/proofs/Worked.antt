@@ -1,5 +1,5 @@
 -- The worked reports, by computing.
-use Rattle.std.proofs.Common.{◌≡◌, ℕ, zero, suc, ◌+◌, ◌-◌, ◌^◌, ◌%◌, Bool, true, false, true≢false, cond, List, [], ◌∷◌, ◌++◌, map, pos, sym, ◌∙◌, ap, subst, refl, eqb, int_le, unsigned_abs, Option, Some, None}
+use Rattle.std.proofs.Common.{◌≡◌, ℕ, zero, suc, ◌+◌, ◌-◌, ◌^◌, ◌%◌, Bool, true, false, true≢false, cond, List, [], ◌∷◌, map, pos, sym, ◌∙◌, ap, subst, refl, eqb, int_le, unsigned_abs, Option, Some, None}
 use Rattle.std.specs.Int.{IsGcd}
 use Rattle.std.specs.Prelude.{min}
 use Rattle.std.proofs.lemmas.Bool.Decides.{Decides-eqb}
@@ -20,7 +20,7 @@ use Rattle.sg_model.specs.declared.level.Level.TheVariants.{Resources, Target}
 use Rattle.sg_bounds.specs.Trees.{Node, unproved, closed, split, node_of, parts_of}
 use Rattle.sg_bounds.specs.Accepted.{IsAccepted}
 use Rattle.sg_bounds.specs.Checking.{IsRefused}
-use Rattle.sg_bounds.specs.Examples.{WorkedReports, all_but_one, based_report, both_dominated, both_dominated_report, cover_report, dominated, dominated_report, empty_fact, false_and_wide, first_fact, half_dominated, half_dominated_report, indifferent, late_fact, level_tree, low_water, mark, nested_report, never_taken, one_alone, no_target, often_paid, one_first, one_target, one_type_report, one_type_tree, open_below, open_report, open_tree, over, over_cover, over_plays, plain_cap, proved_cap, rare_fact, rare_players, rare_report, reported, row, row_report, same_for_both, same_report, second_fact, second_short, shared_fact, shared_report, short_fact, sized_report, small_mark, spent_report, split_for_scaled, spread_fact, spread_players, spread_report, third_cap, three_players, three_types_report, twice_half, two_caps, two_to_one, two_types_tree, unbased_report, unproved_tree, up_and_down, water_report, weighted_fact, weighted_players, weighted_report, well_paid, wide_bound, with_caps, with_tickets, with_tree, worth_nothing, wrong_and_wide, wrong_twice}
+use Rattle.sg_bounds.specs.Examples.{WorkedReports, based_report, both_dominated, both_dominated_report, cover_report, dominated, dominated_report, empty_fact, first_fact, half_dominated, half_dominated_report, late_fact, level_tree, low_players, low_report, low_water, mark, nested_report, no_target, one_alone, one_target, one_type_report, one_type_tree, open_below, open_report, open_tree, over, over_cover, over_plays, plain_cap, proved_cap, reported, row, row_report, second_fact, shared_fact, shared_report, short_fact, small_mark, spent_report, split_for_scaled, two_to_one, two_types_tree, unbased_report, water_report, weighted_fact, weighted_players, weighted_report, wide_bound, with_caps, with_tickets, with_tree}
 use Rattle.sg_bounds.proofs.Told.{Decides-le_z}
 use Rattle.sg_bounds.proofs.Nodes.{node_of-Closed, node_of-Split, node_of-Unproved}
 use Rattle.sg_bounds.proofs.Answering.{accepted_by, answer, refused_by, stops_at}
@@ -38,10 +38,10 @@ gcd-by (suc n) a b e = by (eqb b 0) refl e (gcd-by n b (a % b))
     by true z e rest = subst (IsGcd a b) ((Decides-eqb a 1).0 e) (IsGcd-from_zero a b ((Decides-eqb b 0).0 z))
     by false z e rest = IsGcd-from_mod a b 1 (rest e)
 
-abbrev reduced_test : Fraction → Bool
+abbrev pub reduced_test : Fraction → Bool
 reduced_test f = cond (int_le (pos 1) f.den) (coprime 10 (unsigned_abs f.num) (unsigned_abs f.den)) false
 
-reduced : (f : Fraction) → reduced_test f ≡ true → IsReduced f
+pub reduced : (f : Fraction) → reduced_test f ≡ true → IsReduced f
 reduced f e = by (int_le (pos 1) f.den) refl e
   where
     by : (t : Bool) → int_le (pos 1) f.den ≡ t → cond t (coprime 10 (unsigned_abs f.num) (unsigned_abs f.den)) false ≡ true → IsReduced f
@@ -50,26 +50,26 @@ reduced f e = by (int_le (pos 1) f.den) refl e
 
 -- ---- the nodes of trees
 
-one_more : (t : Tree) (n : Node) (ts : List Tree) (ns : List Node) → node_of t ≡ n → map node_of ts ≡ ns → map node_of (t ∷ ts) ≡ n ∷ ns
+pub one_more : (t : Tree) (n : Node) (ts : List Tree) (ns : List Node) → node_of t ≡ n → map node_of ts ≡ ns → map node_of (t ∷ ts) ≡ n ∷ ns
 one_more t n ts ns e f = rw (e, f) refl
 
-split-nodes : (l : ℕ) (base : Option Fact) (ts : List Tree) (ns : List Node) → map node_of ts ≡ ns → node_of (Split l base ts) ≡ split l base (parts_of ns)
+pub split-nodes : (l : ℕ) (base : Option Fact) (ts : List Tree) (ns : List Node) → map node_of ts ≡ ns → node_of (Split l base ts) ≡ split l base (parts_of ns)
 split-nodes l base ts ns e = node_of-Split l base ts ∙ ap (λ (ms : List Node). split l base (parts_of ms)) e
 
-one_part : (l : ℕ) (base : Option Fact) (f : Fact) → node_of (Split l base (Closed f ∷ [])) ≡ split l base (parts_of (closed f ∷ []))
+pub one_part : (l : ℕ) (base : Option Fact) (f : Fact) → node_of (Split l base (Closed f ∷ [])) ≡ split l base (parts_of (closed f ∷ []))
 one_part l base f = split-nodes l base (Closed f ∷ []) (closed f ∷ []) (one_more (Closed f) (closed f) [] [] (node_of-Closed f) refl)
 
-two_parts : (l : ℕ) (base : Option Fact) (f h : Fact) → node_of (Split l base (Closed f ∷ Closed h ∷ [])) ≡ split l base (parts_of (closed f ∷ closed h ∷ []))
+pub two_parts : (l : ℕ) (base : Option Fact) (f h : Fact) → node_of (Split l base (Closed f ∷ Closed h ∷ [])) ≡ split l base (parts_of (closed f ∷ closed h ∷ []))
 two_parts l base f h =
     split-nodes l base (Closed f ∷ Closed h ∷ []) (closed f ∷ closed h ∷ [])
     (one_more (Closed f) (closed f) (Closed h ∷ []) (closed h ∷ []) (node_of-Closed f) (one_more (Closed h) (closed h) [] [] (node_of-Closed h) refl))
 
-open_part : (f : Fact) → node_of (Split 1 None (Closed f ∷ Unproved ∷ [])) ≡ split 1 None (parts_of (closed f ∷ unproved ∷ []))
+pub open_part : (f : Fact) → node_of (Split 1 None (Closed f ∷ Unproved ∷ [])) ≡ split 1 None (parts_of (closed f ∷ unproved ∷ []))
 open_part f =
     split-nodes 1 None (Closed f ∷ Unproved ∷ []) (closed f ∷ unproved ∷ [])
     (one_more (Closed f) (closed f) (Unproved ∷ []) (unproved ∷ []) (node_of-Closed f) (one_more Unproved unproved [] [] node_of-Unproved refl))
 
-nested_parts : (f b h j : Fact) → node_of (Split 1 None (Closed f ∷ Split 2 (Some b) (Closed h ∷ Closed j ∷ []) ∷ []))
+pub nested_parts : (f b h j : Fact) → node_of (Split 1 None (Closed f ∷ Split 2 (Some b) (Closed h ∷ Closed j ∷ []) ∷ []))
     ≡ split 1 None (parts_of (closed f ∷ split 2 (Some b) (parts_of (closed h ∷ closed j ∷ [])) ∷ []))
 nested_parts f b h j =
     let inner : Tree = Split 2 (Some b) (Closed h ∷ Closed j ∷ []) in
@@ -79,14 +79,14 @@ nested_parts f b h j =
 
 -- ---- the answers
 
-right : (g : Game) (r : Report) (t : Node) → node_of r.tree ≡ t → is_claim r.tickets.tickets ≡ true → reduced_test r.value ≡ true → reduced_test r.upper ≡ true → answer g r t (stops_at g r t) ≡ None → IsAccepted g r
+pub right : (g : Game) (r : Report) (t : Node) → node_of r.tree ≡ t → is_claim r.tickets.tickets ≡ true → reduced_test r.value ≡ true → reduced_test r.upper ≡ true → answer g r t (stops_at g r t) ≡ None → IsAccepted g r
 right g r t same claim value upper none = accepted_by g r t same (record { tickets = claim; value = reduced r.value value; upper = reduced r.upper upper }) none
 
-wrong : (g : Game) (r : Report) (t : Node) → node_of r.tree ≡ t → (line reason : ℕ) → line ≡ min line (2 ^ 64 - 1) → answer g r t (stops_at g r t) ≡ Some (line, reason) → IsRefused g r line reason
+pub wrong : (g : Game) (r : Report) (t : Node) → node_of r.tree ≡ t → (line reason : ℕ) → line ≡ min line (2 ^ 64 - 1) → answer g r t (stops_at g r t) ≡ Some (line, reason) → IsRefused g r line reason
 wrong g r t same line reason held e = refused_by g r t same line reason line held e
 
 -- a tree of two facts by one type, and one by two types with this last fact
-abbrev two_facts : Fact → Fact → Node
+abbrev pub two_facts : Fact → Fact → Node
 two_facts f h = split 1 None (parts_of (closed f ∷ closed h ∷ []))
 
 abbrev nested_facts : Fact → Node
@@ -95,10 +95,10 @@ nested_facts last = split 1 None (parts_of (closed (over_plays 1 2 []) ∷ split
 nested_is : (last : Fact) → node_of (two_types_tree last) ≡ nested_facts last
 nested_is last = nested_parts (over_plays 1 2 []) (over_plays 3 11 (mark 1 1 1 ∷ [])) (over_plays 3 16 (mark 2 2 2 ∷ [])) last
 
-abbrev open_node : Node
+abbrev pub open_node : Node
 open_node = split 1 None (parts_of (closed (over_plays 1 2 []) ∷ unproved ∷ []))
 
-open_is : node_of open_tree ≡ open_node
+pub open_is : node_of open_tree ≡ open_node
 open_is = open_part (over_plays 1 2 [])
 
 -- refused with this second fact, or this first fact
@@ -116,7 +116,7 @@ head_wrong : (r : Report) → r.tree ≡ one_type_tree first_fact second_fact �
 head_wrong r e = wrong one_player r (two_facts first_fact second_fact) (ap node_of e ∙ two_parts 1 None first_fact second_fact)
 
 -- refused for these caps
-caps_wrong : (caps : List Cap) (line reason : ℕ) → line ≡ min line (2 ^ 64 - 1) → answer two_players (with_caps caps) open_node (stops_at two_players (with_caps caps) open_node) ≡ Some (line, reason)
+pub caps_wrong : (caps : List Cap) (line reason : ℕ) → line ≡ min line (2 ^ 64 - 1) → answer two_players (with_caps caps) open_node (stops_at two_players (with_caps caps) open_node) ≡ Some (line, reason)
     → IsRefused two_players (with_caps caps) line reason
 caps_wrong caps = wrong two_players (with_caps caps) open_node open_is
 
@@ -126,13 +126,13 @@ cover_node n v = split 1 None (parts_of (closed (over_cover 1 3 (row n v ∷ [])
 cover_is : (n v : ℕ) → node_of (cover_report n v).tree ≡ cover_node n v
 cover_is n v = one_part 1 None (over_cover 1 3 (row n v ∷ []))
 
-three_parts : (f h j : Fact) → node_of (Split 1 None (Closed f ∷ Closed h ∷ Closed j ∷ [])) ≡ split 1 None (parts_of (closed f ∷ closed h ∷ closed j ∷ []))
+pub three_parts : (f h j : Fact) → node_of (Split 1 None (Closed f ∷ Closed h ∷ Closed j ∷ [])) ≡ split 1 None (parts_of (closed f ∷ closed h ∷ closed j ∷ []))
 three_parts f h j =
     split-nodes 1 None (Closed f ∷ Closed h ∷ Closed j ∷ []) (closed f ∷ closed h ∷ closed j ∷ [])
     (one_more (Closed f) (closed f) (Closed h ∷ Closed j ∷ []) (closed h ∷ closed j ∷ []) (node_of-Closed f)
     (one_more (Closed h) (closed h) (Closed j ∷ []) (closed j ∷ []) (node_of-Closed h) (one_more (Closed j) (closed j) [] [] (node_of-Closed j) refl)))
 
-abbrev three_facts : Fact → Fact → Fact → Node
+abbrev pub three_facts : Fact → Fact → Fact → Node
 three_facts f h j = split 1 None (parts_of (closed f ∷ closed h ∷ closed j ∷ []))
 
 abbrev row_node : Fact → Node
@@ -141,15 +141,15 @@ row_node middle = three_facts (over_plays 2 3 (mark 1 3 1 ∷ [])) middle (over_
 row_is : (middle : Fact) → node_of (row_report middle).tree ≡ row_node middle
 row_is middle = three_parts (over_plays 2 3 (mark 1 3 1 ∷ [])) middle (over_plays 2 3 (mark 1 1 1 ∷ []))
 
-open_pair : (l : ℕ) (base : Option Fact) → node_of (Split l base (Unproved ∷ Unproved ∷ [])) ≡ split l base (parts_of (unproved ∷ unproved ∷ []))
+pub open_pair : (l : ℕ) (base : Option Fact) → node_of (Split l base (Unproved ∷ Unproved ∷ [])) ≡ split l base (parts_of (unproved ∷ unproved ∷ []))
 open_pair l base =
     split-nodes l base (Unproved ∷ Unproved ∷ []) (unproved ∷ unproved ∷ [])
     (one_more Unproved unproved (Unproved ∷ []) (unproved ∷ []) node_of-Unproved (one_more Unproved unproved [] [] node_of-Unproved refl))
 
-abbrev below_node : Fact → ℕ → Option Fact → Node
+abbrev pub below_node : Fact → ℕ → Option Fact → Node
 below_node f l base = split 1 None (parts_of (closed f ∷ split l base (parts_of (unproved ∷ unproved ∷ [])) ∷ []))
 
-below_is : (f : Fact) (l : ℕ) (base : Option Fact) → node_of (open_below f l base) ≡ below_node f l base
+pub below_is : (f : Fact) (l : ℕ) (base : Option Fact) → node_of (open_below f l base) ≡ below_node f l base
 below_is f l base =
     let inner : Tree = Split l base (Unproved ∷ Unproved ∷ []) in
     let node : Node = split l base (parts_of (unproved ∷ unproved ∷ [])) in
@@ -163,19 +163,10 @@ weighted_node =
 weighted_is : (v : ℕ) → node_of (weighted_report v).tree ≡ weighted_node
 weighted_is v = nested_parts (over_plays 1 4 []) weighted_fact (over_plays 3 37 (mark 2 2 5 ∷ [])) (over_plays 3 55 (mark 1 1 5 ∷ []))
 
-abbrev sized_fact : ℕ → Fact
-sized_fact v = over_plays 1 (v + 2) (mark 1 2 v ∷ [])
-
-sized_is : (v : ℕ) → node_of (sized_report v).tree ≡ two_facts (sized_fact v) second_fact
-sized_is v = two_parts 1 None (sized_fact v) second_fact
-
-abbrev first_open : Fact → Node
+abbrev pub first_open : Fact → Node
 first_open f = split 1 None (parts_of (closed f ∷ unproved ∷ []))
 
-abbrev nested_bases : Fact → Fact → Node
-nested_bases base last = split 1 None (parts_of (closed (over_plays 1 2 []) ∷ split 2 (Some base) (parts_of (closed (over_plays 3 16 (mark 2 2 2 ∷ [])) ∷ closed last ∷ [])) ∷ []))
-
-abbrev unproved_node : Node
+abbrev pub unproved_node : Node
 unproved_node = split 1 None (parts_of (unproved ∷ unproved ∷ []))
 
 abbrev both_dominated_node : Node
@@ -191,6 +182,12 @@ both_dominated_is =
     let node : Node = split 2 None (parts_of (closed f ∷ closed h ∷ [])) in
     split-nodes 1 None (inner ∷ Closed j ∷ []) (node ∷ closed j ∷ [])
     (one_more inner node (Closed j ∷ []) (closed j ∷ []) (two_parts 2 None f h) (one_more (Closed j) (closed j) [] [] (node_of-Closed j) refl))
+
+two_and_open : (f h : Fact) → node_of (Split 1 None (Closed f ∷ Closed h ∷ Unproved ∷ [])) ≡ split 1 None (parts_of (closed f ∷ closed h ∷ unproved ∷ []))
+two_and_open f h =
+    split-nodes 1 None (Closed f ∷ Closed h ∷ Unproved ∷ []) (closed f ∷ closed h ∷ unproved ∷ [])
+    (one_more (Closed f) (closed f) (Closed h ∷ Unproved ∷ []) (closed h ∷ unproved ∷ []) (node_of-Closed f)
+    (one_more (Closed h) (closed h) (Unproved ∷ []) (unproved ∷ []) (node_of-Closed h) (one_more Unproved unproved [] [] node_of-Unproved refl)))
 
 pub worked_reports : WorkedReports
 worked_reports = record {
@@ -242,33 +239,16 @@ worked_reports = record {
   other_split = wrong two_players (unbased_report 1) (below_node (over_plays 1 2 []) 1 None) (below_is (over_plays 1 2 []) 1 None) 9 5 refl refl;
   empty = right dominated dominated_report (two_facts first_fact empty_fact) (two_parts 1 None first_fact empty_fact) refl refl refl refl;
   empty_base = right half_dominated half_dominated_report (below_node (over_plays 1 2 []) 2 (Some empty_fact)) (below_is (over_plays 1 2 []) 2 (Some empty_fact)) refl refl refl refl;
-  size_fits = right one_player (sized_report (2 ^ 126 - 3)) (two_facts (sized_fact (2 ^ 126 - 3)) second_fact) (sized_is (2 ^ 126 - 3)) refl refl refl refl;
-  size_past = wrong one_player (sized_report (2 ^ 126 - 2)) (two_facts (sized_fact (2 ^ 126 - 2)) second_fact) (sized_is (2 ^ 126 - 2)) 8 9 refl refl;
-  three_types = right three_players (three_types_report (two_caps ++ (third_cap (over_plays 3 11 (mark 3 1 1 ∷ [])) ∷ []))) open_node open_is refl refl refl refl;
-  third_false = wrong three_players (three_types_report (two_caps ++ (third_cap (over_plays 3 10 (mark 3 1 1 ∷ [])) ∷ []))) open_node open_is 11 6 refl refl;
-  caps_exchanged = wrong three_players (three_types_report (plain_cap 3 4 ++ plain_cap 2 4)) open_node open_is 5 4 refl refl;
-  base_first = wrong two_players wrong_twice (nested_bases (over_plays 3 10 (mark 1 1 1 ∷ [])) (over_plays 3 22 (mark 1 1 1 ∷ []))) (nested_parts (over_plays 1 2 []) (over_plays 3 10 (mark 1 1 1 ∷ [])) (over_plays 3 16 (mark 2 2 2 ∷ [])) (over_plays 3 22 (mark 1 1 1 ∷ []))) 14 6 refl refl;
-  cap_size_wide = caps_wrong (proved_cap 5 (over_plays (2 ^ 127 - 1) 5 (mark 2 2 1 ∷ [])) (over_plays 1 4 [])) 6 9 refl refl;
-  false_before_wide = wrong two_players false_and_wide (first_open wrong_and_wide) (open_part wrong_and_wide) 8 6 refl refl;
-  short_of_second = wrong neighbours second_short (three_facts shared_fact short_fact shared_fact) (three_parts shared_fact short_fact shared_fact) 17 6 refl refl;
   own_mark = first_wrong (over_plays 1 2 (mark 1 1 1 ∷ [])) 8 6 refl refl;
   no_multiplier = first_wrong (over_plays 1 2 (mark 1 2 0 ∷ [])) 8 6 refl refl;
   no_rho = first_wrong (over_plays 0 2 []) 8 6 refl refl;
   below_empty = wrong dominated (reported one_alone 1 (over 2 1) [] (one_type_tree first_fact (Plays (pos 1) (minus 1) (mark 1 1 5 ∷ []))) (over 2 1) Optimal) (two_facts first_fact (Plays (pos 1) (minus 1) (mark 1 1 5 ∷ []))) (two_parts 1 None first_fact (Plays (pos 1) (minus 1) (mark 1 1 5 ∷ []))) 8 6 refl refl;
   no_row_multiplier = wrong one_target (reported one_alone 1 (over 1 1) [] (Split 1 None (Closed (over_cover 1 3 (row 3 2 ∷ row 2 0 ∷ [])) ∷ [])) (over 1 1) Optimal) (split 1 None (parts_of (closed (over_cover 1 3 (row 3 2 ∷ row 2 0 ∷ [])) ∷ []))) (one_part 1 None (over_cover 1 3 (row 3 2 ∷ row 2 0 ∷ []))) 7 6 refl refl;
-  spread_fits = wrong spread_players (spread_report (Split 1 None (Closed (spread_fact 56713727820156410577229101238628035239) ∷ Unproved ∷ [])) (over 13 5)) (first_open (spread_fact 56713727820156410577229101238628035239)) (open_part (spread_fact 56713727820156410577229101238628035239)) 8 6 refl refl;
-  spread_past = wrong spread_players (spread_report (Split 1 None (Closed (spread_fact 56713727820156410577229101238628035240) ∷ Unproved ∷ [])) (over 13 5)) (first_open (spread_fact 56713727820156410577229101238628035240)) (open_part (spread_fact 56713727820156410577229101238628035240)) 8 9 refl refl;
-  unproved_at_all = right spread_players (spread_report unproved_tree (over 13 5)) unproved_node (open_pair 1 None) refl refl refl refl;
-  behind_unproved = wrong spread_players (spread_report unproved_tree (over 14 5)) unproved_node (open_pair 1 None) 10 7 refl refl;
   behind_level = wrong two_targets (reported two_to_one 3 (over 2 3) [] (level_tree 4 3) (over 1 1) Optimal) (closed (Water (over 4 3) Resources)) (node_of-Closed (Water (over 4 3) Resources)) 7 7 refl refl;
-  whole_wide = wrong (same_for_both (pos 0)) (same_report (pos 0) (over_plays (2 ^ 126) (2 ^ 126) [])) (first_open (over_plays (2 ^ 126) (2 ^ 126) [])) (open_part (over_plays (2 ^ 126) (2 ^ 126) [])) 8 9 refl refl;
-  rest_wide = wrong (same_for_both (minus (2 ^ 30))) (same_report (minus (2 ^ 30)) (over_plays (2 ^ 96) (2 ^ 96) [])) (first_open (over_plays (2 ^ 96) (2 ^ 96) [])) (open_part (over_plays (2 ^ 96) (2 ^ 96) [])) 8 9 refl refl;
-  empty_not_bounded = right rare_players rare_report (two_facts first_fact rare_fact) (two_parts 1 None first_fact rare_fact) refl refl refl refl;
-  denominator_wide = wrong (same_for_both (pos 0)) (worth_nothing (all_but_one (2 ^ 126)) (2 ^ 126) open_tree) open_node open_is 5 9 refl refl;
-  attacker_wide = wrong well_paid (worth_nothing (all_but_one (2 ^ 126)) (2 ^ 126) open_tree) open_node open_is 5 9 refl refl;
-  not_best_not_formed = right never_taken (worth_nothing (all_but_one (2 ^ 126)) (2 ^ 126) (one_type_tree (over_plays 1 1 []) (over_plays 1 0 (mark 1 1 5 ∷ [])))) (two_facts (over_plays 1 1 []) (over_plays 1 0 (mark 1 1 5 ∷ []))) (two_parts 1 None (over_plays 1 1 []) (over_plays 1 0 (mark 1 1 5 ∷ []))) refl refl refl refl;
-  prior_wide = wrong often_paid (worth_nothing (all_but_one (2 ^ 100)) (2 ^ 100) open_tree) open_node open_is 5 9 refl refl;
-  pay_wide = wrong up_and_down (worth_nothing (one_first (2 ^ 97)) (1 + 2 ^ 97) open_tree) open_node open_is 5 9 refl refl;
-  spread_of_one = wrong indifferent (worth_nothing one_alone 1 (Split 1 None (Closed twice_half ∷ Unproved ∷ []))) (first_open twice_half) (open_part twice_half) 7 9 refl refl;
   empty_above = right both_dominated both_dominated_report both_dominated_node both_dominated_is refl refl refl refl;
+  high_plain = caps_wrong (plain_cap 2 5) 5 4 refl refl;
+  three_facts_for_two = caps_wrong (record { l = 2; v = pos 5; proof = over_plays 3 5 (mark 2 2 1 ∷ []) ∷ over_plays 1 4 [] ∷ over_plays 1 4 [] ∷ [] } ∷ []) 5 4 refl refl;
+  three_for_two = wrong one_player (with_tree (Split 1 None (Closed first_fact ∷ Closed second_fact ∷ Unproved ∷ []))) (split 1 None (parts_of (closed first_fact ∷ closed second_fact ∷ unproved ∷ []))) (two_and_open first_fact second_fact) 6 5 refl refl;
+  low_upper = wrong one_player (reported one_alone 1 (over 2 1) [] open_tree (over 2 1) Optimal) open_node open_is 9 7 refl refl;
+  least_bound = right low_players low_report (two_facts (over_plays 1 1 []) (over_plays 1 1 [])) (two_parts 1 None (over_plays 1 1 []) (over_plays 1 1 [])) refl refl refl refl;
 }

@@ -1,5 +1,5 @@
 -- Small reports whose tests can be worked out by hand.
-use Rattle.std.specs.Prelude.{ℕ, ◌+◌, ◌-◌, ◌*◌, ◌^◌, List, [], ◌∷◌, ◌++◌, ℤ, pos, codes, Option, Some, None}
+use Rattle.std.specs.Prelude.{ℕ, ◌+◌, ◌-◌, ◌^◌, List, [], ◌∷◌, ℤ, pos, codes, Option, Some, None}
 use Rattle.sg_frac.specs.Fractions.{Fraction}
 use Rattle.sg_model.specs.declared.level.Level.TheVariants.{Resources, Target}
 use Rattle.sg_model.specs.declared.ticket.Ticket.{Ticket}
@@ -236,6 +236,15 @@ based_report = reported one_alone 1 (over 11 5) (plain_cap 2 3) (open_below (ove
 abbrev pub unbased_report : ℕ → Report
 unbased_report l = reported one_alone 1 (over 3 1) (plain_cap 2 4) (open_below (over_plays 1 2 []) l None) (over 4 1) (Gap (Nodes 1))
 
+-- the first type leaves the defender 0 whatever it does, the second 0 where the second row is played, and 3 at most
+abbrev pub low_players : Game
+low_players = tabled (player (codes "first") ((pos 0 ∷ pos 0 ∷ []) ∷ (pos 0 ∷ pos 0 ∷ []) ∷ []) ((pos 1 ∷ pos 0 ∷ []) ∷ (pos 0 ∷ pos 2 ∷ []) ∷ [])
+    ∷ player (codes "second") low_leads ((pos 0 ∷ pos 1 ∷ []) ∷ (pos 2 ∷ pos 0 ∷ []) ∷ []) ∷ [])
+
+-- the second choice alone, worth 0, where both actions of the first type have the least fact
+abbrev pub low_report : Report
+low_report = reported (ticket 1 (2 ∷ []) ∷ []) 1 (over 0 1) (plain_cap 2 3) (one_type_tree (over_plays 1 1 []) (over_plays 1 1 [])) (over 3 2) (Gap (Nodes 2))
+
 -- ---- empty regions
 
 -- what a type gets whose second action is never best
@@ -271,135 +280,6 @@ abbrev pub both_dominated_report : Report
 both_dominated_report =
     reported one_alone 1 (over 2 1) (plain_cap 2 4)
     (Split 1 None (Split 2 None (Closed (over_plays 1 8 []) ∷ Closed (over_plays 1 0 (mark 2 1 14 ∷ [])) ∷ []) ∷ Closed (over_plays 1 0 (mark 1 1 4 ∷ [])) ∷ [])) (over 2 1) Optimal
-
--- ---- sizes
-
--- a first fact whose size sum is 4 and twice its multiplier v, with a bound of v + 2
-abbrev pub sized_report : ℕ → Report
-sized_report v = reported two_to_one 3 (over 11 3) [] (one_type_tree (over_plays 1 (v + 2) (mark 1 2 v ∷ [])) second_fact) (over (v + 2) 1) (Gap (Nodes 2))
-
--- ---- three types
-
--- what the type gets that answers the first row by its first action, and what the one gets that answers it by its second
-abbrev pub straight : List (List ℤ)
-straight = (pos 1 ∷ pos 0 ∷ []) ∷ (pos 0 ∷ pos 2 ∷ []) ∷ []
-
-abbrev pub crossed : List (List ℤ)
-crossed = (pos 0 ∷ pos 1 ∷ []) ∷ (pos 2 ∷ pos 0 ∷ []) ∷ []
-
--- a third type that answers like the first
-abbrev pub three_players : Game
-three_players = tabled (player (codes "first") leads straight ∷ player (codes "second") leads crossed ∷ player (codes "third") leads straight ∷ [])
-
--- a cap of the third type with a fact for each of its actions
-abbrev pub third_cap : Fact → Cap
-third_cap last = record { l = 3; v = pos 4; proof = over_plays 1 2 [] ∷ last ∷ [] }
-
--- the first choice alone, worth 8 / 3, under a bound of 4
-abbrev pub three_types_report : List Cap → Report
-three_types_report caps = reported one_alone 1 (over 8 3) caps open_tree (over 4 1) (Gap (Nodes 1))
-
--- ---- two wrongs, of which the first is told
-
--- a base and a part below it that don't hold
-abbrev pub wrong_twice : Report
-wrong_twice =
-    two_types_report two_caps
-    (Split 1 None (Closed (over_plays 1 2 []) ∷ Split 2 (Some (over_plays 3 10 (mark 1 1 1 ∷ []))) (Closed (over_plays 3 16 (mark 2 2 2 ∷ [])) ∷ Closed (over_plays 3 22 (mark 1 1 1 ∷ [])) ∷ []) ∷ []))
-
--- a fact that doesn't hold, as it marks its own action
-abbrev pub wrong_and_wide : Fact
-wrong_and_wide = over_plays 1 (2 ^ 127 - 1) (mark 1 1 1 ∷ [])
-
--- its bound doesn't fit: the multiplier of the whole, and the cap of the open type
-abbrev pub false_and_wide : Report
-false_and_wide = reported one_alone 1 (over 3 1) (plain_cap 2 4) (Split 1 None (Closed wrong_and_wide ∷ Unproved ∷ [])) (over 4 1) (Gap (Nodes 1))
-
--- the fact of the second target alone is short
-abbrev pub second_short : Report
-second_short = reported neighbour_tickets 3 (under 1 3) [] (Split 1 None (Closed shared_fact ∷ Closed short_fact ∷ Closed shared_fact ∷ [])) (under 1 3) Optimal
-
--- ---- sizes of two types
-
--- a type on two of five days and one on three; what the defender gets is from -1 to 3, what they get spreads over 2 and over 3
-abbrev pub spread_players : Game
-spread_players =
-    tabled (weighing 2 (player (codes "first") ((minus 1 ∷ pos 2 ∷ []) ∷ (pos 0 ∷ pos 1 ∷ []) ∷ []) ((pos 3 ∷ pos 1 ∷ []) ∷ (pos 1 ∷ pos 2 ∷ []) ∷ []))
-    ∷ weighing 3 (player (codes "second") ((pos 1 ∷ pos 0 ∷ []) ∷ (pos 3 ∷ pos 1 ∷ []) ∷ []) ((pos 5 ∷ pos 2 ∷ []) ∷ (pos 2 ∷ pos 4 ∷ []) ∷ [])) ∷ [])
-
--- the first choice alone, worth 1 / 5
-abbrev pub spread_report : Tree → Fraction → Report
-spread_report tree upper = reported one_alone 1 (over 1 5) (plain_cap 2 3) tree upper (Gap (Nodes 0))
-
--- a first fact that doesn't hold, whose size sum is 10 and three times its multiplier
-abbrev pub spread_fact : ℕ → Fact
-spread_fact v = over_plays 1 0 (mark 1 2 v ∷ [])
-
--- nothing is proved: the bound is that of the greatest payoffs, 2 on two days and 3 on three
-abbrev pub unproved_tree : Tree
-unproved_tree = Split 1 None (Unproved ∷ Unproved ∷ [])
-
--- ---- each number under a bound, and under a value
-
--- this payoff, whatever is played
-abbrev pub always : ℤ → List (List ℤ)
-always z = (z ∷ z ∷ []) ∷ (z ∷ z ∷ []) ∷ []
-
--- two types against which the defender gets always the same
-abbrev pub same_for_both : ℤ → Game
-same_for_both z = tabled (player (codes "first") (always z) straight ∷ player (codes "second") (always z) crossed ∷ [])
-
--- a first fact on the first choice alone, worth z for each type, with a plain cap
-abbrev pub same_report : ℤ → Fact → Report
-same_report z f = reported one_alone 1 (record { num = z; den = pos 1 }) (record { l = 2; v = z; proof = [] } ∷ []) (Split 1 None (Closed f ∷ Unproved ∷ [])) (record { num = z; den = pos 1 }) Optimal
-
--- a rare type with an action that is never best, and a second type that comes 2^20 times as often
-abbrev pub rare_players : Game
-rare_players = tabled (player (codes "first") leads one_sided ∷ weighing (2 ^ 20) (player (codes "second") leads crossed) ∷ [])
-
--- the second part is empty: the number that would be its bound isn't formed
-abbrev pub rare_fact : Fact
-rare_fact = over_plays (2 ^ 110) 0 (mark 1 1 (4 * 2 ^ 110) ∷ [])
-
--- the first choice alone, worth 2 and 2^20 times 4
-abbrev pub rare_report : Report
-rare_report = reported one_alone 1 (over 4194306 1048577) (plain_cap 2 4) (one_type_tree first_fact rare_fact) (over 4194306 1048577) Optimal
-
--- the first choice on all tickets but one
-abbrev pub all_but_one : ℕ → List Ticket
-all_but_one total = ticket (total - 1) (1 ∷ []) ∷ ticket 1 (2 ∷ []) ∷ []
-
--- such tickets with a value of 0
-abbrev pub worth_nothing : List Ticket → ℕ → Tree → Report
-worth_nothing tickets total tree = reported tickets total (over 0 1) [] tree (over 0 1) Optimal
-
--- one type, from which the defender always gets 0, and which gets 4 of either row
-abbrev pub well_paid : Game
-well_paid = tabled (player (codes "first") (always (pos 0)) ((pos 4 ∷ pos 0 ∷ []) ∷ (pos 0 ∷ pos 4 ∷ []) ∷ []) ∷ [])
-
--- one type whose second action gives the defender 4, and is never best
-abbrev pub never_taken : Game
-never_taken = tabled (player (codes "first") ((pos 0 ∷ pos 4 ∷ []) ∷ (pos 0 ∷ pos 4 ∷ []) ∷ []) one_sided ∷ [])
-
--- 1 less of the first type, and 128 of the second, which comes 2^20 times as often
-abbrev pub often_paid : Game
-often_paid = tabled (player (codes "first") (always (minus 1)) straight ∷ weighing (2 ^ 20) (player (codes "second") (always (pos 128)) crossed) ∷ [])
-
--- one type: the first row costs 2^30, and the second gives as much
-abbrev pub up_and_down : Game
-up_and_down = tabled (player (codes "first") ((minus (2 ^ 30) ∷ minus (2 ^ 30) ∷ []) ∷ (pos (2 ^ 30) ∷ pos (2 ^ 30) ∷ []) ∷ []) straight ∷ [])
-
--- one type, to which both actions are the same
-abbrev pub indifferent : Game
-indifferent = tabled (player (codes "first") (always (pos 0)) (always (pos 1)) ∷ [])
-
--- a fact whose size sum is 2^126 twice, as an attacker's payoffs count as spread over 1 at least
-abbrev pub twice_half : Fact
-twice_half = over_plays (2 ^ 126) (2 ^ 126) (mark 1 2 (2 ^ 126) ∷ [])
-
--- the second row on all tickets but one
-abbrev pub one_first : ℕ → List Ticket
-one_first weight = ticket 1 (1 ∷ []) ∷ ticket weight (2 ∷ []) ∷ []
 
 -- the answers, as worked out by hand
 pub record WorkedReports : Type 0 where
@@ -451,32 +331,19 @@ pub record WorkedReports : Type 0 where
   pub other_split : IsRefused two_players (unbased_report 1) 9 5
   pub empty : IsAccepted dominated dominated_report
   pub empty_base : IsAccepted half_dominated half_dominated_report
-  pub size_fits : IsAccepted one_player (sized_report (2 ^ 126 - 3))
-  pub size_past : IsRefused one_player (sized_report (2 ^ 126 - 2)) 8 9
-  pub three_types : IsAccepted three_players (three_types_report (two_caps ++ (third_cap (over_plays 3 11 (mark 3 1 1 ∷ [])) ∷ [])))
-  pub third_false : IsRefused three_players (three_types_report (two_caps ++ (third_cap (over_plays 3 10 (mark 3 1 1 ∷ [])) ∷ []))) 11 6
-  pub caps_exchanged : IsRefused three_players (three_types_report (plain_cap 3 4 ++ plain_cap 2 4)) 5 4
-  pub base_first : IsRefused two_players wrong_twice 14 6
-  pub cap_size_wide : IsRefused two_players (with_caps (proved_cap 5 (over_plays (2 ^ 127 - 1) 5 (mark 2 2 1 ∷ [])) (over_plays 1 4 []))) 6 9
-  pub false_before_wide : IsRefused two_players false_and_wide 8 6
-  pub short_of_second : IsRefused neighbours second_short 17 6
   pub own_mark : IsRefused one_player (with_tree (one_type_tree (over_plays 1 2 (mark 1 1 1 ∷ [])) second_fact)) 8 6
   pub no_multiplier : IsRefused one_player (with_tree (one_type_tree (over_plays 1 2 (mark 1 2 0 ∷ [])) second_fact)) 8 6
   pub no_rho : IsRefused one_player (with_tree (one_type_tree (over_plays 0 2 []) second_fact)) 8 6
   pub below_empty : IsRefused dominated (reported one_alone 1 (over 2 1) [] (one_type_tree first_fact (Plays (pos 1) (minus 1) (mark 1 1 5 ∷ []))) (over 2 1) Optimal) 8 6
   pub no_row_multiplier : IsRefused one_target (reported one_alone 1 (over 1 1) [] (Split 1 None (Closed (over_cover 1 3 (row 3 2 ∷ row 2 0 ∷ [])) ∷ [])) (over 1 1) Optimal) 7 6
-  pub spread_fits : IsRefused spread_players (spread_report (Split 1 None (Closed (spread_fact 56713727820156410577229101238628035239) ∷ Unproved ∷ [])) (over 13 5)) 8 6
-  pub spread_past : IsRefused spread_players (spread_report (Split 1 None (Closed (spread_fact 56713727820156410577229101238628035240) ∷ Unproved ∷ [])) (over 13 5)) 8 9
-  pub unproved_at_all : IsAccepted spread_players (spread_report unproved_tree (over 13 5))
-  pub behind_unproved : IsRefused spread_players (spread_report unproved_tree (over 14 5)) 10 7
   pub behind_level : IsRefused two_targets (reported two_to_one 3 (over 2 3) [] (level_tree 4 3) (over 1 1) Optimal) 7 7
-  pub whole_wide : IsRefused (same_for_both (pos 0)) (same_report (pos 0) (over_plays (2 ^ 126) (2 ^ 126) [])) 8 9
-  pub rest_wide : IsRefused (same_for_both (minus (2 ^ 30))) (same_report (minus (2 ^ 30)) (over_plays (2 ^ 96) (2 ^ 96) [])) 8 9
-  pub empty_not_bounded : IsAccepted rare_players rare_report
-  pub denominator_wide : IsRefused (same_for_both (pos 0)) (worth_nothing (all_but_one (2 ^ 126)) (2 ^ 126) open_tree) 5 9
-  pub attacker_wide : IsRefused well_paid (worth_nothing (all_but_one (2 ^ 126)) (2 ^ 126) open_tree) 5 9
-  pub not_best_not_formed : IsAccepted never_taken (worth_nothing (all_but_one (2 ^ 126)) (2 ^ 126) (one_type_tree (over_plays 1 1 []) (over_plays 1 0 (mark 1 1 5 ∷ []))))
-  pub prior_wide : IsRefused often_paid (worth_nothing (all_but_one (2 ^ 100)) (2 ^ 100) open_tree) 5 9
-  pub pay_wide : IsRefused up_and_down (worth_nothing (one_first (2 ^ 97)) (1 + 2 ^ 97) open_tree) 5 9
-  pub spread_of_one : IsRefused indifferent (worth_nothing one_alone 1 (Split 1 None (Closed twice_half ∷ Unproved ∷ []))) 7 9
   pub empty_above : IsAccepted both_dominated both_dominated_report
+  -- a plain cap above the greatest payoff, and a cap with a fact too many
+  pub high_plain : IsRefused two_players (with_caps (plain_cap 2 5)) 5 4
+  pub three_facts_for_two : IsRefused two_players (with_caps (record { l = 2; v = pos 5; proof = over_plays 3 5 (mark 2 2 1 ∷ []) ∷ over_plays 1 4 [] ∷ over_plays 1 4 [] ∷ [] } ∷ [])) 5 4
+  -- a part too many
+  pub three_for_two : IsRefused one_player (with_tree (Split 1 None (Closed first_fact ∷ Closed second_fact ∷ Unproved ∷ []))) 6 5
+  -- an upper bound that is the value, and below the bound of the open part, which is 4
+  pub low_upper : IsRefused one_player (reported one_alone 1 (over 2 1) [] open_tree (over 2 1) Optimal) 9 7
+  -- (1 + 3 - 1) / 2: where mu is 1 the region isn't empty
+  pub least_bound : IsAccepted low_players low_report

@@ -12,4 +12,6 @@ pub mod SizeLaws
 pub mod ReportLaws
 pub mod CheckLaws
 pub mod Examples
+pub mod OrderExamples
+pub mod SizeExamples
 pub mod RowLaws

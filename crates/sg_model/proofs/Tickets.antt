@@ -167,3 +167,24 @@ module _ (g : Game) (patrols : ℕ) (o : IsOrigami g patrols) (num den : ℤ) (p
         let same : is_best g k 1 t ≡ test = by_lt_z ((payoff g 1 t).au *ℤ den) num
         (λ lt. outside lt ∙ omega (arith, ints, lt)) (λ le. inside le ∙ omega (arith, ints, le)) in
         (same, λ yes. level-paid t low high (let q : test ≡ true = sym same ∙ yes in omega (arith, ints, q)))
+
+    -- they leave the attacker the least
+    pub minimax : (other : List Ticket) → IsCommitment g other
+        → (s : ℕ) × (1 ≤ s) × (s ≤ length g.goals) × ((t : ℕ) → 1 ≤ t → t ≤ length g.goals → (sum_a g k 1 t *ℤ weight_total other) ≤ℤ (sum_a g other 1 s *ℤ weight_total k))
+    minimax other is_other =
+        let r = level_reached g patrols o num den why w other is_other in (
+          r.0,
+          r.1.from_one,
+          r.1.in_range,
+          λ t low high.
+              let d : ℤ = weight_total k in let e : ℤ = weight_total other in
+              let x : ℤ = sum_a g k 1 t in let y : ℤ = sum_a g other 1 r.0 in
+              let d_positive = weight_total-positive k is_k.some is_k.positive in
+              let e_positive = weight_total-positive other is_other.some is_other.positive in
+              let below = mul-le (x *ℤ den) (num *ℤ d) e (all-paid t low high) (omega (arith, ints, e_positive)) in
+              let above = mul-le (num *ℤ e) (y *ℤ den) d r.1.enough (omega (arith, ints, d_positive)) in
+              let a : (x *ℤ den) *ℤ e ≡ (x *ℤ e) *ℤ den = same_by (times (times (v x) (v den)) (v e)) (times (times (v x) (v e)) (v den)) (omega arith) in
+              let b : (num *ℤ d) *ℤ e ≡ (num *ℤ e) *ℤ d = same_by (times (times (v num) (v d)) (v e)) (times (times (v num) (v e)) (v d)) (omega arith) in
+              let f : (y *ℤ den) *ℤ d ≡ (y *ℤ d) *ℤ den = same_by (times (times (v y) (v den)) (v d)) (times (times (v y) (v d)) (v den)) (omega arith) in
+              cancel-le (x *ℤ e) (y *ℤ d) den (omega (arith, ints, below, above, a, b, f)) positive,
+        )

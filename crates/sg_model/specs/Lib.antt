@@ -14,4 +14,5 @@ pub mod PayoffLaws
 pub mod OptimalityLaws
 pub mod OrigamiLaws
 pub mod Examples
+pub mod EdgeExamples
 pub mod LimitLaws

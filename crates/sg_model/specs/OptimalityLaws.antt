@@ -1,8 +1,11 @@
 -- What holds of values, upper bounds and optimal commitments in every game.
-use Rattle.std.specs.Prelude.{◌≡◌, ◌↔◌, ℕ, List, ◌∷◌, ℤ, pos, ◌+ℤ◌, ◌*ℤ◌, ◌≤ℤ◌, IsPermutation}
+use Rattle.std.specs.Prelude.{◌≡◌, ◌↔◌, ℕ, ◌≤◌, List, ◌∷◌, length, ℤ, pos, ◌+ℤ◌, ◌*ℤ◌, ◌≤ℤ◌, IsPermutation}
 use Rattle.sg_model.specs.declared.ticket.Ticket.{Ticket}
-use Rattle.sg_model.specs.Games.{Game}
+use Rattle.sg_model.specs.Sums.{total, numbers}
+use Rattle.sg_model.specs.Games.{Game, attacker}
+use Rattle.sg_model.specs.Plays.{pay_d}
 use Rattle.sg_model.specs.Payoffs.{IsPeopled}
+use Rattle.sg_model.specs.PayoffLaws.{IsBestResponse}
 use Rattle.sg_model.specs.Commitments.{IsCommitment, IsValue, cover_count, scaled, sum_a, sum_d, weight_on, weight_total, worth}
 use Rattle.sg_model.specs.Optimality.{IsOptimal, IsUpperBound}
 
@@ -51,3 +54,19 @@ SameMixKeeps = (g : Game) (k other : List Ticket) → AreOneMix k other
     × (worth g k ≡ worth g other)
     × ((num den : ℤ) → IsValue g k num den ↔ IsValue g other num den)
     × (IsOptimal g k ↔ IsOptimal g other)
+
+-- an answer of each type: a best response, and no best response gives the defender more
+pub record AreAnswers (g : Game) (k : List Ticket) (answer : ℕ → ℕ) : Type 0 where
+  pub best : (l : ℕ) → 1 ≤ l → l ≤ length g.types → IsBestResponse g k l (answer l)
+  pub most : (l a : ℕ) → 1 ≤ l → l ≤ length g.types → IsBestResponse g k l a → sum_d g k l a ≤ℤ sum_d g k l (answer l)
+
+-- for each type and each ticket, prior times weight times z, summed
+abbrev pub over_all : Game → List Ticket → (ℕ → Ticket → ℤ) → ℤ
+over_all g k z = total (λ l. total (λ (x : Ticket). ((attacker g l).prior *ℤ x.weight) *ℤ z l x) k) (numbers (length g.types))
+
+-- there are such answers, and a commitment's value is the mean, by priors and weights, of what the defender gets where each type answers so
+abbrev pub ValueIsMean : Type 0
+ValueIsMean = (g : Game) → IsPeopled g → (k : List Ticket)
+    → ((answer : ℕ → ℕ) × AreAnswers g k answer)
+    × ((answer : ℕ → ℕ) → AreAnswers g k answer → (num den : ℤ)
+    → IsValue g k num den ↔ ((pos 1 ≤ℤ den) × (over_all g k (λ l x. pay_d g l x.play.code (answer l)) *ℤ den ≡ num *ℤ over_all g k (λ l x. pos 1))))

@@ -41,3 +41,10 @@ LevelIsBest = (g : Game) (patrols : ℕ) → IsOrigami g patrols → (num den : 
     → (k : List Ticket) → IsCommitment g k → AreLevelTickets g num den k
     → (t : ℕ) → 1 ≤ t → t ≤ length g.goals
     → (is_best g k 1 t ≡ int_le num ((payoff g 1 t).au *ℤ den)) × (is_best g k 1 t ≡ true → (sum_a g k 1 t *ℤ den) ≡ (num *ℤ weight_total k))
+
+-- so what it pays the attacker at any target is at most what each other commitment pays at some target, ticket for ticket: it leaves the attacker the least
+abbrev pub LevelIsMinimax : Type 0
+LevelIsMinimax = (g : Game) (patrols : ℕ) → IsOrigami g patrols → (num den : ℤ) (why : Level) → IsWater g patrols num den why
+    → (k : List Ticket) → IsCommitment g k → AreLevelTickets g num den k
+    → (other : List Ticket) → IsCommitment g other
+    → (s : ℕ) × (1 ≤ s) × (s ≤ length g.goals) × ((t : ℕ) → 1 ≤ t → t ≤ length g.goals → (sum_a g k 1 t *ℤ weight_total other) ≤ℤ (sum_a g other 1 s *ℤ weight_total k))

@@ -8,6 +8,7 @@ ghost use Rattle.sg_model.specs.OptimalityLaws.{
   OrderAndJoiningKeepMix,
   SameMixKeeps,
   ScalingKeeps,
+  ValueIsMean,
 };
 
 /// An upper bound is at least the value of every commitment.
@@ -43,4 +44,10 @@ pub fn order_and_joining_keep_mix()
 /// Tickets that give each play the same weight in all have the same sums, value and optimality.
 pub fn same_mix_keeps()
     ensures { SameMixKeeps }
+{}
+
+/// The value of a commitment is the mean, over the types by their priors and the tickets by their weights, of what the
+/// defender gets where each type takes a best response that gives the defender the most.
+pub fn value_is_mean()
+    ensures { ValueIsMean }
 {}

@@ -3,6 +3,7 @@
 ghost use Rattle.sg_model.specs.OrigamiLaws.{
   LevelIsBest,
   LevelIsLeast,
+  LevelIsMinimax,
   LevelIsReached,
   LevelTicketsAreOptimal,
   NoLevelIsAbove,
@@ -37,4 +38,9 @@ pub fn no_level_is_above()
 /// The best answers to such tickets are just the targets of the level.
 pub fn level_is_best()
     ensures { LevelIsBest }
+{}
+
+/// What such tickets pay the attacker at any target is at most what each other commitment pays at some target.
+pub fn level_is_minimax()
+    ensures { LevelIsMinimax }
 {}
