@@ -9,7 +9,7 @@ use Rattle.std.proofs.lemmas.List.Sums.{AllPass-from_list_all, list_all-from_All
 use Rattle.sg_model.specs.declared.ticket.Ticket.{Ticket}
 use Rattle.sg_model.specs.Commitments.{is_best, sum_a, sum_d, take_of}
 use Rattle.sg_model.specs.Games.{Game, action_count}
-use Rattle.sg_model.specs.PayoffLaws.{IsBestResponse, IsTake}
+use Rattle.sg_model.specs.PayoffLaws.{IsTake}
 use Rattle.sg_model.specs.Sums.{greatest, numbers}
 use Rattle.sg_model.proofs.Numbers.{All-numbers, All-numbers-at, InRange-numbers, numbers-some, map-none}
 use Rattle.sg_model.proofs.Greatest.{Contains-head, Contains-tail}

@@ -1,16 +1,16 @@
 -- Where the limits of a game file lie.
-use Rattle.std.proofs.Common.{◌≡◌, ℕ, zero, suc, ◌+◌, ◌-◌, ◌*◌, ◌<◌, ◌≤◌, ◌^◌, ◌↔◌, cond, List, [], ◌∷◌, codes, length, map, ℤ, pos, negsuc, ◌-ℤ◌, ◌≤ℤ◌, ◌<ℤ◌, int_rem, unsigned_abs, refl, arith}
+use Rattle.std.proofs.Common.{◌≡◌, ℕ, zero, suc, ◌+◌, ◌-◌, ◌*◌, ◌<◌, ◌≤◌, ◌^◌, ◌↔◌, cond, List, [], ◌∷◌, codes, length, map, ℤ, pos, negsuc, ◌≤ℤ◌, int_rem, unsigned_abs, refl, arith}
 use Rattle.std.specs.List.{All}
 use Rattle.std.proofs.lemmas.Int.{ints, rem_below}
 use Rattle.std.proofs.lemmas.List.{length-map}
 use Rattle.std.proofs.lemmas.List.Elements.{All-cons, All-head, All-map, All-nil}
-use Rattle.sg_model.specs.Games.{Attacker, Game, Named, Payoff}
+use Rattle.sg_model.specs.Games.{Attacker, Named, Payoff}
 use Rattle.sg_model.specs.Origami.{IsScaled}
 use Rattle.sg_model.specs.Names.{AreNames, is_name}
 use Rattle.sg_model.specs.Limits.{AreListed, AreMembers, IsGame, IsMatrixGame, IsMatrixType, IsPay, IsPayoff, IsSecurityGame, IsSecurityType, IsTable, IsWithin, is_scaled}
-use Rattle.sg_model.specs.Examples.{letters, minus, plain, robber}
+use Rattle.sg_model.specs.Examples.{letters, plain, robber}
 use Rattle.sg_model.specs.LimitLaws.{IsInRange, LimitsAreExact, against, on_one, on_rows, on_targets, player_on, scheduled, single}
-use Rattle.sg_model.proofs.Deciding.{at_most, at_most-either, at_most_z, count_by, members_by, names_by, pay_by, payoff_by, range_by}
+use Rattle.sg_model.proofs.Deciding.{at_most, at_most-either, count_by, members_by, names_by, pay_by, payoff_by, range_by}
 
 -- a fact about all items of a list that says nothing of the item
 each : {X : Type 0} (P : X → Type 0) → ((x : X) → P x) → (xs : List X) → All P xs

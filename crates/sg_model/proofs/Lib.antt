@@ -19,3 +19,5 @@ pub mod Worked
 pub mod Edges
 pub mod Joined
 pub mod Payoffs
+pub mod Spans
+pub mod Tallied

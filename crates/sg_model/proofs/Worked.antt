@@ -1,5 +1,5 @@
 -- The worked examples, by computing.
-use Rattle.std.proofs.Common.{◌≡◌, ℕ, zero, suc, ◌+◌, ◌≤◌, ◌^◌, Bool, true, false, cond, List, [], ◌∷◌, length, map, ℤ, pos, ◌-ℤ◌, ◌*ℤ◌, ◌≤ℤ◌, ◌<ℤ◌, ap, refl, arith, nat_le, int_le, codes}
+use Rattle.std.proofs.Common.{◌≡◌, ℕ, zero, suc, ◌+◌, ◌≤◌, ◌^◌, true, List, [], ◌∷◌, length, map, ℤ, pos, ◌-ℤ◌, ◌*ℤ◌, ◌≤ℤ◌, ◌<ℤ◌, ap, refl, arith, nat_le, int_le, codes}
 use Rattle.std.specs.List.{All, list_all}
 use Rattle.std.proofs.lemmas.Int.{ints}
 use Rattle.std.proofs.lemmas.List.{length-map}
@@ -15,7 +15,7 @@ use Rattle.sg_model.specs.Commitments.{IsValue, cover_count, weight_total}
 use Rattle.sg_model.specs.Origami.{AreLevelTickets, IsFloor, IsOrigami, IsScaled, IsWater, SpendsAll, count_at}
 use Rattle.sg_model.specs.Names.{is_name}
 use Rattle.sg_model.specs.Limits.{AreListed, AreMembers, ArePatrols, IsGame, IsMatrixGame, IsMatrixType, IsPayoff, IsSecurityGame, IsSecurityType, is_scaled, program_rows}
-use Rattle.sg_model.specs.Examples.{AreCounted, AreIllegal, AreNoGames, AreNoLevels, AreRefused, AreSpelled, AreUnscaled, HasMost, IsSolved, IsWorth, WorkedExamples, always_first, each_row, first_payoffs, four_targets, four_tickets, guarded, half_idle, held_down, holding, idle, in_a_row, leads, letters, minus, named_from, neighbour_tickets, neighbours, one_player, opponent, pairs, patrolled, pays, plain, player, robber, row_mix, row_tickets, second_payoffs, tabled, thief, three_actions, three_rows, three_targets, ticket, twice_two_targets, two_actions, two_payoffs, two_players, two_targets, two_thieves, two_tickets, unpatrolled, well_patrolled}
+use Rattle.sg_model.specs.Examples.{AreIllegal, AreNoGames, AreNoLevels, AreRefused, AreSpelled, AreUnscaled, IsSolved, IsWorth, WorkedExamples, always_first, each_row, first_payoffs, four_targets, four_tickets, guarded, half_idle, held_down, holding, idle, in_a_row, leads, letters, minus, named_from, neighbour_tickets, neighbours, one_player, opponent, pairs, patrolled, pays, plain, player, robber, row_mix, row_tickets, second_payoffs, tabled, thief, three_actions, three_rows, three_targets, ticket, twice_two_targets, two_actions, two_payoffs, two_players, two_targets, two_thieves, two_tickets, unpatrolled, well_patrolled}
 use Rattle.sg_model.proofs.Deciding.{all_pass, at_most, at_most-either, at_most_z, commitment_by, commitment_test, count_by, count_test, lists_by, lists_test, names_by, names_test, payoff_by, payoff_test, range_by, range_test, scaled_by, scaled_test, table_by, table_test}
 use Rattle.sg_model.proofs.Numbers.{length-numbers_from}
 use Rattle.sg_model.proofs.Promises.{nth-all}
