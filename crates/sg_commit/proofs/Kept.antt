@@ -83,7 +83,7 @@ weight_on-nonneg (x ∷ xs) p h =
     elim (bytes_eq x.play.code p) as (λ (b : Bool). pos 0 ≤ℤ (cond b x.weight (pos 0) +ℤ weight_on xs p)) [ true ↦ omega (arith, ints, low, rest) | false ↦ omega (arith, ints, rest) ]
 
 -- each ticket's play has a weight
-has_weight : (k : List Ticket) → ArePositive k → All (λ (x : Ticket). pos 1 ≤ℤ weight_on k x.play.code) k
+pub has_weight : (k : List Ticket) → ArePositive k → All (λ (x : Ticket). pos 1 ≤ℤ weight_on k x.play.code) k
 has_weight [] h = All-nil (λ (x : Ticket). pos 1 ≤ℤ weight_on [] x.play.code)
 has_weight (x ∷ xs) h =
     let low = All-head (λ (x : Ticket). pos 1 ≤ℤ x.weight) x xs h in
