@@ -9,7 +9,7 @@ use Rattle.sg_model.proofs.Greatest.{Contains-head, Contains-tail}
 use Rattle.sg_model.proofs.Numbers.{All-numbers, All-numbers_from}
 use Rattle.sg_bounds.specs.Coverage.{Column, IsColumn, always, chooses, covering}
 use Rattle.sg_bounds.proofs.Cover.{All-flat_map}
-use Rattle.sg_bounds.proofs.Told.{Contains-flat_map, Contains-map, Contains-numbers, Contains-numbers_from}
+use Rattle.sg_model.proofs.Payoffs.{Contains-flat_map, Contains-map, Contains-numbers, Contains-numbers_from}
 
 -- a row alone
 abbrev pub row_plays : Game → List (List ℕ)

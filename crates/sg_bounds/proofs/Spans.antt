@@ -11,28 +11,15 @@ use Rattle.sg_model.specs.Payoffs.{payoffs_at, payoffs_of, shift_of}
 use Rattle.sg_model.proofs.Best.{greatest-bounds}
 use Rattle.sg_model.proofs.Forms.{no_matrix}
 use Rattle.sg_model.proofs.Greatest.{Contains-head, Contains-tail}
-use Rattle.sg_model.proofs.Payoffs.{least-bounds, listed}
+use Rattle.sg_model.proofs.Payoffs.{Contains-flat_map, Contains-map, Contains-numbers, least-bounds, listed, listed_in}
 use Rattle.sg_bounds.specs.Sizes.{attacker_most, attacker_payoffs_at, attacker_payoffs_of, attacker_span, defender_most}
 use Rattle.sg_bounds.specs.SizeLaws.{IsAtMost}
-use Rattle.sg_bounds.proofs.Told.{Contains-flat_map, Contains-map, Contains-numbers}
 
 -- ---- the attacker
 
-either-listed : (b : Bool) (x y : ℤ) → Contains (x ∷ y ∷ []) (cond b x y)
-either-listed true x y = Contains-head x (y ∷ [])
-either-listed false x y = Contains-tail x (y ∷ []) y (Contains-head y [])
-
 -- what type l gets of a legal play is one of the payoffs that it may get
 attacker-listed : (g : Game) (play : List ℕ) → IsLegal g play → (l a : ℕ) → Contains (attacker_payoffs_at g l a) (pay_a g l play a)
-attacker-listed g play legal l a =
-    let row = λ (r : ℕ). nth (nth (attacker g l).follower r []) a (pos 0) in
-    let rows : List ℤ = map row (numbers (length g.goals)) in
-    let two : List ℤ = (payoff g l a).ac ∷ (payoff g l a).au ∷ [] in
-    let covered : ℤ = cond (covers g play a) (payoff g l a).ac (payoff g l a).au in
-    elim (is_matrix g) as (λ (b : Bool). MatchBool b (IsRow g play) (IsLegalJoint g play) → Contains (cond b rows two) (cond b (row (slice_index play 0)) covered)) [
-      | true ↦ (λ is. Contains-map row (numbers (length g.goals)) (slice_index play 0) (Contains-numbers (length g.goals) (slice_index play 0) is.from_one is.in_list))
-      | false ↦ (λ is. either-listed (covers g play a) (payoff g l a).ac (payoff g l a).au)
-    ] legal
+attacker-listed g play legal l a = listed_in g play legal (λ (r : ℕ). nth (nth (attacker g l).follower r []) a (pos 0)) (covers g play a) (payoff g l a).ac (payoff g l a).au
 
 -- a payoff that an action may give is one of its type's
 pub of-type : (g : Game) (l a : ℕ) (x : ℤ) → 1 ≤ a → a ≤ action_count g l → Contains (attacker_payoffs_at g l a) x → Contains (attacker_payoffs_of g l) x

@@ -52,26 +52,3 @@ Decides-numbers p P each n = Decides-like (list_all p (numbers n)) (λ all a low
 pub Decides-listed : {X : Type 0} (Is : X → Type 0) (xs : List X) → All Is xs → ((x : X) → Is x → Contains xs x)
     → (p : X → Bool) (P : X → Type 0) → ((x : X) → Decides (p x) (P x)) → Decides (list_all p xs) ((x : X) → Is x → P x)
 Decides-listed Is xs are inside p P each = Decides-like (list_all p xs) (λ all x is. All-contains P xs x all (inside x is)) (λ h i d lt. h (slice_index_or xs i d) (are i d lt)) (Decides-all p P each xs)
-
--- ---- items of lists
-
-pub Contains-map : {X Y : Type 0} (f : X → Y) (xs : List X) (x : X) → Contains xs x → Contains (map f xs) (f x)
-Contains-map f [] x h = absurd (omega (arith, h.1))
-Contains-map f (y ∷ xs) x (zero, lt, e) = subst (Contains (f y ∷ map f xs)) (ap f e) (Contains-head (f y) (map f xs))
-Contains-map f (y ∷ xs) x (suc i, lt, e) = Contains-tail (f y) (map f xs) (f x) (Contains-map f xs x (i, omega arith, e))
-
-pub Contains-flat_map : {X Y : Type 0} (f : X → List Y) (xs : List X) (x : X) (y : Y) → Contains xs x → Contains (f x) y → Contains (flat_map f xs) y
-Contains-flat_map f [] x y h k = absurd (omega (arith, h.1))
-Contains-flat_map f (z ∷ xs) x y (zero, lt, e) k = Contains-append_left (f z) (flat_map f xs) y (subst (λ ys. Contains ys y) (ap f (sym e)) k)
-Contains-flat_map f (z ∷ xs) x y (suc i, lt, e) k = Contains-append_right (f z) (flat_map f xs) y (Contains-flat_map f xs x y (i, omega arith, e) k)
-
-pub Contains-numbers_from : (a m t : ℕ) → a ≤ t → t < a + m → Contains (numbers_from a m) t
-Contains-numbers_from a zero t low high = absurd (omega arith)
-Contains-numbers_from a (suc m) t low high =
-    elim (cases_eq a t) [
-      | inl e ↦ subst (Contains (numbers_from a (suc m))) e (Contains-head a (numbers_from (a + 1) m))
-      | inr ne ↦ Contains-tail a (numbers_from (a + 1) m) t (Contains-numbers_from (a + 1) m t (omega arith) (omega arith))
-    ]
-
-pub Contains-numbers : (m t : ℕ) → 1 ≤ t → t ≤ m → Contains (numbers m) t
-Contains-numbers m t low high = Contains-numbers_from 1 m t low (omega arith)

@@ -10,8 +10,6 @@ pub mod Running
 pub mod Sizing
 pub mod Small
 pub mod Spans
-pub mod Spreads
-pub mod Tallied
 pub mod Tested
 pub mod Tops
 pub mod Totals

@@ -1,4 +1,4 @@
--- Numbers from -m to m, and products and sums of them.
+-- Products, differences and sums in the code.
 use Rattle.std.proofs.Common.{◌≡◌, ℕ, ◌*◌, ◌<◌, ◌≤◌, ◌^◌, List, [], ◌∷◌, length, ℤ, pos, ◌+ℤ◌, ◌-ℤ◌, ◌*ℤ◌, ◌≤ℤ◌, ap, sym, subst, ◌∙◌, to_z, of_z, arith}
 use Rattle.std.specs.Prelude.{FitsSigned}
 use Rattle.std.specs.List.{All}
@@ -8,42 +8,8 @@ use Rattle.std.proofs.lemmas.List.Elements.{All-head, All-tail}
 use Rattle.sg_model.specs.Limits.{IsPay, IsWithin}
 use Rattle.sg_model.specs.Sums.{total}
 use Rattle.sg_num.proofs.Signs.{mul-pos}
-use Rattle.sg_model.proofs.Ints.{v, n, plus, less, times, le_by, le_from, product_nonneg, factor_positive}
-
--- z lies from -m to m
-pub record Spans (m : ℕ) (z : ℤ) : Type 0 where
-  pub low : (pos 0 -ℤ pos m) ≤ℤ z
-  pub high : z ≤ℤ pos m
-
-pub spans_product : (m k : ℕ) (a b : ℤ) → Spans m a → Spans k b → Spans (m * k) (a *ℤ b)
-spans_product m k a b p q =
-    let x = v a in let y = v b in
-    let f = product_nonneg (pos m -ℤ a) (pos k -ℤ b) (omega (arith, ints, p.high)) (omega (arith, ints, q.high)) in
-    let g = product_nonneg (pos m +ℤ a) (pos k +ℤ b) (omega (arith, ints, p.low)) (omega (arith, ints, q.low)) in
-    let h = product_nonneg (pos m -ℤ a) (pos k +ℤ b) (omega (arith, ints, p.high)) (omega (arith, ints, q.low)) in
-    let i = product_nonneg (pos m +ℤ a) (pos k -ℤ b) (omega (arith, ints, p.low)) (omega (arith, ints, q.high)) in
-    record {
-      low = le_by (less (n 0) (n (m * k))) (times x y) (omega (arith, le_from (n 0) (times (less (n m) x) (less (n k) y)) f, le_from (n 0) (times (plus (n m) x) (plus (n k) y)) g));
-      high = le_by (times x y) (n (m * k)) (omega (arith, le_from (n 0) (times (less (n m) x) (plus (n k) y)) h, le_from (n 0) (times (plus (n m) x) (less (n k) y)) i));
-    }
-
-pub fits_span : (m : ℕ) (z : ℤ) → m < 2 ^ 127 → Spans m z → FitsSigned w128 z
-fits_span m z h s = omega (arith, ints, s.low, s.high)
-
-pub spans_total : {X : Type 0} (f : X → ℤ) (m : ℕ) (xs : List X) → All (λ x. Spans m (f x)) xs → Spans (length xs * m) (total f xs)
-spans_total f m [] h = record { low = omega (arith, ints); high = omega (arith, ints) }
-spans_total f m (x ∷ xs) h =
-    let first = All-head (λ x. Spans m (f x)) x xs h in
-    let rest = spans_total f m xs (All-tail (λ x. Spans m (f x)) x xs h) in
-    record { low = omega (arith, ints, first.low, rest.low); high = omega (arith, ints, first.high, rest.high) }
-
--- the quotient of a scale by a gap that divides it
-pub multiple_bounds : (m gap scale : ℤ) (most : ℕ) → m *ℤ gap ≡ scale → pos 1 ≤ℤ gap → pos 1 ≤ℤ scale → scale ≤ℤ pos most → (pos 1 ≤ℤ m) × (m ≤ℤ pos most)
-multiple_bounds m gap scale most e g s h =
-    let low = factor_positive m gap scale e s (omega (arith, ints)) in
-    let p = product_nonneg m (gap -ℤ pos 1) (omega (arith, ints)) (omega (arith, ints)) in
-    let q : m ≤ℤ (m *ℤ gap) = le_by (v m) (times (v m) (v gap)) (omega (arith, le_from (n 0) (times (v m) (less (v gap) (n 1))) p)) in
-    (low, omega (arith, ints, q, e))
+use Rattle.sg_model.specs.Tallies.{IsCount}
+use Rattle.sg_model.proofs.Spans.{Spans, fits_span, pay-within, spans_product}
 
 -- a product in the code, of numbers read as they are
 pub record IsMade (m k : ℕ) (a b a' b' : ℤ) : Type 0 where
@@ -82,7 +48,7 @@ pub record IsExcess (u d z : ℤ) : Type 0 where
 
 pub excess_made : (u d z : ℤ) → IsPay u → IsWithin (pos 1) (pos (2 ^ 46)) d → IsWithin (pos 0 -ℤ pos (2 ^ 77)) (pos (2 ^ 77)) z → IsExcess u d z
 excess_made u d z pay den num =
-    let su : Spans (2 ^ 30) u = record { low = pay.at_least; high = pay.at_most } in
+    let su = pay-within u pay in
     let sd : Spans (2 ^ 46) d = record { low = omega (arith, ints, den.at_least); high = den.at_most } in
     let sz : Spans (2 ^ 77) z = record { low = num.at_least; high = num.at_most } in
     let p = made (2 ^ 30) (2 ^ 46) u d _ _ (read (2 ^ 30) u (omega arith) su) (read (2 ^ 46) d (omega arith) sd) su sd (omega arith) in
@@ -97,7 +63,7 @@ excess_made u d z pay den num =
 -- both products of a part of the bound
 pub part_made : (a b : ℤ) → IsPay a → pos 1 ≤ℤ b → b ≤ℤ pos (2 ^ 78) → IsMade (2 ^ 30) (2 ^ 78) a b (to_z w128 (of_z w128 a)) (to_z w128 (of_z w128 b))
 part_made a b pay low high =
-    let sa : Spans (2 ^ 30) a = record { low = pay.at_least; high = pay.at_most } in
+    let sa = pay-within a pay in
     let sb : Spans (2 ^ 78) b = record { low = omega (arith, ints, low); high = high } in
     made (2 ^ 30) (2 ^ 78) a b _ _ (read (2 ^ 30) a (omega arith) sa) (read (2 ^ 78) b (omega arith) sb) sa sb (omega arith)
 
@@ -133,3 +99,20 @@ whole_made d s scale f den range =
     let a = made (2 ^ 46) (2 ^ 32) d s _ _ (read (2 ^ 46) d (omega arith) sd) (read (2 ^ 32) s (omega arith) ss) sd ss (omega arith) in
     let m = mul-pos d s (omega (arith, ints, den.at_least)) (omega (arith, ints, f, range.at_least)) in
     record { low = omega (arith, ints, a.value, m); high = omega (arith, ints, a.value, a.spans.high) }
+
+-- the sum where so many of all tickets have more than the uncovered payoff
+pub record IsMixed (total count outside more : ℤ) : Type 0 where
+  pub all : FitsSigned w128 (to_z w128 (of_z w128 outside) *ℤ to_z w128 (of_z w128 total))
+  pub some : FitsSigned w128 (to_z w128 (of_z w128 more) *ℤ to_z w128 (of_z w128 count))
+  pub sum : FitsSigned w128 (to_z w128 (of_z w128 (to_z w128 (of_z w128 outside) *ℤ to_z w128 (of_z w128 total))) +ℤ to_z w128 (of_z w128 (to_z w128 (of_z w128 more) *ℤ to_z w128 (of_z w128 count))))
+  pub value : to_z w128 (of_z w128 (to_z w128 (of_z w128 (to_z w128 (of_z w128 outside) *ℤ to_z w128 (of_z w128 total))) +ℤ to_z w128 (of_z w128 (to_z w128 (of_z w128 more) *ℤ to_z w128 (of_z w128 count))))) ≡ (outside *ℤ total) +ℤ (more *ℤ count)
+
+pub mixed_made : (total count outside more : ℤ) → IsCount total count → IsPay outside → Spans (2 ^ 31) more → IsMixed total count outside more
+mixed_made total count outside more is pay sm =
+    let st : Spans (2 ^ 95) total = record { low = omega (arith, ints, is.low, is.high); high = is.few } in
+    let sc : Spans (2 ^ 95) count = record { low = omega (arith, ints, is.low); high = omega (arith, ints, is.high, is.few) } in
+    let so = pay-within outside pay in
+    let a = made (2 ^ 30) (2 ^ 95) outside total _ _ (read (2 ^ 30) outside (omega arith) so) (read (2 ^ 95) total (omega arith) st) so st (omega arith) in
+    let b = made (2 ^ 31) (2 ^ 95) more count _ _ (read (2 ^ 31) more (omega arith) sm) (read (2 ^ 95) count (omega arith) sc) sm sc (omega arith) in
+    let r = made_sum (outside *ℤ total) (more *ℤ count) _ _ a.value b.value (omega (arith, ints, a.spans.low, a.spans.high, b.spans.low, b.spans.high)) in
+    record { all = a.fits; some = b.fits; sum = r.0; value = r.1 }

@@ -13,7 +13,7 @@ use Rattle.sg_num.proofs.Divisors.{dvd-coprime}
 use Rattle.sg_frac.specs.Fractions.{IsReduced}
 use Rattle.sg_model.specs.Sums.{total, numbers}
 use Rattle.sg_model.specs.Games.{Game, payoff, resource_count}
-use Rattle.sg_model.specs.Limits.{IsDefended, IsGame, is_scaled}
+use Rattle.sg_model.specs.Limits.{IsGame, is_scaled}
 use Rattle.sg_model.specs.Origami.{IsFloor, IsOrigami, IsWater, SpendsAll, at_level, count_at, gap, share}
 use Rattle.sg_model.specs.declared.level.Level.{Level}
 use Rattle.sg_model.specs.declared.level.Level.TheVariants.{Resources, Target}
@@ -23,7 +23,7 @@ use Rattle.sg_model.proofs.Levels.{IsAtLevel, at_level_each, multiple_is}
 use Rattle.sg_model.proofs.Numbers.{All-numbers, All-numbers-at, length-numbers_from}
 use Rattle.sg_model.proofs.Best.{filter_none}
 use Rattle.sg_model.proofs.Sums.{total-nonneg}
-use Rattle.sg_model.proofs.Promises.{game_cases, origami, payoff-in_range}
+use Rattle.sg_model.proofs.Promises.{limited, payoff-in_range}
 use Rattle.std.specs.Prelude.{Option, None, MatchOption}
 use Rattle.sg_game.proofs.Patrols.{numbers-more}
 use Rattle.sg_game.proofs.Spreads.{greatest-append}
@@ -35,37 +35,14 @@ use Rattle.sg_frac.specs.Fractions.{Fraction, IsReducedForm}
 use Rattle.sg_check.specs.declared.water.Height.{Height}
 use Rattle.sg_check.specs.declared.water.Pays.{Pays}
 use Rattle.sg_check.specs.Watering.{ArePays, ArePaysOf, IsBounding, IsFillable, IsSmall, ShowsBound, greatest_in, joined, part}
-use Rattle.sg_check.proofs.Spans.{Spans, multiple_bounds, spans_product, spans_total}
+use Rattle.sg_model.proofs.Spans.{Spans, multiple_bounds, spans_product, spans_total}
 
 -- ---- the game
 
-few_patrols : (g : Game) (patrols : ℕ) → g.patrols ≡ Some patrols → IsDefended g g.patrols → is_scaled g ≡ true → patrols ≤ 200
-few_patrols g patrols e h scaled = let d = rw e at h in let few = d.few in let limit = rw scaled at few in limit
-
-counted : (g : Game) (patrols : ℕ) → g.patrols ≡ Some patrols → resource_count g ≡ patrols
-counted g patrols e = rw e refl
-
 pub fillable : (g : Game) → IsGame g → is_scaled g ≡ true → IsFillable g
 fillable g h scaled =
-    let found = origami g h scaled in
-    let o = found.1 in
-    let patrols = found.0 in
-    let same = counted g patrols o.identical in
-    elim (game_cases g h) [
-      | inl s ↦ (
-          let goals = s.game.target_count in
-          let few = goals.at_most in
-          let limit = rw scaled at few in
-          record {
-            origami = subst (IsOrigami g) (sym same) o;
-            security = no_matrix g s.kind;
-            one_type = o.one_type;
-            few_patrols = subst (λ (k : ℕ). k ≤ 200) (sym same) (few_patrols g patrols o.identical s.game.defended scaled);
-            scale_range = record { at_least = o.scaled; at_most = s.game.scale_range.at_most };
-            few = limit;
-          })
-      | inr m ↦ absurd (omega (arith, ints, scaled, m.game.no_scale))
-    ]
+    let l = limited g h scaled in
+    record { origami = l.origami; security = no_matrix g l.origami.security; one_type = l.origami.one_type; few_patrols = l.few_patrols; scale_range = l.scale; few = l.targets.1 }
 
 -- ---- sums over the targets of a level
 

@@ -3,7 +3,8 @@ use Rattle.std.proofs.Common.{◌≡◌, ◌∙◌, ◌-◌, ◌^◌, ℤ, pos, 
 use Rattle.std.specs.Prelude.{FitsSigned, IsTrue, ◌↔◌, int_le}
 use Rattle.std.specs.Int.{w128}
 use Rattle.std.proofs.lemmas.Int.{ints, to_z-of_z}
-use Rattle.sg_model.proofs.Ints.{v, n, less, times, le_by, le_from, mul-le, product_nonneg}
+use Rattle.sg_model.proofs.Ints.{mul-le, product_nonneg}
+use Rattle.sg_model.proofs.Spans.{product-within}
 use Rattle.sg_num.proofs.Steps.{FitsSigned-from_fits}
 use Rattle.sg_bounds.specs.Accepted.{Fits}
 
@@ -17,16 +18,6 @@ fits_between z low high = omega (arith, ints, low, high)
 pub top_from_Fits : (z : ℤ) → Fits z → z ≤ℤ top
 top_from_Fits z h = let f = FitsSigned-from_fits z h in omega (arith, ints, f)
 
--- v times what lies from -m to m lies from -v * m to v * m
-pub scaled_within : (w d m : ℤ) → pos 0 ≤ℤ w → (pos 0 -ℤ m) ≤ℤ d → d ≤ℤ m → ((pos 0 -ℤ (w *ℤ m)) ≤ℤ (w *ℤ d)) × ((w *ℤ d) ≤ℤ (w *ℤ m))
-scaled_within w d m h low high =
-    let x = v w in let y = v d in let z = v m in
-    let p = product_nonneg w (m -ℤ d) h (omega (arith, ints, high)) in
-    let q = product_nonneg w (d -ℤ (pos 0 -ℤ m)) h (omega (arith, ints, low)) in (
-      le_by (less (n 0) (times x z)) (times x y) (omega (arith, le_from (n 0) (times x (less y (less (n 0) z))) q)),
-      le_by (times x y) (times x z) (omega (arith, le_from (n 0) (times x (less z y)) p)),
-    )
-
 -- a product in the code, of numbers read as they are
 pub record IsProduct (w d m made : ℤ) : Type 0 where
   pub value : made ≡ w *ℤ d
@@ -35,16 +26,16 @@ pub record IsProduct (w d m made : ℤ) : Type 0 where
 
 pub product_fits : (w d m w' d' : ℤ) → w' ≡ w → d' ≡ d → pos 0 ≤ℤ w → (pos 0 -ℤ m) ≤ℤ d → d ≤ℤ m → (w *ℤ m) ≤ℤ top → FitsSigned w128 (w' *ℤ d')
 product_fits w d m w' d' e f h low high most =
-    let p = scaled_within w d m h low high in
-    rw (e, f) (fits_between (w *ℤ d) (omega (arith, ints, p.0, most)) (omega (arith, ints, p.1, most)))
+    let p = product-within w m d h (record { low = low; high = high }) in
+    rw (e, f) (fits_between (w *ℤ d) (omega (arith, ints, p.low, most)) (omega (arith, ints, p.high, most)))
 
 pub product_is : (w d m w' d' : ℤ) → w' ≡ w → d' ≡ d → pos 0 ≤ℤ w → (pos 0 -ℤ m) ≤ℤ d → d ≤ℤ m → (w *ℤ m) ≤ℤ top
     → IsProduct w d m (to_z w128 (of_z w128 (w' *ℤ d')))
 product_is w d m w' d' e f h low high most =
-    let p = scaled_within w d m h low high in
+    let p = product-within w m d h (record { low = low; high = high }) in
     let fit = product_fits w d m w' d' e f h low high most in
     let same : to_z w128 (of_z w128 (w' *ℤ d')) ≡ w *ℤ d = to_z-of_z w128 (w' *ℤ d') fit ∙ (rw (e, f) refl) in
-    record { value = same; low = omega (arith, ints, p.0, same); high = omega (arith, ints, p.1, same) }
+    record { value = same; low = omega (arith, ints, p.low, same); high = omega (arith, ints, p.high, same) }
 
 -- the same where d is not negative
 pub record IsShare (w d m made : ℤ) : Type 0 where

@@ -4,7 +4,6 @@ pub mod Parts
 pub mod PlayTests
 pub mod Sized
 pub mod Spreads
-pub mod Tallies
 pub mod Valuing
 pub mod Verdicts
 pub mod Watering

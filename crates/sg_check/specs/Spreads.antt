@@ -1,9 +1,9 @@
 -- The ends of an attacker's payoffs, and the numbers of a game that its facts are measured by.
-use Rattle.std.specs.Prelude.{◌≡◌, ◌≢◌, ◌+◌, ◌^◌, List, [], ℤ, pos, ◌-ℤ◌}
+use Rattle.std.specs.Prelude.{◌≡◌, ◌+◌, ◌^◌, List, ℤ, pos, ◌-ℤ◌}
 use Rattle.sg_model.specs.Games.{Game, attacker, prior_total}
 use Rattle.sg_model.specs.Limits.{IsPay, IsWithin}
 use Rattle.sg_model.specs.Payoffs.{greatest_of, shift_of}
-use Rattle.sg_model.specs.Sums.{greatest, least}
+use Rattle.sg_game.specs.Spreads.{AreEnds}
 use Rattle.sg_tree.specs.declared.report.Cap.{Cap}
 use Rattle.sg_bounds.specs.Leaves.{rest_of}
 use Rattle.sg_bounds.specs.Sizes.{attacker_most, defender_most}
@@ -11,12 +11,8 @@ use Rattle.sg_check.specs.declared.spread.Spread.{Spread}
 use Rattle.sg_check.specs.declared.measures.Measures.{Measures}
 
 -- the least and the greatest of some payoffs
-pub record IsSpread (s : Spread) (xs : List ℤ) : Type 0 where
-  pub some : xs ≢ []
-  pub least : s.least ≡ least xs
-  pub greatest : s.greatest ≡ greatest xs
-  pub low : IsPay s.least
-  pub high : IsPay s.greatest
+abbrev pub IsSpread : Spread → List ℤ → Type 0
+IsSpread s xs = AreEnds s.least s.greatest xs
 
 -- the numbers of a game of one type, in their ranges
 pub record AreMeasures (g : Game) (m : Measures) : Type 0 where

@@ -3,6 +3,7 @@
 ghost use Rattle.std.specs.Prelude.{◌≡◌, ◌≤◌, ◌++◌, ◌∷◌, [], List, ℤ, ◌+◌, length, map, false, true};
 ghost use Rattle.std.specs.Int.{int_max, int_min};
 ghost use Rattle.sg_model.specs.Games.{is_matrix, payoff};
+ghost use Rattle.sg_model.specs.Limits.{IsPay};
 ghost use Rattle.sg_model.specs.Sums.{numbers};
 ghost use Rattle.sg_game.specs.Counts.{IsActionOf, IsGoalOf, IsTypeOf, follower_pay};
 ghost use Rattle.sg_bounds.specs.Sizes.{attacker_payoffs_at, attacker_payoffs_of};
@@ -18,6 +19,17 @@ pub(crate) struct Spread {
 }
 
 impl Spread {
+    /// The ends of one payoff.
+    fn of(pay: i64) -> Spread
+        requires { IsPay pay }
+        ensures { IsSpread result (pay ∷ []) }
+    {
+        Spread {
+            least: pay,
+            greatest: pay,
+        }
+    }
+
     /// The smaller of the least.
     fn least_with(&self, other: &Spread) -> i64
         ensures { result ≡ int_min self.now.least other.now.least }
@@ -59,11 +71,7 @@ fn row_spread(game: &Game, l: u8, i: u16, a: u16) -> Spread
     requires known_action { IsActionOf game.now l a }
     ensures { IsSpread result (follower_pay game.now l i a ∷ []) }
 {
-    let pay = game.follower(l, i, a);
-    Spread {
-        least: pay,
-        greatest: pay,
-    }
+    Spread::of(game.follower(l, i, a))
 }
 
 /// The ends of what type `l` may get in the column of its action `a`.
@@ -81,34 +89,6 @@ fn column_spread(game: &Game, l: u8, a: u16) -> Spread
     spread
 }
 
-/// The ends of what type `l` gets at target `a` where it is covered.
-fn covered_spread(game: &Game, l: u8, a: u16) -> Spread
-    requires security { is_matrix game.now ≡ false }
-    requires known_type { IsTypeOf game.now l }
-    requires known_target { IsGoalOf game.now a }
-    ensures { IsSpread result ((payoff game.now l a).ac ∷ []) }
-{
-    let [_, _, pay, _] = game.payoffs(l, a);
-    Spread {
-        least: pay,
-        greatest: pay,
-    }
-}
-
-/// The ends of what type `l` gets at target `a` where it is not covered.
-fn uncovered_spread(game: &Game, l: u8, a: u16) -> Spread
-    requires security { is_matrix game.now ≡ false }
-    requires known_type { IsTypeOf game.now l }
-    requires known_target { IsGoalOf game.now a }
-    ensures { IsSpread result ((payoff game.now l a).au ∷ []) }
-{
-    let [_, _, _, pay] = game.payoffs(l, a);
-    Spread {
-        least: pay,
-        greatest: pay,
-    }
-}
-
 /// The ends of what type `l` may get at target `a`.
 fn target_spread(game: &Game, l: u8, a: u16) -> Spread
     requires security { is_matrix game.now ≡ false }
@@ -116,7 +96,8 @@ fn target_spread(game: &Game, l: u8, a: u16) -> Spread
     requires known_target { IsGoalOf game.now a }
     ensures { IsSpread result ((payoff game.now l a).ac ∷ (payoff game.now l a).au ∷ []) }
 {
-    covered_spread(game, l, a).join(&uncovered_spread(game, l, a))
+    let [_, _, covered, uncovered] = game.payoffs(l, a);
+    Spread::of(covered).join(&Spread::of(uncovered))
 }
 
 /// The ends of what type `l` may get where it takes action `a`.

@@ -6,39 +6,18 @@ ghost use Rattle.sg_model.specs.Games.{is_matrix, payoff, resource_schedules, sc
 ghost use Rattle.sg_model.specs.Limits.{IsPay};
 ghost use Rattle.sg_model.specs.Plays.{IsLegal};
 ghost use Rattle.sg_model.specs.Sums.{nth};
-ghost use Rattle.sg_num.specs.Exact.{exact_sum};
+ghost use Rattle.sg_model.specs.Tallies.{IsCount, IsTable, marked, no_cell, tallied, touched, touched_all, touched_from};
 ghost use Rattle.sg_game.specs.Counts.{IsActionOf, IsGoalOf, IsResourceOf};
-ghost use Rattle.sg_check.specs.Tallies.{IsTable, marked, no_cell, tallied, touched, touched_all, touched_from, value_or};
 ghost use Rattle.sg_check.specs.Valuing.{AreLegal, Forms, under_a, under_d};
 
 use crate::sums::{total_a, total_d};
 use sg_game::Game;
-use sg_model::Ticket;
-use sg_num::sum;
+use sg_model::{Cell, Ticket};
 
 /// One more than the greatest number of targets.
 pub(crate) const ROOM: usize = 10001;
 
-/// What is counted of a target: the weights of the tickets that cover it, and the last of these tickets.
-#[derive(Clone, Copy)]
-pub(crate) struct Cell {
-    /// The number of that ticket, from 1, and 0 before the first.
-    pub(crate) mark: usize,
-    /// The weights of the tickets so far.
-    pub(crate) count: i128,
-}
-
-/// The sum, which fits where the total of all weights does.
-fn added(count: i128, weight: i128) -> i128
-    ensures { result ≡ value_or count (exact_sum count weight) }
-{
-    match sum(count, weight) {
-        Ok(count) => count,
-        Err(_) => count,
-    }
-}
-
-/// The cell of a target that ticket `n` covers: the ticket counts once.
+/// The cell of a target that ticket `n` covers: the ticket counts once. The sum fits where the total of all weights does.
 fn marked(cell: &Cell, n: usize, weight: i128) -> Cell
     ensures { result ≡ marked n weight cell.now }
 {
@@ -47,7 +26,7 @@ fn marked(cell: &Cell, n: usize, weight: i128) -> Cell
     } else {
         Cell {
             mark: n,
-            count: added(cell.count, weight),
+            count: cell.count.wrapping_add(weight),
         }
     }
 }
@@ -158,9 +137,7 @@ fn difference(covered: i64, uncovered: i64) -> i128
 
 /// The sum where all tickets have one payoff, and so many of them so much more.
 fn mixed(total: i128, count: i128, uncovered: i128, more: i128) -> i128
-    requires low { pos 0 ≤ℤ count }
-    requires high { count ≤ℤ total }
-    requires few { total ≤ℤ pos (2 ^ 95) }
+    requires counts { IsCount total count }
     requires outside { IsPay uncovered }
     requires least { (pos 0 -ℤ pos (2 ^ 31)) ≤ℤ more }
     requires most { more ≤ℤ pos (2 ^ 31) }
@@ -174,9 +151,7 @@ fn counted_a(game: &Game, total: i128, count: i128, t: u16) -> i128
     requires security { is_matrix game.now ≡ false }
     requires one_type { length game.now.types ≡ 1 }
     requires known { IsGoalOf game.now t }
-    requires low { pos 0 ≤ℤ count }
-    requires high { count ≤ℤ total }
-    requires few { total ≤ℤ pos (2 ^ 95) }
+    requires counts { IsCount total count }
     ensures { result ≡ ((payoff game.now 1 t).au *ℤ total) +ℤ (((payoff game.now 1 t).ac -ℤ (payoff game.now 1 t).au) *ℤ count) }
 {
     let [_, _, covered, uncovered] = game.payoffs(1, t);
@@ -193,9 +168,7 @@ fn counted_d(game: &Game, total: i128, count: i128, t: u16) -> i128
     requires security { is_matrix game.now ≡ false }
     requires one_type { length game.now.types ≡ 1 }
     requires known { IsGoalOf game.now t }
-    requires low { pos 0 ≤ℤ count }
-    requires high { count ≤ℤ total }
-    requires few { total ≤ℤ pos (2 ^ 95) }
+    requires counts { IsCount total count }
     ensures { result ≡ ((payoff game.now 1 t).du *ℤ total) +ℤ (((payoff game.now 1 t).dc -ℤ (payoff game.now 1 t).du) *ℤ count) }
 {
     let [covered, uncovered, _, _] = game.payoffs(1, t);

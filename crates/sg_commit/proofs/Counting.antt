@@ -7,7 +7,7 @@ use Rattle.sg_model.specs.declared.ticket.Ticket.{Ticket}
 use Rattle.sg_model.specs.Games.{Game}
 use Rattle.sg_model.specs.Plays.{covers}
 use Rattle.sg_model.specs.Commitments.{cover_count, weight_total}
-use Rattle.sg_commit.proofs.Standing.{ArePositive, weight_total-nonneg}
+use Rattle.sg_model.proofs.Covers.{ArePositive, weight_total-nonneg}
 
 -- the weight of a ticket where it counts
 pub counts : Bool → ℤ → ℤ

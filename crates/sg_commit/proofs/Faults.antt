@@ -8,7 +8,7 @@ use Rattle.sg_model.specs.Commitments.{weight_total}
 use Rattle.sg_num.specs.declared.step.Wide.{Wide}
 use Rattle.sg_num.specs.Exact.{and_then, fits}
 use Rattle.sg_commit.specs.Parts.{exact_total, fault_from, fault_of, first_below}
-use Rattle.sg_commit.proofs.Standing.{ArePositive}
+use Rattle.sg_model.proofs.Covers.{ArePositive}
 
 none_below : (i : ℕ) (k : List Ticket) → first_below i k ≡ None → ArePositive k
 none_below i [] e = All-nil (λ (x : Ticket). pos 1 ≤ℤ x.weight)

@@ -20,7 +20,7 @@ use Rattle.sg_model.proofs.Ints.{cancel, v, plus, times, same_by}
 use Rattle.sg_num.proofs.Divisors.{dvd-coprime, some_from_IsGcd}
 use Rattle.sg_commit.specs.Committed.{AreLowest, Committed, IsCommitted, is_before, is_rising}
 use Rattle.sg_commit.proofs.Kept.{before-trans, head_before, not_before_itself, rising-tail, weight_on-scaled}
-use Rattle.sg_commit.proofs.Standing.{ArePositive}
+use Rattle.sg_model.proofs.Covers.{ArePositive}
 use Rattle.sg_commit.proofs.Worths.{product-positive}
 
 -- ---- the tickets in pairs

@@ -10,7 +10,7 @@ use Rattle.sg_model.proofs.Joined.{mix-joined}
 use Rattle.sg_commit.specs.Committed.{is_before, is_rising}
 use Rattle.sg_commit.specs.Joining.{join_onto, joined}
 use Rattle.sg_commit.proofs.Orders.{comes_before, sorted-head, sorted-tail, sorted-first, before_or_same, rising-cons}
-use Rattle.sg_commit.proofs.Standing.{ArePositive}
+use Rattle.sg_model.proofs.Covers.{ArePositive}
 
 -- x with the weight of y too
 abbrev merged : Ticket → Ticket → Ticket

@@ -10,6 +10,7 @@ use Rattle.std.proofs.lemmas.Int.{ints}
 use Rattle.std.proofs.lemmas.List.Elements.{All-nil, All-cons, All-head, All-tail, All-weaker}
 use Rattle.std.proofs.lemmas.Slice.Eq.{bytes_eq-Decides}
 use Rattle.sg_model.specs.declared.ticket.Ticket.{Ticket}
+use Rattle.sg_model.specs.Sums.{total}
 use Rattle.sg_model.specs.Games.{Game}
 use Rattle.sg_model.specs.Plays.{IsLegal}
 use Rattle.sg_model.specs.Commitments.{IsCommitment, scaled, weight_on}
@@ -17,7 +18,7 @@ use Rattle.sg_model.proofs.Ints.{v, n, plus, times, same_by}
 use Rattle.sg_commit.specs.Committed.{AreLegal, Committed, IsCommitted, is_before, is_rising}
 use Rattle.sg_commit.specs.Parts.{AreMultiple}
 use Rattle.sg_commit.proofs.Orders.{comes_before}
-use Rattle.sg_commit.proofs.Standing.{ArePositive}
+use Rattle.sg_model.proofs.Covers.{ArePositive}
 use Rattle.sg_commit.proofs.Worths.{product-positive}
 
 -- ---- plays that rise
@@ -82,7 +83,7 @@ weight_on-nonneg (x ∷ xs) p h =
     elim (bytes_eq x.play.code p) as (λ (b : Bool). pos 0 ≤ℤ (cond b x.weight (pos 0) +ℤ weight_on xs p)) [ true ↦ omega (arith, ints, low, rest) | false ↦ omega (arith, ints, rest) ]
 
 -- each ticket's play has a weight
-has_weight : (k : List Ticket) → ArePositive k → All (λ (x : Ticket). pos 1 ≤ℤ weight_on k x.play.code) k
+pub has_weight : (k : List Ticket) → ArePositive k → All (λ (x : Ticket). pos 1 ≤ℤ weight_on k x.play.code) k
 has_weight [] h = All-nil (λ (x : Ticket). pos 1 ≤ℤ weight_on [] x.play.code)
 has_weight (x ∷ xs) h =
     let low = All-head (λ (x : Ticket). pos 1 ≤ℤ x.weight) x xs h in
@@ -94,13 +95,19 @@ has_weight (x ∷ xs) h =
     (λ y some. elim (bytes_eq x.play.code y.play.code) as (λ (b : Bool). pos 1 ≤ℤ (cond b x.weight (pos 0) +ℤ weight_on xs y.play.code)) [ true ↦ omega (arith, ints, low, some) | false ↦ omega (arith, ints, some) ])
     xs (has_weight xs later))
 
-pub weight_on-scaled : (c : ℤ) (k : List Ticket) (p : List ℕ) → weight_on (scaled c k) p ≡ c *ℤ weight_on k p
-weight_on-scaled c [] p = same_by (n 0) (times (v c) (n 0)) (omega arith)
-weight_on-scaled c (x ∷ xs) p = ap (λ (z : ℤ). cond (bytes_eq x.play.code p) (c *ℤ x.weight) (pos 0) +ℤ z) (weight_on-scaled c xs p) ∙ step (bytes_eq x.play.code p)
+-- a sum of the weights whose plays pass a test, with all weights multiplied
+pub scaled-passing : (test : List ℕ → Bool) (c : ℤ) (k : List Ticket) → total (λ (x : Ticket). cond (test x.play.code) x.weight (pos 0)) (scaled c k) ≡ c *ℤ total (λ (x : Ticket). cond (test x.play.code) x.weight (pos 0)) k
+scaled-passing test c [] = same_by (n 0) (times (v c) (n 0)) (omega arith)
+scaled-passing test c (x ∷ xs) =
+    let r : ℤ = total (λ (x : Ticket). cond (test x.play.code) x.weight (pos 0)) xs in
+    ap (λ (z : ℤ). cond (test x.play.code) (c *ℤ x.weight) (pos 0) +ℤ z) (scaled-passing test c xs) ∙ step (test x.play.code) r
   where
-    step : (b : Bool) → (cond b (c *ℤ x.weight) (pos 0) +ℤ (c *ℤ weight_on xs p)) ≡ (c *ℤ (cond b x.weight (pos 0) +ℤ weight_on xs p))
-    step true = same_by (plus (times (v c) (v x.weight)) (times (v c) (v (weight_on xs p)))) (times (v c) (plus (v x.weight) (v (weight_on xs p)))) (omega arith)
-    step false = same_by (plus (n 0) (times (v c) (v (weight_on xs p)))) (times (v c) (plus (n 0) (v (weight_on xs p)))) (omega arith)
+    step : (b : Bool) (r : ℤ) → (cond b (c *ℤ x.weight) (pos 0) +ℤ (c *ℤ r)) ≡ (c *ℤ (cond b x.weight (pos 0) +ℤ r))
+    step true r = same_by (plus (times (v c) (v x.weight)) (times (v c) (v r))) (times (v c) (plus (v x.weight) (v r))) (omega arith)
+    step false r = same_by (plus (n 0) (times (v c) (v r))) (times (v c) (plus (n 0) (v r))) (omega arith)
+
+pub weight_on-scaled : (c : ℤ) (k : List Ticket) (p : List ℕ) → weight_on (scaled c k) p ≡ c *ℤ weight_on k p
+weight_on-scaled c k p = scaled-passing (λ q. bytes_eq q p) c k
 
 pub legal_parts : (g : Game) (parts : List Ticket) (c : Committed) → IsCommitted c → AreMultiple parts c.tickets → AreLegal g parts → AreLegal g c.tickets
 legal_parts g parts c is multiple legal =

@@ -10,6 +10,5 @@ pub mod Worths
 pub mod Counting
 pub mod Small
 pub mod Kept
-pub mod Tallied
 pub mod Mixed
 pub mod Fixed

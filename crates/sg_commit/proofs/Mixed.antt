@@ -1,10 +1,10 @@
 -- The sums that come from the counts are those over the tickets.
-use Rattle.std.proofs.Common.{◌≡◌, ℕ, ◌<◌, ◌≤◌, ◌^◌, Bool, true, false, true≢false, cond, List, [], ◌∷◌, length, ℤ, pos, ◌+ℤ◌, ◌-ℤ◌, ◌*ℤ◌, ◌≤ℤ◌, sym, ◌∙◌, ap, subst, refl, arith, slice_index_or}
+use Rattle.std.proofs.Common.{◌≡◌, ℕ, ◌≤◌, ◌^◌, Bool, false, true≢false, cond, List, [], ◌∷◌, length, ℤ, pos, ◌+ℤ◌, ◌-ℤ◌, ◌*ℤ◌, ◌≤ℤ◌, sym, ◌∙◌, ap, refl, arith, slice_index_or}
 use Rattle.std.specs.Prelude.{slice_index, Ok, ◌==◌}
 use Rattle.std.proofs.lemmas.Int.{ints}
 use Rattle.sg_model.specs.declared.ticket.Ticket.{Ticket}
 use Rattle.sg_model.specs.Sums.{nth, total}
-use Rattle.sg_model.specs.Games.{Game, action_count, attacker, payoff}
+use Rattle.sg_model.specs.Games.{Game, attacker, payoff}
 use Rattle.sg_model.specs.Limits.{IsGame, IsPay}
 use Rattle.sg_model.specs.Plays.{covers}
 use Rattle.sg_model.specs.Commitments.{cover_count, weight_total}
@@ -14,20 +14,16 @@ use Rattle.sg_model.proofs.Promises.{payoff-in_range}
 use Rattle.sg_num.specs.declared.step.Op.TheVariants.{Times}
 use Rattle.sg_num.specs.Exact.{and_then, exact_dot_step}
 use Rattle.sg_commit.specs.ExactSums.{exact_sum_a, exact_sum_d}
-use Rattle.sg_commit.specs.declared.tally.Cell.{Cell}
-use Rattle.sg_commit.specs.Tallies.{IsCounted, IsTable, counted_sum, no_cell}
-use Rattle.sg_commit.proofs.Small.{Within, dot_step-ok, exact_ok, few-sum_a, few-sum_d, product-within}
-use Rattle.sg_commit.proofs.Standing.{ArePositive}
+use Rattle.sg_model.specs.declared.cell.Cell.{Cell}
+use Rattle.sg_model.specs.Tallies.{IsCounted, IsTable, no_cell}
+use Rattle.sg_commit.specs.Tallies.{counted_sum}
+use Rattle.sg_model.proofs.Spans.{Within, product-within}
+use Rattle.sg_commit.proofs.Small.{dot_step-ok, exact_ok, few-sum_a, few-sum_d}
+use Rattle.sg_model.proofs.Covers.{ArePositive}
 
 pub from_table : (g : Game) (k : List Ticket) (cells : List Cell) (empty : Bool) → IsTable g k cells → empty ≡ (length cells == 0) → empty ≡ false → IsCounted g k cells
 from_table g k [] empty h e q = absurd (true≢false (sym e ∙ q))
-from_table g k (x ∷ xs) empty h e q = h
-
--- an action of a game in security form is a target, and has a cell
-pub action-target : (g : Game) (k : List Ticket) (cells : List Cell) (l a : ℕ) → IsCounted g k cells → a ≤ action_count g l → (a ≤ length g.goals) × (a < length cells)
-action-target g k cells l a c high =
-    let in_range : a ≤ length g.goals = subst (λ (b : Bool). a ≤ cond b (length (attacker g l).actions) (length g.goals)) c.security high in
-    (in_range, omega (arith, in_range, c.size))
+from_table g k (x ∷ xs) empty h e q = h (omega arith)
 
 -- the sum of both is within what all tickets can have
 sum-range : (total count inside outside : ℤ) → IsPay inside → IsPay outside → pos 0 ≤ℤ count → count ≤ℤ total → total ≤ℤ pos (2 ^ 95)
@@ -89,7 +85,3 @@ module _ (g : Game) (h : IsGame g) (k : List Ticket) (positive : ArePositive k) 
       by_counts (payoff g l a).ac (payoff g l a).au r.ac r.au
       ∙ (ap (λ (b : Bool). Ok (total (λ (x : Ticket). x.weight *ℤ cond b (nth (nth (attacker g l).follower (slice_index x.play.code 0) []) a (pos 0)) (cond (covers g x.play.code a) (payoff g l a).ac (payoff g l a).au)) k)) (sym c.security)
       ∙ sym (few-sum_a g h k positive many l a))
-
-pub few_targets : (b : Bool) (m : ℕ) → b ≡ false → cond b 0 m ≤ 10000 → m ≤ 10000
-few_targets true m e h = absurd (true≢false e)
-few_targets false m e h = h

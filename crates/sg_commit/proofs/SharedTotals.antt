@@ -1,5 +1,5 @@
 -- When a total is the sum of positive weights, and when weights are in lowest terms.
-use Rattle.std.proofs.Common.{◌≡◌, ◌↔◌, ℕ, ◌^◌, ◌-◌, Bool, true, false, List, [], ◌∷◌, ℤ, pos, negsuc, ◌+ℤ◌, ◌≤ℤ◌, ap, sym, subst, ◌∙◌, refl, arith}
+use Rattle.std.proofs.Common.{◌≡◌, ◌↔◌, ◌^◌, ◌-◌, Bool, true, false, List, [], ◌∷◌, ℤ, pos, negsuc, ◌+ℤ◌, ◌≤ℤ◌, ap, sym, subst, ◌∙◌, arith}
 use Rattle.std.specs.Prelude.{Result, Ok, Err, FitsSigned, IsTrue, unsigned_abs}
 use Rattle.std.specs.Int.{w128, ◌∣◌}
 use Rattle.std.proofs.Math.Nat.{one-dvd}
@@ -17,7 +17,7 @@ use Rattle.sg_commit.specs.Joining.{IsCommonDivisor}
 use Rattle.sg_commit.specs.Parts.{exact_total}
 use Rattle.sg_commit.specs.Rising.{AreShares}
 use Rattle.sg_commit.proofs.Faults.{exact_total-is}
-use Rattle.sg_commit.proofs.Standing.{ArePositive, weight_total-nonneg}
+use Rattle.sg_model.proofs.Covers.{ArePositive, weight_total-nonneg}
 
 sum_in : (z : ℤ) → pos 0 ≤ℤ z → z ≤ℤ pos (2 ^ 127 - 1) → IsTrue (fits z)
 sum_in z h k = fits-from_FitsSigned z (let q : FitsSigned w128 z = omega (arith, ints, h, k) in q)

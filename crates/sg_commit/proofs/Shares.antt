@@ -23,7 +23,8 @@ use Rattle.sg_commit.specs.Joining.{IsCommonDivisor, joined, no_ticket}
 use Rattle.sg_commit.specs.Parts.{AreMultiple}
 use Rattle.sg_commit.proofs.Orders.{comes_before}
 use Rattle.sg_commit.proofs.Joins.{mix-joined_all, positive-joined, rising-joined, some-joined}
-use Rattle.sg_commit.proofs.Standing.{All-back, All-front, ArePositive, weight_total-nonneg}
+use Rattle.sg_model.proofs.Covers.{ArePositive, weight_total-nonneg}
+use Rattle.sg_commit.proofs.Standing.{All-back, All-front}
 
 -- ---- the common divisor
 

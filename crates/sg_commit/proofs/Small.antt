@@ -1,9 +1,8 @@
 -- With few tickets nothing that is formed leaves 128 bits.
-use Rattle.std.proofs.Common.{◌≡◌, ℕ, zero, suc, ◌+◌, ◌<◌, ◌≤◌, ◌^◌, Bool, true, false, cond, List, [], ◌∷◌, length, ℤ, pos, negsuc, ◌+ℤ◌, ◌-ℤ◌, ◌*ℤ◌, ◌≤ℤ◌, sym, ◌∙◌, ap, subst, refl, arith}
+use Rattle.std.proofs.Common.{◌≡◌, ℕ, zero, suc, ◌+◌, ◌≤◌, ◌^◌, List, [], ◌∷◌, length, ℤ, pos, ◌+ℤ◌, ◌-ℤ◌, ◌*ℤ◌, ◌≤ℤ◌, sym, ◌∙◌, ap, subst, refl, arith}
 use Rattle.std.specs.List.{filter}
 use Rattle.std.specs.Prelude.{None, Result, Ok, Err, is_ok}
 use Rattle.std.proofs.lemmas.Int.{ints}
-use Rattle.std.proofs.lemmas.Bool.Decides.{nat_tests}
 use Rattle.std.proofs.lemmas.List.Elements.{All-head, All-tail}
 use Rattle.sg_model.specs.declared.ticket.Ticket.{Ticket}
 use Rattle.sg_model.specs.Sums.{nth, numbers, numbers_from, total}
@@ -12,7 +11,7 @@ use Rattle.sg_model.specs.Plays.{pay_a, pay_d}
 use Rattle.sg_model.specs.Payoffs.{IsPeopled}
 use Rattle.sg_model.specs.Limits.{IsGame, IsPay}
 use Rattle.sg_model.specs.Commitments.{is_best, sum_a, sum_d, take_of, weight_total, worth}
-use Rattle.sg_model.proofs.Ints.{v, n, plus, less, times, same_by, mul-le, product_nonneg}
+use Rattle.sg_model.proofs.Ints.{v, n, plus, times, same_by, mul-le, product_nonneg}
 use Rattle.sg_model.proofs.Sums.{total-nonneg, total-same}
 use Rattle.sg_model.proofs.Numbers.{All-numbers, All-numbers_from}
 use Rattle.sg_model.proofs.Best.{take_of-reached}
@@ -22,55 +21,22 @@ use Rattle.sg_model.proofs.Values.{prior_total-positive}
 use Rattle.sg_num.specs.declared.step.Op.{Op}
 use Rattle.sg_num.specs.declared.step.Op.TheVariants.{Sum, Times}
 use Rattle.sg_num.specs.declared.step.Wide.{Wide}
-use Rattle.sg_num.specs.Exact.{and_then, exact, exact_dot_step, exact_sum, exact_times, fits, result_of}
+use Rattle.sg_num.specs.Exact.{and_then, exact, exact_dot_step, exact_sum, exact_times, result_of}
 use Rattle.sg_commit.specs.ExactSums.{exact_base, exact_dot, exact_sum_a, exact_sum_d, exact_take, exact_worth, first_wide, refusal_or, unless, worth_from, worth_step}
 use Rattle.sg_commit.specs.CommitmentLaws.{IsFormed, IsSmall}
+use Rattle.sg_model.proofs.Spans.{Within, fits_span, pay-within, product-within, room}
+use Rattle.sg_num.proofs.Steps.{exact-fits, fits-from_FitsSigned}
 use Rattle.sg_commit.proofs.Responses.{not_err}
-use Rattle.sg_commit.proofs.Standing.{ArePositive, weight_total-nonneg}
-
--- from less m to m
-pub record Within (m z : ℤ) : Type 0 where
-  pub low : (pos 0 -ℤ m) ≤ℤ z
-  pub high : z ≤ℤ m
+use Rattle.sg_model.proofs.Covers.{ArePositive, weight_total-nonneg}
 
 -- ---- single steps
 
-fits_in : (z : ℤ) → Within (pos (2 ^ 126)) z → fits z ≡ true
-fits_in (pos k) w = let lt : k < 2 ^ 127 = omega (arith, ints, w.high) in grind (arith, nat_tests)
-fits_in (negsuc k) w = let lt : k < 2 ^ 127 = omega (arith, ints, w.low) in grind (arith, nat_tests)
-
 pub exact_ok : (op : Op) (a b : ℤ) → Within (pos (2 ^ 126)) (result_of op a b) → exact op a b ≡ Ok (result_of op a b)
-exact_ok op a b w = by (fits (result_of op a b)) _ (fits_in (result_of op a b) w)
-  where
-    by : (t : Bool) (e : Wide) → t ≡ true → cond t (Ok (result_of op a b)) (Err e) ≡ Ok (result_of op a b)
-    by true e h = refl
-    by false e h = cc
+exact_ok op a b w = exact-fits op a b (fits-from_FitsSigned (result_of op a b) (fits_span (2 ^ 126) (result_of op a b) (omega arith) w))
 
 pub dot_step-ok : (acc a b : ℤ) → Within (pos (2 ^ 126)) (a *ℤ b) → Within (pos (2 ^ 126)) (acc +ℤ a *ℤ b) → exact_dot_step acc a b ≡ Ok (acc +ℤ a *ℤ b)
 dot_step-ok acc a b p s =
     ap (λ r. and_then r (λ product. exact_sum acc product)) (exact_ok Times a b p) ∙ exact_ok Sum acc (a *ℤ b) s
-
--- a product with what is within m is within as many times m
-pub product-within : (w m z : ℤ) → pos 0 ≤ℤ w → Within m z → Within (w *ℤ m) (w *ℤ z)
-product-within w m z h b =
-    let turn : (y : ℤ) → y *ℤ w ≡ w *ℤ y = λ y. same_by (times (v y) (v w)) (times (v w) (v y)) (omega arith) in
-    let least : (pos 0 -ℤ m) *ℤ w ≡ pos 0 -ℤ w *ℤ m = same_by (times (less (n 0) (v m)) (v w)) (less (n 0) (times (v w) (v m))) (omega arith) in
-    record {
-      low = omega (arith, ints, mul-le (pos 0 -ℤ m) z w b.low h, least, turn z);
-      high = omega (arith, ints, mul-le z m w b.high h, turn z, turn m);
-    }
-
-pay-within : (p : ℤ) → IsPay p → Within (pos (2 ^ 30)) p
-pay-within p h = record { low = h.at_least; high = h.at_most }
-
--- one term more: what is left of the room is enough for the others
-room : (acc term t rest : ℤ) → Within t term → pos 0 ≤ℤ t → pos 0 ≤ℤ rest → Within (pos (2 ^ 126) -ℤ (t +ℤ rest)) acc
-    → Within (pos (2 ^ 126)) term × Within (pos (2 ^ 126)) (acc +ℤ term) × Within (pos (2 ^ 126) -ℤ rest) (acc +ℤ term)
-room acc term t rest p some more b = (
-  record { low = omega (arith, ints, p.low, b.low, b.high); high = omega (arith, ints, p.high, b.low, b.high) },
-  record { low = omega (arith, ints, p.low, b.low, b.high); high = omega (arith, ints, p.high, b.low, b.high) },
-  record { low = omega (arith, ints, p.low, b.low); high = omega (arith, ints, p.high, b.high) },
-)
 
 -- ---- sums over tickets
 

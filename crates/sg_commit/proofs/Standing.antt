@@ -7,12 +7,9 @@ use Rattle.std.proofs.lemmas.List.{drop_more, take-set, drop-set-lt, get_or-set_
 use Rattle.std.proofs.lemmas.List.Elements.{All-nil, All-cons, All-head, All-tail, All-append}
 use Rattle.sg_model.specs.declared.ticket.Ticket.{Ticket}
 use Rattle.sg_model.specs.Commitments.{weight_total}
-use Rattle.sg_model.proofs.Sums.{total-append, total-nonneg}
+use Rattle.sg_model.proofs.Covers.{ArePositive, weight_total-nonneg}
+use Rattle.sg_model.proofs.Sums.{total-append}
 use Rattle.sg_commit.specs.Joining.{no_ticket, standing}
-
--- the weights are at least 1
-abbrev pub ArePositive : List Ticket → Type 0
-ArePositive k = All (λ (x : Ticket). pos 1 ≤ℤ x.weight) k
 
 pub All-front : {X : Type 0} (P : X → Type 0) (xs ys : List X) → All P (xs ++ ys) → All P xs
 All-front P [] ys h = All-nil P
@@ -21,9 +18,6 @@ All-front P (x ∷ xs) ys h = All-cons P x xs (All-head P x (xs ++ ys) h) (All-f
 pub All-back : {X : Type 0} (P : X → Type 0) (xs ys : List X) → All P (xs ++ ys) → All P ys
 All-back P [] ys h = h
 All-back P (x ∷ xs) ys h = All-back P xs ys (All-tail P x (xs ++ ys) h)
-
-pub weight_total-nonneg : (k : List Ticket) → ArePositive k → pos 0 ≤ℤ weight_total k
-weight_total-nonneg k h = total-nonneg (λ (x : Ticket). x.weight) k (λ i d lt. omega (arith, ints, h i d lt))
 
 module _ (k : List Ticket) (last next : ℕ) (order : last < next) (known : next < length k) where
   -- the next ticket is the first of those that are left

@@ -1,58 +1,8 @@
--- How the tickets that cover each target are counted in one walk over the tickets.
-use Rattle.std.specs.Prelude.{◌≡◌, ◌^◌, ℕ, ◌+◌, ◌<◌, ◌≤◌, false, if◌then◌else◌, List, [], ◌∷◌, length, ℤ, pos, ◌-ℤ◌, ◌≤ℤ◌, nat_eq, slice_index_or, slice_set, Result, Ok, Err, ⊤}
-use Rattle.sg_model.specs.declared.ticket.Ticket.{Ticket}
-use Rattle.sg_model.specs.Sums.{nth}
-use Rattle.sg_model.specs.Games.{Game, is_matrix, resource_schedules, schedule_targets}
-use Rattle.sg_model.specs.Commitments.{cover_count, weight_total}
+-- The sums that come from counts.
+use Rattle.std.specs.Prelude.{ℤ, ◌-ℤ◌, Result}
 use Rattle.sg_num.specs.declared.step.Wide.{Wide}
-use Rattle.sg_num.specs.Exact.{and_then, exact_dot_step, exact_sum, exact_times}
-use Rattle.sg_commit.specs.declared.tally.Cell.{Cell}
-
--- what is counted of a target before any ticket
-abbrev pub no_cell : Cell
-no_cell = record { mark = 0; count = pos 0 }
-
--- the value of a step, or what was there before where it is refused
-abbrev pub value_or : ℤ → Result ℤ Wide → ℤ
-value_or before (Ok z) = z
-value_or before (Err wide) = before
-
--- ticket number n covers the target: it counts once
-abbrev pub marked : ℕ → ℤ → Cell → Cell
-marked n w x = if nat_eq x.mark n then x else record { mark = n; count = value_or x.count (exact_sum x.count w) }
-
--- it covers target t
-abbrev pub touched : List Cell → ℕ → ℕ → ℤ → List Cell
-touched cells t n w = slice_set cells t (marked n w (slice_index_or cells t no_cell))
-
--- it covers these targets
-abbrev pub touched_all : List Cell → List ℕ → ℕ → ℤ → List Cell
-touched_all cells [] n w = cells
-touched_all cells (t ∷ ts) n w = touched_all (touched cells t n w) ts n w
-
--- it covers what these choices hold, those of the resources from r on
-abbrev pub touched_from : Game → ℕ → List Cell → List ℕ → ℕ → ℤ → List Cell
-touched_from g r cells [] n w = cells
-touched_from g r cells (c ∷ cs) n w =
-    touched_from g (r + 1) (touched_all cells (schedule_targets g (nth (resource_schedules g r) c 0)) n w) cs n w
-
--- the tickets, numbered from n on, are counted
-abbrev pub tallied : Game → List Cell → ℕ → List Ticket → List Cell
-tallied g cells n [] = cells
-tallied g cells n (x ∷ xs) = tallied g (touched_from g 1 cells x.play.code n x.weight) (n + 1) xs
+use Rattle.sg_num.specs.Exact.{and_then, exact_dot_step, exact_times}
 
 -- out of so many tickets, count have the covered payoff, and the others the uncovered one: their sum, formed by that of all uncovered
 abbrev pub counted_sum : ℤ → ℤ → ℤ → ℤ → Result ℤ Wide
 counted_sum total count inside outside = and_then (exact_times outside total) (λ all. exact_dot_step all (inside -ℤ outside) count)
-
--- a cell for each target holds its count, and the total is at most 2^95
-pub record IsCounted (g : Game) (k : List Ticket) (cells : List Cell) : Type 0 where
-  pub security : is_matrix g ≡ false
-  pub few : weight_total k ≤ℤ pos (2 ^ 95)
-  pub size : length g.goals < length cells
-  pub counts : (t : ℕ) → 1 ≤ t → t ≤ length g.goals → (slice_index_or cells t no_cell).count ≡ cover_count g k t
-
--- so it is, or there are no cells
-abbrev pub IsTable : Game → List Ticket → List Cell → Type 0
-IsTable g k [] = ⊤
-IsTable g k (x ∷ xs) = IsCounted g k (x ∷ xs)

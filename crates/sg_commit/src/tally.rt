@@ -4,41 +4,22 @@ ghost use Rattle.std.specs.Prelude.{◌≡◌, ◌≤◌, ◌<◌, ◌^◌, fals
 ghost use Rattle.sg_model.specs.Games.{is_matrix, payoff, resource_schedules, schedule_targets};
 ghost use Rattle.sg_model.specs.Plays.{IsLegal};
 ghost use Rattle.sg_model.specs.Sums.{nth};
-ghost use Rattle.sg_num.specs.Exact.{exact_sum};
+ghost use Rattle.sg_model.specs.Tallies.{IsTable, marked, no_cell, tallied, touched, touched_all, touched_from};
 ghost use Rattle.sg_game.specs.Counts.{IsActionOf, IsGoalOf, IsResourceOf, IsTypeOf};
 ghost use Rattle.sg_commit.specs.Committed.{AreLegal};
 ghost use Rattle.sg_commit.specs.ExactSums.{exact_sum_a, exact_sum_d};
-ghost use Rattle.sg_commit.specs.Tallies.{IsTable, counted_sum, marked, no_cell, tallied, touched, touched_all, touched_from, value_or};
+ghost use Rattle.sg_commit.specs.Tallies.{counted_sum};
 
 use crate::commitment::Commitment;
 use crate::sums::{sum_a, sum_d};
 use sg_game::Game;
-use sg_model::Ticket;
-use sg_num::{Wide, dot_step, sum, times};
+use sg_model::{Cell, Ticket};
+use sg_num::{Wide, dot_step, times};
 
 /// One more than the greatest number of targets.
 pub(crate) const ROOM: usize = 10001;
 
-/// What is counted of a target: the weights of the tickets that cover it, and the last of these tickets.
-#[derive(Clone, Copy)]
-pub(crate) struct Cell {
-    /// The number of that ticket, from 1, and 0 before the first.
-    pub(crate) mark: usize,
-    /// The weights of the tickets so far.
-    pub(crate) count: i128,
-}
-
-// The sum, which fits where the total of all weights does.
-fn added(count: i128, weight: i128) -> i128
-    ensures { result ≡ value_or count (exact_sum count weight) }
-{
-    match sum(count, weight) {
-        Ok(count) => count,
-        Err(_) => count,
-    }
-}
-
-// The cell of a target that ticket `n` covers: the ticket counts once.
+// The cell of a target that ticket `n` covers: the ticket counts once. The sum fits where the total of all weights does.
 fn marked(cell: &Cell, n: usize, weight: i128) -> Cell
     ensures { result ≡ marked n weight cell.now }
 {
@@ -47,7 +28,7 @@ fn marked(cell: &Cell, n: usize, weight: i128) -> Cell
     } else {
         Cell {
             mark: n,
-            count: added(cell.count, weight),
+            count: cell.count.wrapping_add(weight),
         }
     }
 }

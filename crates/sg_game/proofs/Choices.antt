@@ -1,11 +1,8 @@
 -- Choices of resources, counted, and the play in which all are idle.
-use Rattle.std.proofs.Common.{◌≡◌, ◌∙◌, ℕ, zero, suc, ◌+◌, ◌*◌, ◌-◌, ◌<◌, ◌≤◌, Bool, true, false, List, [], ◌∷◌, length, replicate, slice_index, MatchBool, refl, ap, sym, subst, arith, add-one, get_or}
+use Rattle.std.proofs.Common.{◌≡◌, ◌∙◌, ℕ, zero, suc, ◌+◌, ◌*◌, ◌-◌, ◌<◌, ◌≤◌, false, length, refl, ap, sym, subst, arith}
 use Rattle.std.proofs.Math.Nat.{mul_assoc, mul-le-mul_left}
-use Rattle.std.proofs.lemmas.Bool.{cases_Bool}
-use Rattle.sg_model.specs.Games.{Game, is_matrix, resource_count, resource_schedules, schedule_count, schedule_targets}
-use Rattle.sg_model.specs.Plays.{IsLegal, IsLegalJoint, IsRow}
-use Rattle.sg_game.specs.Counts.{IsScheduleOf}
-use Rattle.sg_game.specs.Counting.{IsSingle, choices_from, least_code}
+use Rattle.sg_model.specs.Games.{Game, is_matrix, resource_schedules, schedule_count, schedule_targets}
+use Rattle.sg_game.specs.Counting.{IsSingle, choices_from}
 
 pub choices-some : (g : Game) (r n : ℕ) → 1 ≤ choices_from g r n
 choices-some g r zero = omega arith

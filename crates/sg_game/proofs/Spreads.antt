@@ -1,13 +1,12 @@
 -- The ends of two lists of payoffs, one after the other.
-use Rattle.std.proofs.Common.{◌≡◌, ◌≢◌, ◌∙◌, ℕ, ◌+◌, ◌≤◌, List, [], ◌∷◌, ◌++◌, map, ℤ, refl, ap, sym, arith, rules}
+use Rattle.std.proofs.Common.{◌≡◌, ◌≢◌, ◌∙◌, ℕ, ◌+◌, List, [], ◌∷◌, ◌++◌, map, ℤ, refl, ap, sym, arith}
 use Rattle.std.specs.Int.{int_max, int_min}
 use Rattle.std.specs.List.{fold, flat_map}
 use Rattle.std.proofs.lemmas.Int.{int_max_is, int_min_is, ints}
 use Rattle.std.proofs.lemmas.Grind.{flat_map-append}
 use Rattle.std.proofs.lemmas.List.{map_push}
 use Rattle.sg_model.specs.Sums.{greatest, least, numbers}
-use Rattle.sg_game.specs.declared.spread.Spread.{Spread}
-use Rattle.sg_game.specs.Spreads.{IsSpread}
+use Rattle.sg_game.specs.Spreads.{AreEnds}
 use Rattle.sg_game.proofs.Patrols.{numbers-more}
 
 max_assoc : (x y z : ℤ) → int_max (int_max x y) z ≡ int_max x (int_max y z)
@@ -54,14 +53,14 @@ pub items-more : (f : ℕ → ℤ) (k : ℕ) → map f (numbers (k + 1)) ≡ map
 items-more f k = ap (map f) (numbers-more k) ∙ map_push f (numbers k) (k + 1)
 
 -- the ends of both
-pub joined : (s t r : Spread) → r.least ≡ int_min s.least t.least → r.greatest ≡ int_max s.greatest t.greatest → (xs ys : List ℤ) → IsSpread s xs → IsSpread t ys → IsSpread r (xs ++ ys)
-joined s t r e f xs ys h i =
-    let low = int_min_is s.least t.least in
-    let high = int_max_is s.greatest t.greatest in
+pub joined : (a b c d low high : ℤ) → low ≡ int_min a c → high ≡ int_max b d → (xs ys : List ℤ) → AreEnds a b xs → AreEnds c d ys → AreEnds low high (xs ++ ys)
+joined a b c d low high e f xs ys h i =
+    let lower = int_min_is a c in
+    let higher = int_max_is b d in
     record {
       some = append-some xs ys h.some;
       least = e ∙ (rw (h.least, i.least) (sym (least-append xs ys h.some i.some)));
       greatest = f ∙ (rw (h.greatest, i.greatest) (sym (greatest-append xs ys h.some i.some)));
-      low = record { at_least = omega (arith, ints, e, low, h.low.at_least, i.low.at_least); at_most = omega (arith, ints, e, low, h.low.at_most, i.low.at_most) };
-      high = record { at_least = omega (arith, ints, f, high, h.high.at_least, i.high.at_least); at_most = omega (arith, ints, f, high, h.high.at_most, i.high.at_most) };
+      low_range = record { at_least = omega (arith, ints, e, lower, h.low_range.at_least, i.low_range.at_least); at_most = omega (arith, ints, e, lower, h.low_range.at_most, i.low_range.at_most) };
+      high_range = record { at_least = omega (arith, ints, f, higher, h.high_range.at_least, i.high_range.at_least); at_most = omega (arith, ints, f, higher, h.high_range.at_most, i.high_range.at_most) };
     }

@@ -1,5 +1,5 @@
 -- Plays, and schedules of one target.
-use Rattle.std.specs.Prelude.{◌≡◌, ℕ, zero, suc, ◌+◌, ◌*◌, ◌≤◌, false, if◌then◌else◌, List, [], ◌∷◌, length, replicate}
+use Rattle.std.specs.Prelude.{◌≡◌, ℕ, zero, suc, ◌+◌, ◌*◌, false, if◌then◌else◌, List, [], ◌∷◌, length, replicate}
 use Rattle.sg_model.specs.Games.{Game, is_matrix, resource_count, resource_schedules, schedule_targets}
 use Rattle.sg_game.specs.Counts.{IsScheduleOf}
 

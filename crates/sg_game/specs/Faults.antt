@@ -106,11 +106,14 @@ abbrev pub goal_limit : Kind → Bool → ℕ
 goal_limit Security is_scaled = if is_scaled then 10000 else 200
 goal_limit Matrix is_scaled = 4096
 
+-- a list has no entry, or too many
+abbrev pub count_fault : ℕ → ℕ → Option GameFault
+count_fault count limit = unless (nat_le 1 count) 6 Document orelse unless (nat_le count limit) 10 Document
+
 -- the first fault of the targets or rows: none of them, too many, or a name
 unfoldable pub goals_fault : Parts → Option GameFault
 goals_fault p =
-    unless (nat_le 1 (length p.goals.items)) 6 Document
-    orelse unless (nat_le (length p.goals.items) (goal_limit p.kind (is_some p.scale))) 10 Document
+    count_fault (length p.goals.items) (goal_limit p.kind (is_some p.scale))
     orelse names_fault (goal_place p.kind) p.goals.items
 
 -- how great a prior may be
@@ -139,8 +142,7 @@ numbers_fault p =
 -- the first fault of the types: none of them, too many, or one of them
 unfoldable pub types_fault : Parts → Option GameFault
 types_fault p =
-    unless (nat_le 1 (length p.types.items)) 6 Document
-    orelse unless (nat_le (length p.types.items) (type_limit (is_some p.scale))) 10 Document
+    count_fault (length p.types.items) (type_limit (is_some p.scale))
     orelse entries_fault (λ (x : TypeParts). string_bytes x.name) (type_fault p.kind (prior_limit (is_some p.scale)) (length p.goals.items)) Attacker [] p.types.items
 
 -- covering helps the defender and hurts the attacker, and the attacker's gap divides the scale

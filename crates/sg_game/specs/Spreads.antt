@@ -5,9 +5,13 @@ use Rattle.sg_model.specs.Sums.{greatest, least}
 use Rattle.sg_game.specs.declared.spread.Spread.{Spread}
 
 -- the least and the greatest of some payoffs
-pub record IsSpread (s : Spread) (xs : List ℤ) : Type 0 where
+pub record AreEnds (low high : ℤ) (xs : List ℤ) : Type 0 where
   pub some : xs ≢ []
-  pub least : s.least ≡ least xs
-  pub greatest : s.greatest ≡ greatest xs
-  pub low : IsPay s.least
-  pub high : IsPay s.greatest
+  pub least : low ≡ least xs
+  pub greatest : high ≡ greatest xs
+  pub low_range : IsPay low
+  pub high_range : IsPay high
+
+-- those of a spread
+abbrev pub IsSpread : Spread → List ℤ → Type 0
+IsSpread s xs = AreEnds s.least s.greatest xs

@@ -5,7 +5,7 @@ ghost use Rattle.std.specs.List.{list_all};
 ghost use Rattle.sg_model.specs.declared.fault.Place.TheVariants.{Attacker};
 ghost use Rattle.sg_game.specs.Building.{Finds, HasOwnFields, Tells};
 ghost use Rattle.sg_game.specs.Entries.{Holds, place_of};
-ghost use Rattle.sg_game.specs.Faults.{entries_fault, names_fault, fields_fault, goal_limit, goal_place, goals_fault, is_pay, is_table, name_fault, numbers_fault, option_fault, patrol_limit, pays_fault, prior_limit, tables_fault, type_fault, type_limit, types_fault, ◌orelse◌};
+ghost use Rattle.sg_game.specs.Faults.{count_fault, entries_fault, names_fault, fields_fault, goal_limit, goal_place, goals_fault, is_pay, is_table, name_fault, numbers_fault, option_fault, patrol_limit, pays_fault, prior_limit, tables_fault, type_fault, type_limit, types_fault, ◌orelse◌};
 
 use crate::entries::{Listing, is_within, passed, take_name, test_lists, test_names};
 use crate::fault::BuildFault;
@@ -181,6 +181,14 @@ fn test_goal_names(alloc: Global, kind: Kind, goals: &[String]) -> Result<(), Bu
     }
 }
 
+/// Tests that a list has an entry, and no more than so many.
+fn test_count(count: usize, limit: usize) -> Result<(), GameFault>
+    ensures { Tells result (count_fault count limit) }
+{
+    passed(1 <= count, 6, Place::Document)?;
+    passed(count <= limit, 10, Place::Document)
+}
+
 /// Tests the targets or rows.
 #[tactic(auto, unfolding(crate::specs::Faults::goals_fault))]
 fn test_goals(alloc: Global, is_scaled: bool, parts: &Parts) -> Result<(), BuildFault>
@@ -188,12 +196,7 @@ fn test_goals(alloc: Global, is_scaled: bool, parts: &Parts) -> Result<(), Build
     ensures { Finds result (goals_fault parts.now) }
 {
     let goals = parts.goals.as_slice();
-    passed(1 <= goals.len(), 6, Place::Document)?;
-    passed(
-        goals.len() <= goal_limit(parts.kind, is_scaled),
-        10,
-        Place::Document,
-    )?;
+    test_count(goals.len(), goal_limit(parts.kind, is_scaled))?;
     test_goal_names(alloc, parts.kind, goals)
 }
 
@@ -224,8 +227,7 @@ fn test_types(alloc: Global, is_scaled: bool, parts: &Parts) -> Result<(), Build
     ensures { Finds result (types_fault parts.now) }
 {
     let types = parts.types.as_slice();
-    passed(1 <= types.len(), 6, Place::Document)?;
-    passed(types.len() <= type_limit(is_scaled), 10, Place::Document)?;
+    test_count(types.len(), type_limit(is_scaled))?;
     test_each_type(
         alloc,
         parts.kind,

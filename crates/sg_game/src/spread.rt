@@ -20,6 +20,17 @@ pub(crate) struct Spread {
 }
 
 impl Spread {
+    /// The ends of one payoff.
+    fn of(pay: i64) -> Spread
+        requires { IsPay pay }
+        ensures { IsSpread result (pay ∷ []) }
+    {
+        Spread {
+            least: pay,
+            greatest: pay,
+        }
+    }
+
     /// The smaller of the least.
     fn least_with(&self, other: &Spread) -> i64
         ensures { result ≡ int_min self.now.least other.now.least }
@@ -61,11 +72,7 @@ fn row_spread(game: &Game, l: u8, i: u16, a: u16) -> Spread
     requires known_action { IsActionOf game.now l a }
     ensures { IsSpread result (leader_pay game.now l i a ∷ []) }
 {
-    let pay = game.leader(l, i, a);
-    Spread {
-        least: pay,
-        greatest: pay,
-    }
+    Spread::of(game.leader(l, i, a))
 }
 
 /// The ends of what the defender may get in the column of action `a` of type `l`.
@@ -83,34 +90,6 @@ fn column_spread(game: &Game, l: u8, a: u16) -> Spread
     spread
 }
 
-/// The ends of what the defender gets at target `a` where it is covered.
-fn covered_spread(game: &Game, l: u8, a: u16) -> Spread
-    requires security { is_matrix game.now ≡ false }
-    requires known_type { IsTypeOf game.now l }
-    requires known_target { IsGoalOf game.now a }
-    ensures { IsSpread result ((payoff game.now l a).dc ∷ []) }
-{
-    let [pay, _, _, _] = game.payoffs(l, a);
-    Spread {
-        least: pay,
-        greatest: pay,
-    }
-}
-
-/// The ends of what the defender gets at target `a` where it is not covered.
-fn uncovered_spread(game: &Game, l: u8, a: u16) -> Spread
-    requires security { is_matrix game.now ≡ false }
-    requires known_type { IsTypeOf game.now l }
-    requires known_target { IsGoalOf game.now a }
-    ensures { IsSpread result ((payoff game.now l a).du ∷ []) }
-{
-    let [_, pay, _, _] = game.payoffs(l, a);
-    Spread {
-        least: pay,
-        greatest: pay,
-    }
-}
-
 /// The ends of what the defender may get at target `a`.
 fn target_spread(game: &Game, l: u8, a: u16) -> Spread
     requires security { is_matrix game.now ≡ false }
@@ -118,7 +97,8 @@ fn target_spread(game: &Game, l: u8, a: u16) -> Spread
     requires known_target { IsGoalOf game.now a }
     ensures { IsSpread result ((payoff game.now l a).dc ∷ (payoff game.now l a).du ∷ []) }
 {
-    covered_spread(game, l, a).join(&uncovered_spread(game, l, a))
+    let [covered, uncovered, _, _] = game.payoffs(l, a);
+    Spread::of(covered).join(&Spread::of(uncovered))
 }
 
 /// The ends of what the defender may get where type `l` takes action `a`.

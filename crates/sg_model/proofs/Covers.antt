@@ -3,7 +3,7 @@ use Rattle.std.proofs.Common.{◌≡◌, ℕ, zero, suc, ◌+◌, ◌<◌, ◌�
 use Rattle.std.specs.List.{All, list_any}
 use Rattle.std.proofs.lemmas.Int.{ints}
 use Rattle.std.proofs.lemmas.Bool.Decides.{nat_tests, when_false}
-use Rattle.std.proofs.lemmas.List.Elements.{All-weaker, All-head, All-tail}
+use Rattle.std.proofs.lemmas.List.Elements.{All-head, All-tail}
 use Rattle.sg_model.specs.declared.ticket.Ticket.{Ticket}
 use Rattle.sg_model.specs.Commitments.{IsCommitment, cover_count, weight_total}
 use Rattle.sg_model.specs.Games.{Game, is_matrix, Named, resource_count, resource_schedules, schedule_targets, unnamed}
@@ -73,12 +73,18 @@ cover_count-bounds g (x ∷ xs) t h =
     let q = w (covers g x.play.code t) in
     (omega (arith, ints, q, rest), omega (arith, ints, q, rest))
 
-pub weight_total-positive : (k : List Ticket) → k ≢ [] → All (λ (x : Ticket). pos 1 ≤ℤ x.weight) k → pos 1 ≤ℤ weight_total k
+-- the weights are at least 1
+abbrev pub ArePositive : List Ticket → Type 0
+ArePositive k = All (λ (x : Ticket). pos 1 ≤ℤ x.weight) k
+
+pub weight_total-nonneg : (k : List Ticket) → ArePositive k → pos 0 ≤ℤ weight_total k
+weight_total-nonneg k h = total-nonneg (λ (x : Ticket). x.weight) k (λ i d lt. omega (arith, ints, h i d lt))
+
+pub weight_total-positive : (k : List Ticket) → k ≢ [] → ArePositive k → pos 1 ≤ℤ weight_total k
 weight_total-positive [] some h = absurd (some refl)
 weight_total-positive (x ∷ xs) some h =
     let Heavy : Ticket → Type 0 = λ (x : Ticket). pos 1 ≤ℤ x.weight in
-    let rest : pos 0 ≤ℤ weight_total xs = total-nonneg (λ (x : Ticket). x.weight) xs (All-weaker Heavy (λ (x : Ticket). pos 0 ≤ℤ x.weight) (λ x h. omega (arith, ints)) xs (All-tail Heavy x xs h)) in
-    omega (arith, ints, rest, All-head Heavy x xs h)
+    omega (arith, ints, weight_total-nonneg xs (All-tail Heavy x xs h), All-head Heavy x xs h)
 
 -- a sum over the tickets of one payoff where the target is covered and another where it isn't
 pub total-covered : (g : Game) (k : List Ticket) (t : ℕ) (inside outside : ℤ)

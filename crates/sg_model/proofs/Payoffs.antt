@@ -19,17 +19,19 @@ use Rattle.sg_model.proofs.Greatest.{Contains-head, Contains-tail}
 use Rattle.sg_model.proofs.Best.{greatest-bounds, take_of-reached}
 use Rattle.sg_model.proofs.Values.{prior_total-positive}
 
-Contains-map : {X Y : Type 0} (f : X → Y) (xs : List X) (x : X) → Contains xs x → Contains (map f xs) (f x)
+-- ---- items of lists
+
+pub Contains-map : {X Y : Type 0} (f : X → Y) (xs : List X) (x : X) → Contains xs x → Contains (map f xs) (f x)
 Contains-map f [] x h = absurd (omega (arith, h.1))
 Contains-map f (y ∷ xs) x (zero, lt, e) = subst (Contains (f y ∷ map f xs)) (ap f e) (Contains-head (f y) (map f xs))
 Contains-map f (y ∷ xs) x (suc i, lt, e) = Contains-tail (f y) (map f xs) (f x) (Contains-map f xs x (i, omega arith, e))
 
-Contains-flat_map : {X Y : Type 0} (f : X → List Y) (xs : List X) (x : X) (y : Y) → Contains xs x → Contains (f x) y → Contains (flat_map f xs) y
+pub Contains-flat_map : {X Y : Type 0} (f : X → List Y) (xs : List X) (x : X) (y : Y) → Contains xs x → Contains (f x) y → Contains (flat_map f xs) y
 Contains-flat_map f [] x y h k = absurd (omega (arith, h.1))
 Contains-flat_map {Y = Y} f (z ∷ xs) x y (zero, lt, e) k = Contains-append_left (f z) (flat_map f xs) y (subst (λ ys. Contains ys y) (ap f (sym e)) k)
 Contains-flat_map f (z ∷ xs) x y (suc i, lt, e) k = Contains-append_right (f z) (flat_map f xs) y (Contains-flat_map f xs x y (i, omega arith, e) k)
 
-Contains-numbers_from : (a m t : ℕ) → a ≤ t → t < a + m → Contains (numbers_from a m) t
+pub Contains-numbers_from : (a m t : ℕ) → a ≤ t → t < a + m → Contains (numbers_from a m) t
 Contains-numbers_from a zero t low high = absurd (omega arith)
 Contains-numbers_from a (suc m) t low high =
     elim (cases_eq a t) [
@@ -50,16 +52,17 @@ either-listed : (b : Bool) (x y : ℤ) → Contains (x ∷ y ∷ []) (cond b x y
 either-listed true x y = Contains-head x (y ∷ [])
 either-listed false x y = Contains-tail x (y ∷ []) y (Contains-head y [])
 
-pub listed : (g : Game) (play : List ℕ) → IsLegal g play → (l a : ℕ) → Contains (payoffs_at g l a) (pay_d g l play a)
-listed g play legal l a =
-    let row = λ (r : ℕ). nth (nth (attacker g l).leader r []) a (pos 0) in
-    let rows : List ℤ = map row (numbers (length g.goals)) in
-    let two : List ℤ = (payoff g l a).dc ∷ (payoff g l a).du ∷ [] in
-    let covered : ℤ = cond (covers g play a) (payoff g l a).dc (payoff g l a).du in
-    elim (is_matrix g) as (λ (b : Bool). MatchBool b (IsRow g play) (IsLegalJoint g play) → Contains (cond b rows two) (cond b (row (slice_index play 0)) covered)) [
+-- what a legal play pays is in its table's column, or one of two
+pub listed_in : (g : Game) (play : List ℕ) → IsLegal g play → (row : ℕ → ℤ) (covered : Bool) (inside outside : ℤ)
+    → Contains (cond (is_matrix g) (map row (numbers (length g.goals))) (inside ∷ outside ∷ [])) (cond (is_matrix g) (row (slice_index play 0)) (cond covered inside outside))
+listed_in g play legal row covered inside outside =
+    elim (is_matrix g) as (λ (b : Bool). MatchBool b (IsRow g play) (IsLegalJoint g play) → Contains (cond b (map row (numbers (length g.goals))) (inside ∷ outside ∷ [])) (cond b (row (slice_index play 0)) (cond covered inside outside))) [
       | true ↦ (λ is. Contains-map row (numbers (length g.goals)) (slice_index play 0) (Contains-numbers (length g.goals) (slice_index play 0) is.from_one is.in_list))
-      | false ↦ (λ is. either-listed (covers g play a) (payoff g l a).dc (payoff g l a).du)
+      | false ↦ (λ is. either-listed covered inside outside)
     ] legal
+
+pub listed : (g : Game) (play : List ℕ) → IsLegal g play → (l a : ℕ) → Contains (payoffs_at g l a) (pay_d g l play a)
+listed g play legal l a = listed_in g play legal (λ (r : ℕ). nth (nth (attacker g l).leader r []) a (pos 0)) (covers g play a) (payoff g l a).dc (payoff g l a).du
 
 pub bounded : (g : Game) (play : List ℕ) → IsLegal g play → (l : ℕ) → 1 ≤ l → l ≤ length g.types → (a : ℕ) → 1 ≤ a → a ≤ action_count g l
     → (pay_d g l play a ≤ℤ greatest_of g l) × (pos 1 ≤ℤ (pay_d g l play a +ℤ shift_of g))

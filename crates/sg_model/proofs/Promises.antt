@@ -1,16 +1,16 @@
 -- What the promises of a game file give: people, scales, sizes and ranges.
-use Rattle.std.proofs.Common.{◌≡◌, ◌≢◌, ℕ, zero, suc, ◌≤◌, Bool, true, false, cond, List, [], ◌∷◌, length, ℤ, pos, ◌≤ℤ◌, ap, subst, sym, refl, arith, ◌⊎◌, inl, inr, Option, Some, None, slice_index_or, slice_index}
+use Rattle.std.proofs.Common.{◌≡◌, ◌≢◌, ℕ, zero, suc, ◌≤◌, Bool, true, false, cond, List, [], ◌∷◌, length, ℤ, pos, ◌^◌, ◌≤ℤ◌, ap, subst, sym, refl, arith, ◌⊎◌, inl, inr, Option, Some, None, slice_index_or, slice_index}
 use Rattle.std.specs.List.{All}
 use Rattle.std.proofs.lemmas.Int.{ints}
 use Rattle.std.proofs.lemmas.List.Elements.{All-nil, All-head, All-tail, All-weaker, All-same}
 use Rattle.sg_model.specs.declared.kind.Kind.{Kind}
 use Rattle.sg_model.specs.declared.kind.Kind.TheVariants.{Security, Matrix}
 use Rattle.sg_model.specs.Sums.{nth}
-use Rattle.sg_model.specs.Games.{Attacker, Game, attacker, is_kind_matrix, is_matrix, nobody, nothing, payoff}
+use Rattle.sg_model.specs.Games.{Attacker, Game, attacker, is_kind_matrix, is_matrix, nobody, nothing, payoff, resource_count}
 use Rattle.sg_model.specs.Plays.{covers, pay_a, pay_d}
 use Rattle.sg_model.specs.Payoffs.{IsPeopled}
 use Rattle.sg_model.specs.Origami.{IsOrigami, IsScaled}
-use Rattle.sg_model.specs.Limits.{IsGame, IsMatrixGame, IsMatrixType, IsPay, IsPayoff, IsSecurityGame, IsSecurityType, is_scaled}
+use Rattle.sg_model.specs.Limits.{IsDefended, IsGame, IsMatrixGame, IsMatrixType, IsPay, IsPayoff, IsSecurityGame, IsSecurityType, IsWithin, is_scaled}
 use Rattle.sg_model.proofs.Forms.{no_matrix}
 
 -- a game of either form
@@ -88,6 +88,39 @@ origami g h scaled = elim (game_cases g h) [
       ))
   | inr m ↦ absurd (omega (arith, ints, scaled, m.game.no_scale))
 ]
+
+-- a game that declares a scale, within its limits
+pub record IsLimited (g : Game) : Type 0 where
+  pub origami : IsOrigami g (resource_count g)
+  pub few_patrols : resource_count g ≤ 200
+  pub scale : IsWithin (pos 1) (pos (2 ^ 32)) g.scale
+  pub targets : (1 ≤ length g.goals) × (length g.goals ≤ 10000)
+
+few_patrols : (g : Game) (patrols : ℕ) → g.patrols ≡ Some patrols → IsDefended g g.patrols → is_scaled g ≡ true → patrols ≤ 200
+few_patrols g patrols e h scaled = let d = rw e at h in let few = d.few in let limit = rw scaled at few in limit
+
+counted : (g : Game) (patrols : ℕ) → g.patrols ≡ Some patrols → resource_count g ≡ patrols
+counted g patrols e = rw e refl
+
+pub limited : (g : Game) → IsGame g → is_scaled g ≡ true → IsLimited g
+limited g h scaled =
+    let found = origami g h scaled in
+    let o = found.1 in
+    let patrols = found.0 in
+    let same = counted g patrols o.identical in
+    elim (game_cases g h) [
+      | inl s ↦ (
+          let goals = s.game.target_count in
+          let few = goals.at_most in
+          let limit = rw scaled at few in
+          record {
+            origami = subst (IsOrigami g) (sym same) o;
+            few_patrols = subst (λ (k : ℕ). k ≤ 200) (sym same) (few_patrols g patrols o.identical s.game.defended scaled);
+            scale = record { at_least = o.scaled; at_most = s.game.scale_range.at_most };
+            targets = (goals.at_least, limit);
+          })
+      | inr m ↦ absurd (omega (arith, ints, scaled, m.game.no_scale))
+    ]
 
 no_pay : IsPay (pos 0)
 no_pay = record { at_least = omega (arith, ints); at_most = omega (arith, ints) }

@@ -9,7 +9,7 @@ use Rattle.sg_model.specs.Origami.{share, gap, count_at}
 use Rattle.sg_model.proofs.Levels.{multiple_is}
 use Rattle.sg_model.proofs.Ints.{v, n, less, times, le_by, le_from, product_nonneg}
 use Rattle.sg_origami.specs.Rates.{IsFillable, IsReachable, multiple}
-use Rattle.sg_origami.proofs.Bounds.{multiple_bounds}
+use Rattle.sg_model.proofs.Spans.{multiple_bounds}
 
 -- a sum over what passes a test, as a sum over all
 pub total-passing : {X : Type 0} (f : X → ℤ) (p : X → Bool) (xs : List X) → total (λ x. cond (p x) (f x) (pos 0)) xs ≡ total f (filter p xs)

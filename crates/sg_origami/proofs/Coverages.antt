@@ -19,9 +19,9 @@ use Rattle.sg_model.proofs.Best.{All-from_map}
 use Rattle.sg_model.proofs.Sums.{total-same, total-scaled}
 use Rattle.sg_origami.specs.Fillings.{IsCoverage}
 use Rattle.sg_origami.specs.Rates.{IsFillable, IsReachable, IsCountDivisor, multiple}
-use Rattle.sg_origami.proofs.Bounds.{Within, within_product}
+use Rattle.sg_model.proofs.Spans.{Spans, spans_product}
 use Rattle.sg_origami.proofs.Counts.{count_bounds, counts_few}
-use Rattle.sg_origami.proofs.Lowest.{within_factor}
+use Rattle.sg_model.proofs.Spans.{spans_factor}
 use Rattle.sg_origami.proofs.Rated.{total-map}
 
 -- counts and tickets over one number
@@ -34,10 +34,10 @@ divided : (z : ℤ) (d : ℕ) → pos 0 ≤ℤ z → d ∣ unsigned_abs z → in
 divided (pos k) d h p = let e : d * (k / d) ≡ k = mul-div_cancel' d p in omega (arith, ints, e)
 divided (negsuc k) d h p = absurd (omega (arith, ints, h))
 
-whole_bounds : (g : Game) → IsFillable g → (den : ℤ) → pos 1 ≤ℤ den → den ≤ℤ pos (2 ^ 46) → (pos 1 ≤ℤ (g.scale *ℤ den)) × Within (2 ^ 78) (g.scale *ℤ den)
+whole_bounds : (g : Game) → IsFillable g → (den : ℤ) → pos 1 ≤ℤ den → den ≤ℤ pos (2 ^ 46) → (pos 1 ≤ℤ (g.scale *ℤ den)) × Spans (2 ^ 78) (g.scale *ℤ den)
 whole_bounds g f den low high =
     let s = f.origami.scaled in
-    let w = within_product (2 ^ 32) (2 ^ 46) g.scale den (record { low = omega (arith, ints, s); high = f.scale_small }) (record { low = omega (arith, ints, low); high = high }) in
+    let w = spans_product (2 ^ 32) (2 ^ 46) g.scale den (record { low = omega (arith, ints, s); high = f.scale_small }) (record { low = omega (arith, ints, low); high = high }) in
     let p = product_nonneg (g.scale -ℤ pos 1) den (omega (arith, ints, s)) (omega (arith, ints, low)) in
     let q : den ≤ℤ (g.scale *ℤ den) = le_by (v den) (times (v g.scale) (v den)) (omega (arith, le_from (n 0) (times (less (v g.scale) (n 1)) (v den)) p)) in
     (omega (arith, ints, q, low), record { low = omega (arith, ints, w.low); high = omega (arith, ints, w.high) })
@@ -68,7 +68,7 @@ tickets_some g f num den low high d tickets count o =
     let s = o.some in
     record {
       at_least = factor_positive tickets (pos d) (g.scale *ℤ den) o.whole w.0 (omega (arith, ints));
-      at_most = (within_factor (2 ^ 78) (g.scale *ℤ den) tickets (pos d) (sym o.whole) (omega (arith, ints, s)) w.1).high;
+      at_most = (spans_factor (2 ^ 78) (g.scale *ℤ den) tickets (pos d) (sym o.whole) (omega (arith, ints, s)) w.1).high;
     }
 
 count_within : (g : Game) (patrols : ℕ) (num den : ℤ) → IsFillable g → IsReachable g patrols num den → (d : ℕ) (tickets : ℤ) (count : ℕ → ℤ) → AreOver g num den d tickets count

@@ -10,7 +10,8 @@ use Rattle.sg_frac.specs.Fractions.{Fraction, IsReduced, IsReducedForm}
 use Rattle.sg_origami.specs.declared.filling.Filling.{Filling}
 use Rattle.sg_origami.specs.Fillings.{IsCoverage, IsFilling}
 use Rattle.sg_origami.specs.Rates.{IsFillable}
-use Rattle.sg_origami.proofs.Lowest.{lowers, within_factor}
+use Rattle.sg_frac.proofs.Lowered.{lowers}
+use Rattle.sg_model.proofs.Spans.{spans_factor}
 use Rattle.sg_origami.proofs.Reduced.{IsFound, found-lowest}
 
 -- all that is known of a level in lowest terms
@@ -25,8 +26,8 @@ pub lowest_is : (g : Game) (patrols : ℕ) (num den : ℤ) (level : Fraction) (w
 lowest_is g patrols num den level why f high num_low num_high form =
     let low = f.reachable.positive in
     let l = lowers num den level low form in
-    let w = within_factor (2 ^ 77) num level.num l.by l.num_is l.positive (record { low = num_low; high = num_high }) in
-    let x = within_factor (2 ^ 46) den level.den l.by l.den_is l.positive (record { low = omega (arith, ints, low); high = high }) in
+    let w = spans_factor (2 ^ 77) num level.num l.by l.num_is l.positive (record { low = num_low; high = num_high }) in
+    let x = spans_factor (2 ^ 46) den level.den l.by l.den_is l.positive (record { low = omega (arith, ints, low); high = high }) in
     record {
       found = found-lowest g patrols num den level.num level.den why l form.reduced.positive f;
       reduced = form.reduced;

@@ -4,7 +4,6 @@ pub mod Filled
 pub mod Coverages
 pub mod Divided
 pub mod Reasons
-pub mod Lowest
 pub mod Bounds
 pub mod Rest
 pub mod Rise

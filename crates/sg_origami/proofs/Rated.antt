@@ -12,7 +12,7 @@ use Rattle.sg_model.proofs.Levels.{multiple_is}
 use Rattle.sg_model.proofs.Numbers.{All-numbers, length-numbers_from, map-none, numbers-some}
 use Rattle.sg_origami.specs.declared.rate.Rate.{Rate}
 use Rattle.sg_origami.specs.Rates.{IsFillable, IsRate, is_above, multiple, need_of, rate_at}
-use Rattle.sg_origami.proofs.Bounds.{multiple_bounds}
+use Rattle.sg_model.proofs.Spans.{multiple_bounds}
 use Rattle.sg_origami.proofs.Lags.{IsSpent}
 use Rattle.sg_origami.proofs.Rise.{Heavy}
 

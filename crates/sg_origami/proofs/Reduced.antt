@@ -12,7 +12,7 @@ use Rattle.sg_model.proofs.Ints.{v, n, less, times, same_by, mul-le, mul-lt, can
 use Rattle.sg_model.proofs.Sums.{total-scaled, total-same}
 use Rattle.sg_origami.specs.Fillings.{IsReasonOf}
 use Rattle.sg_origami.specs.Rates.{IsReachable, multiple}
-use Rattle.sg_origami.proofs.Lowest.{Lowers}
+use Rattle.sg_frac.proofs.Lowered.{Lowers}
 
 filter-same : {X : Type 0} (p q : X → Bool) → ((x : X) → p x ≡ q x) → (xs : List X) → filter p xs ≡ filter q xs
 filter-same p q h [] = refl

@@ -15,7 +15,8 @@ use Rattle.sg_model.proofs.Best.{is_best-from, take_of-reached}
 use Rattle.sg_model.proofs.Promises.{peopled}
 use Rattle.sg_model.proofs.Values.{prior_total-positive}
 use Rattle.sg_frac.proofs.Reduced.{reduced_form-unique}
-use Rattle.sg_commit.proofs.Worths.{product-positive, weight_total-positive}
+use Rattle.sg_model.proofs.Covers.{weight_total-positive}
+use Rattle.sg_commit.proofs.Worths.{product-positive}
 use Rattle.sg_report.specs.Laws.{over, AnswersAreFirst, TableIsOne, TablesAreWorked}
 use Rattle.sg_report.specs.Tables.{is_answer, table_text}
 

@@ -26,7 +26,8 @@ use Rattle.sg_origami.specs.Fillings.{IsCoverage, IsReasonOf}
 use Rattle.sg_commit.specs.Committed.{IsCommitted}
 use Rattle.sg_commit.specs.Parts.{AreMultiple}
 use Rattle.sg_commit.proofs.Fixed.{Shares, fixed, part_divides, shares}
-use Rattle.sg_commit.proofs.Worths.{product-positive, weight_total-positive}
+use Rattle.sg_model.proofs.Covers.{weight_total-positive}
+use Rattle.sg_commit.proofs.Worths.{product-positive}
 use Rattle.sg_split.specs.Laying.{moment_tickets}
 use Rattle.sg_tree.specs.Claims.{Claimed, is_claim}
 use Rattle.sg_tree.specs.declared.fact.Fact.TheVariants.{Water}

@@ -17,11 +17,12 @@ use Rattle.sg_model.specs.OptimalityLaws.{AreOneMix}
 use Rattle.sg_model.proofs.Ints.{v, n, plus, times, same_by, mul-le}
 use Rattle.sg_model.proofs.Joined.{same_cover_count, same_weight_total}
 use Rattle.sg_model.proofs.Scaled.{weight_total-scaled}
-use Rattle.sg_model.proofs.Sums.{total-nonneg}
+use Rattle.sg_model.proofs.Covers.{weight_total-nonneg}
 use Rattle.sg_num.specs.declared.step.Op.TheVariants.{Sum}
 use Rattle.sg_num.proofs.Steps.{exact-fits, fits-from_FitsSigned}
 use Rattle.sg_commit.specs.Committed.{Committed, IsCommitted}
-use Rattle.sg_commit.proofs.Kept.{kept}
+use Rattle.sg_commit.proofs.Kept.{has_weight, kept, scaled-passing}
+use Rattle.sg_commit.proofs.SharedTotals.{exact_total-fits}
 use Rattle.sg_commit.specs.Parts.{AreMultiple, exact_total, fault_of, first_below}
 use Rattle.sg_split.specs.declared.line.Line.{Line}
 use Rattle.sg_split.specs.Laying.{AreCounts, moment_tickets, tickets_at}
@@ -33,9 +34,6 @@ use Rattle.sg_split.proofs.Moments.{moments_cover, moments_legal, moments_weigh}
 abbrev Weighty : Ticket → Type 0
 Weighty x = pos 1 ≤ℤ x.weight
 
-weights_natural : (k : List Ticket) → All Weighty k → pos 0 ≤ℤ weight_total k
-weights_natural k h = total-nonneg (λ (x : Ticket). x.weight) k (All-weaker Weighty (λ (x : Ticket). pos 0 ≤ℤ x.weight) (λ x h. omega (arith, ints, h)) k h)
-
 first_below-none : (i : ℕ) (k : List Ticket) → All Weighty k → first_below i k ≡ None
 first_below-none i [] h = refl
 first_below-none i (x ∷ xs) h =
@@ -43,25 +41,12 @@ first_below-none i (x ∷ xs) h =
     let e : int_le (pos 1) x.weight ≡ true = sym (omega (arith, ints, w)) in
     rw e (first_below-none (i + 1) xs (All-tail Weighty x xs h))
 
-exact_total-fits : (acc : ℤ) (k : List Ticket) → pos 0 ≤ℤ acc → All Weighty k → FitsSigned w128 (acc +ℤ weight_total k) → exact_total acc k ≡ Ok (acc +ℤ weight_total k)
-exact_total-fits acc [] low h fit = ap Ok (omega (arith, ints))
-exact_total-fits acc (x ∷ xs) low h fit =
-    let w : pos 1 ≤ℤ x.weight = All-head Weighty x xs h in
-    let more = All-tail Weighty x xs h in
-    let rest = weights_natural xs more in
-    let here : FitsSigned w128 (acc +ℤ x.weight) = omega (arith, ints, fit, low, w, rest) in
-    let e = exact-fits Sum acc x.weight (fits-from_FitsSigned (acc +ℤ x.weight) here) in
-    let there : FitsSigned w128 ((acc +ℤ x.weight) +ℤ weight_total xs) = omega (arith, ints, fit) in
-    let sum : ((acc +ℤ x.weight) +ℤ weight_total xs) ≡ acc +ℤ (x.weight +ℤ weight_total xs) = omega (arith, ints) in
-    rw e (exact_total-fits (acc +ℤ x.weight) xs (omega (arith, ints, low, w)) more there ∙ ap Ok sum)
-
 -- positive weights whose sum fits are no fault
 pub no_fault : (k : List Ticket) (d : ℤ) → All Weighty k → weight_total k ≡ d → pos 1 ≤ℤ d → FitsSigned w128 d → fault_of k ≡ None
 no_fault [] d h whole positive fit = absurd (omega (arith, ints, whole, positive))
 no_fault (x ∷ xs) d h whole positive fit =
     let a : first_below 0 (x ∷ xs) ≡ None = first_below-none 0 (x ∷ xs) h in
-    let sum : FitsSigned w128 (pos 0 +ℤ weight_total (x ∷ xs)) = omega (arith, ints, fit, whole) in
-    let b : exact_total (pos 0) (x ∷ xs) ≡ Ok (pos 0 +ℤ weight_total (x ∷ xs)) = exact_total-fits (pos 0) (x ∷ xs) (omega (arith, ints)) h sum in
+    let b : exact_total (pos 0) (x ∷ xs) ≡ Ok (pos 0 +ℤ weight_total (x ∷ xs)) = exact_total-fits (pos 0) (x ∷ xs) (omega (arith, ints)) h (omega (arith, ints, fit, whole)) in
     rw a (rw b refl)
 
 -- tickets up to the end of all moments
@@ -74,37 +59,6 @@ parts_are g counts d line parts of is = record {
 
 pub parts_weigh : (g : Game) (counts : List ℤ) (d : ℤ) (parts : List Ticket) → AreCounts g counts d → AreParts g counts d parts → weight_total parts ≡ d
 parts_weigh g counts d parts are is = same_weight_total g parts (moment_tickets counts (resource_count g) d) is.mix ∙ moments_weigh g counts d are
-
--- a play of positive tickets has a positive weight among them
-cond_natural : (b : Bool) (w : ℤ) → pos 0 ≤ℤ w → pos 0 ≤ℤ cond b w (pos 0)
-cond_natural true w h = h
-cond_natural false w h = omega (arith, ints)
-
-weight_on-natural : (k : List Ticket) (play : List ℕ) → All Weighty k → pos 0 ≤ℤ weight_on k play
-weight_on-natural k play h =
-    total-nonneg (λ (x : Ticket). cond (bytes_eq x.play.code play) x.weight (pos 0)) k
-    (All-weaker Weighty (λ (x : Ticket). pos 0 ≤ℤ cond (bytes_eq x.play.code play) x.weight (pos 0)) (λ x h. cond_natural (bytes_eq x.play.code play) x.weight (omega (arith, ints, h))) k h)
-
-pub weight_on-positive : (k : List Ticket) → All Weighty k → (i : ℕ) (d : Ticket) → i < length k → pos 1 ≤ℤ weight_on k (get_or k i d).play.code
-weight_on-positive [] h i d lt = absurd (omega (arith, lt))
-weight_on-positive (x ∷ xs) h zero d lt =
-    let same : bytes_eq x.play.code x.play.code ≡ true = (bytes_eq-Decides x.play.code x.play.code).1 refl in
-    rw same (omega (arith, ints, All-head Weighty x xs h, weight_on-natural xs x.play.code (All-tail Weighty x xs h)))
-weight_on-positive (x ∷ xs) h (suc i) d lt =
-    let code : List ℕ = (get_or xs i d).play.code in
-    omega (arith, ints, weight_on-positive xs (All-tail Weighty x xs h) i d (omega (arith, lt)), cond_natural (bytes_eq x.play.code code) x.weight (omega (arith, ints, All-head Weighty x xs h)))
-
--- a sum of the weights that pass a test, with all weights multiplied
-pub scaled-passing : (test : List ℕ → Bool) (c : ℤ) (k : List Ticket) → total (λ (x : Ticket). cond (test x.play.code) x.weight (pos 0)) (scaled c k) ≡ c *ℤ total (λ (x : Ticket). cond (test x.play.code) x.weight (pos 0)) k
-scaled-passing test c [] = same_by (n 0) (times (v c) (n 0)) (omega arith)
-scaled-passing test c (x ∷ xs) =
-    let r : ℤ = total (λ (x : Ticket). cond (test x.play.code) x.weight (pos 0)) xs in
-    let step : (b : Bool) → (cond b (c *ℤ x.weight) (pos 0) +ℤ (c *ℤ r)) ≡ c *ℤ (cond b x.weight (pos 0) +ℤ r) =
-    λ b. elim b as (λ b. (cond b (c *ℤ x.weight) (pos 0) +ℤ (c *ℤ r)) ≡ c *ℤ (cond b x.weight (pos 0) +ℤ r)) [
-      | true ↦ same_by (plus (times (v c) (v x.weight)) (times (v c) (v r))) (times (v c) (plus (v x.weight) (v r))) (omega arith)
-      | false ↦ same_by (plus (n 0) (times (v c) (v r))) (times (v c) (plus (n 0) (v r))) (omega arith)
-    ] in
-    ap (λ (z : ℤ). cond (test x.play.code) (c *ℤ x.weight) (pos 0) +ℤ z) (scaled-passing test c xs) ∙ step (test x.play.code)
 
 -- the commitment of such parts
 pub wrap_is : (g : Game) → IsGame g → (counts : List ℤ) (d : ℤ) → AreCounts g counts d → (parts : List Ticket) → AreParts g counts d parts → (k : Committed) → AreMultiple parts k.tickets → IsCommitted k → IsWrap g counts d k
@@ -121,7 +75,7 @@ wrap_is g is counts d are parts are_parts k multiple rules =
       commitment = kept g k rules (λ i x lt.
           let code : List ℕ = (get_or k.tickets i x).play.code in
           let on : weight_on all code ≡ c *ℤ weight_on k.tickets code = mix code ∙ scaled-passing (λ p. bytes_eq p code) c k.tickets in
-          let some : pos 1 ≤ℤ weight_on k.tickets code = weight_on-positive k.tickets rules.positive i x lt in
+          let some : pos 1 ≤ℤ weight_on k.tickets code = has_weight k.tickets rules.positive i x lt in
           let more = mul-le (pos 1) c (weight_on k.tickets code) c_low (omega (arith, ints, some)) in
           holds-weighed (IsLegal g) all (moments_legal g is counts d are) code (λ e. absurd (omega (arith, ints, on, some, more, e))));
       covered = λ t low high.

@@ -18,7 +18,7 @@ use Rattle.sg_model.proofs.Ints.{mul-le}
 use Rattle.sg_model.proofs.Numbers.{All-numbers_from}
 use Rattle.sg_split.specs.Laws.{LaidTicketsAreFew}
 use Rattle.sg_split.specs.Laying.{ends_from, moment_tickets, play_at}
-use Rattle.sg_split.proofs.Commits.{scaled-passing, weight_on-positive}
+use Rattle.sg_commit.proofs.Kept.{has_weight, scaled-passing}
 use Rattle.sg_split.proofs.CutPlaces.{plays_stay}
 use Rattle.sg_split.proofs.Ends.{length-ends_from}
 use Rattle.sg_split.proofs.Legal.{holds-weighed}
@@ -120,7 +120,7 @@ laid_few counts patrols d positive within k weights distinct multiple =
     let each : All (λ (x : Ticket). Contains cuts x.play.code) k = λ i x lt.
     let play : List ℕ = (get_or k i x).play.code in
     let on : weight_on all play ≡ c *ℤ weight_on k play = multiple.2 play ∙ scaled-passing (λ p. bytes_eq p play) c k in
-    let some : pos 1 ≤ℤ weight_on k play = weight_on-positive k weights i x lt in
+    let some : pos 1 ≤ℤ weight_on k play = has_weight k weights i x lt in
     let more = mul-le (pos 1) c (weight_on k play) multiple.1 (omega (arith, ints, some)) in
     holds-weighed (Contains cuts) all (plays_are_cut counts patrols d positive within) play (λ e. absurd (omega (arith, ints, on, some, more, e))) in
     let few : length (map code k) ≤ length cuts =

@@ -1,8 +1,8 @@
 use Rattle.std.proofs.Common.{◌<◌, ◌∙◌, arith, refl, length}
 use Rattle.std.specs.Int.{w128}
 use Rattle.std.specs.Prelude.{FitsSigned}
-use Rattle.std.proofs.lemmas.Int.{ints, to_z-of_z}
-use Rattle.sg_check.proofs.Small.{action-target, count-few, count-high, count-low, table_d-fits, table_d-is}
+use Rattle.std.proofs.lemmas.Int.{to_z-of_z}
+use Rattle.sg_check.proofs.Small.{count-is, table_d-fits, table_d-is, target}
 use Rattle.sg_check.proofs.tally.table_d.Goals as goal
 
 pub counted_d-requires-clause-security : goal.counted_d-requires-clause-security
@@ -12,47 +12,25 @@ counted_d-requires-clause-security c =
 pub counted_d-requires-clause-known : goal.counted_d-requires-clause-known
 counted_d-requires-clause-known c =
     let lt : c.args.a < length c.args.table.now = c.if-has_cell.ensures.0 refl in
-    (c.requires.known_action.0, (action-target c.args.game.now c.args.tickets.now c.args.table.now c.args.a (c.requires.table (omega (arith, lt))) c.requires.known_action.1).0)
+    target c.args.game.now c.promises.ensures c.args.tickets.now c.args.table.now (c.requires.table (omega (arith, lt))) c.args.a c.requires.known_action c.args.total c.count_at-count.result c.requires.total c.count_at-count.ensures
 
-pub counted_d-requires-clause-low : goal.counted_d-requires-clause-low
-counted_d-requires-clause-low c =
+pub counted_d-requires-clause-counts : goal.counted_d-requires-clause-counts
+counted_d-requires-clause-counts c =
     let lt : c.args.a < length c.args.table.now = c.if-has_cell.ensures.0 refl in
-    let is = c.requires.table (omega (arith, lt)) in
-    let t = (action-target c.args.game.now c.args.tickets.now c.args.table.now c.args.a is c.requires.known_action.1).0 in
     let q : FitsSigned w128 c.count_at-count.result = record { sfits = c.count_at-count.type_inv } in
-    let e = to_z-of_z w128 c.count_at-count.result q in
-    let r = count-low c.args.game.now c.promises.ensures c.args.tickets.now c.args.table.now is c.args.a c.requires.known_action.0 t c.args.total c.count_at-count.result c.requires.total c.count_at-count.ensures in
-    omega (arith, ints, r, e)
-
-pub counted_d-requires-clause-high : goal.counted_d-requires-clause-high
-counted_d-requires-clause-high c =
-    let lt : c.args.a < length c.args.table.now = c.if-has_cell.ensures.0 refl in
-    let is = c.requires.table (omega (arith, lt)) in
-    let t = (action-target c.args.game.now c.args.tickets.now c.args.table.now c.args.a is c.requires.known_action.1).0 in
-    let q : FitsSigned w128 c.count_at-count.result = record { sfits = c.count_at-count.type_inv } in
-    let e = to_z-of_z w128 c.count_at-count.result q in
-    let f = to_z-of_z w128 c.args.total c.ranges.total in
-    let r = count-high c.args.game.now c.promises.ensures c.args.tickets.now c.args.table.now is c.args.a c.requires.known_action.0 t c.args.total c.count_at-count.result c.requires.total c.count_at-count.ensures in
-    omega (arith, ints, r, e, f)
-
-pub counted_d-requires-clause-few : goal.counted_d-requires-clause-few
-counted_d-requires-clause-few c =
-    let lt : c.args.a < length c.args.table.now = c.if-has_cell.ensures.0 refl in
-    let is = c.requires.table (omega (arith, lt)) in
-    let t = (action-target c.args.game.now c.args.tickets.now c.args.table.now c.args.a is c.requires.known_action.1).0 in
-    let f = to_z-of_z w128 c.args.total c.ranges.total in
-    let r = count-few c.args.game.now c.promises.ensures c.args.tickets.now c.args.table.now is c.args.a c.requires.known_action.0 t c.args.total c.count_at-count.result c.requires.total c.count_at-count.ensures in
-    omega (arith, ints, r, f)
+    let w : FitsSigned w128 c.args.total = c.ranges.total in
+    simp to_z-of_z (count-is c.args.game.now c.promises.ensures c.args.tickets.now c.args.table.now (c.requires.table (omega (arith, lt))) c.args.a c.requires.known_action c.args.total c.count_at-count.result c.requires.total c.count_at-count.ensures)
 
 pub returns-then-has_cell : goal.returns-then-has_cell
 returns-then-has_cell c =
-    let g = c.args.game.now in
     let lt : c.args.a < length c.args.table.now = c.if-has_cell.ensures.0 refl in
     let is = c.requires.table (omega (arith, lt)) in
-    let t = (action-target g c.args.tickets.now c.args.table.now c.args.a is c.requires.known_action.1).0 in
     let q : FitsSigned w128 c.count_at-count.result = record { sfits = c.count_at-count.type_inv } in
     let w : FitsSigned w128 c.args.total = c.ranges.total in
     let s : FitsSigned w128 c.counted_d.result = record { sfits = c.counted_d.type_inv } in
     let e = simp to_z-of_z at c.counted_d.ensures in
-    let r = table_d-is g c.promises.ensures c.args.tickets.now c.args.table.now is c.args.a c.requires.known_action.0 t c.args.total c.count_at-count.result c.requires.total c.count_at-count.ensures c.counted_d.result e in
-    (table_d-fits g c.promises.ensures c.args.tickets.now c.args.table.now is c.args.a, to_z-of_z w128 c.counted_d.result s ∙ r)
+    (
+      table_d-fits c.args.game.now c.promises.ensures c.args.tickets.now c.args.table.now is c.args.a,
+      to_z-of_z w128 c.counted_d.result s
+      ∙ table_d-is c.args.game.now c.promises.ensures c.args.tickets.now c.args.table.now is c.args.a c.requires.known_action c.args.total c.count_at-count.result c.requires.total c.count_at-count.ensures c.counted_d.result e,
+    )

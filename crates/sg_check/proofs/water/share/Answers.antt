@@ -1,6 +1,7 @@
 use Rattle.std.proofs.Common.{◌∙◌, ◌^◌, ◌*ℤ◌, ap, arith, ℤ}
 use Rattle.std.proofs.lemmas.Int.{ints}
-use Rattle.sg_check.proofs.Spans.{Spans, made, read}
+use Rattle.sg_model.proofs.Spans.{Spans}
+use Rattle.sg_check.proofs.Spans.{made, read}
 use Rattle.sg_check.proofs.water.share.Goals as goal
 
 pub overflow_mul-result : goal.overflow_mul-result

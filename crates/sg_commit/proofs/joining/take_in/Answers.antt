@@ -5,7 +5,8 @@ use Rattle.std.proofs.lemmas.Int.{ints}
 use Rattle.sg_model.specs.declared.ticket.Ticket.{Ticket}
 use Rattle.sg_model.specs.Commitments.{weight_total}
 use Rattle.sg_commit.specs.Joining.{standing}
-use Rattle.sg_commit.proofs.Standing.{ArePositive, positive-set, sum-set}
+use Rattle.sg_model.proofs.Covers.{ArePositive}
+use Rattle.sg_commit.proofs.Standing.{positive-set, sum-set}
 use Rattle.sg_commit.proofs.joining.take_in.Goals as goal
 
 pub returns-then-is_same_play-clause-positive : goal.returns-then-is_same_play-clause-positive

@@ -9,7 +9,7 @@ use Rattle.sg_model.proofs.Sums.{total-IsPermutation}
 use Rattle.sg_commit.specs.Joining.{IsCommonDivisor, joined}
 use Rattle.sg_commit.proofs.Joins.{positive-joined}
 use Rattle.sg_commit.proofs.Shares.{IsMade, made, some-permuted, some_joined}
-use Rattle.sg_commit.proofs.Standing.{ArePositive}
+use Rattle.sg_model.proofs.Covers.{ArePositive}
 use Rattle.sg_commit.proofs.joining.tickets_of.Goals as goal
 
 pub gather-requires-clause-some : goal.gather-requires-clause-some

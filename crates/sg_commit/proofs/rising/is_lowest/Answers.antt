@@ -1,4 +1,3 @@
-use Rattle.std.proofs.Common.{◌≡◌, pos}
 use Rattle.std.specs.Prelude.{FitsSigned}
 use Rattle.std.specs.Int.{w128}
 use Rattle.std.proofs.lemmas.Int.{to_z-of_z}

@@ -4,7 +4,8 @@ use Rattle.std.proofs.lemmas.Int.{ints}
 use Rattle.sg_model.specs.Commitments.{weight_total}
 use Rattle.sg_model.specs.Games.{prior_total}
 use Rattle.sg_num.specs.Exact.{exact_times}
-use Rattle.sg_commit.proofs.Worths.{base-positive, weight_total-positive}
+use Rattle.sg_model.proofs.Covers.{weight_total-positive}
+use Rattle.sg_commit.proofs.Worths.{base-positive}
 use Rattle.sg_commit.proofs.values.base.Goals as goal
 
 pub returns-clause-positive : goal.returns-clause-positive

@@ -1,4 +1,4 @@
-use Rattle.std.proofs.Common.{◌≡◌, ◌≤◌, ◌+◌, ◌*◌, ◌-◌}
+use Rattle.std.proofs.Common.{◌≡◌, ◌+◌, ◌*◌, ◌-◌}
 use Rattle.sg_model.specs.Games.{resource_count}
 use Rattle.sg_game.specs.Counting.{choices_from}
 use Rattle.sg_game.proofs.counting.choices.Given as goal

@@ -1,4 +1,4 @@
-use Rattle.std.proofs.Common.{◌≡◌, ◌≤◌, ◌+◌, ◌<◌, ℕ, length}
+use Rattle.std.proofs.Common.{◌≡◌, ◌+◌, ◌<◌, ℕ, length}
 use Rattle.sg_model.specs.Games.{schedule_targets}
 use Rattle.sg_game.proofs.counting.has_singles.Given as goal
 

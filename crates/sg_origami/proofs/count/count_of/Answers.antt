@@ -5,16 +5,16 @@ use Rattle.std.proofs.lemmas.Int.{ints, to_z-of_z}
 use Rattle.sg_model.specs.Games.{payoff}
 use Rattle.sg_model.specs.Origami.{share}
 use Rattle.sg_origami.specs.Rates.{multiple}
-use Rattle.sg_origami.proofs.Bounds.{Within, within_product, fits_within}
+use Rattle.sg_model.proofs.Spans.{Spans, spans_product, fits_span}
 use Rattle.sg_origami.proofs.count.count_of.Goals as goal
 
 pub product-requires : goal.product-requires
 product-requires c =
     let a : FitsSigned w128 c.multiple.result = omega (arith, ints, c.multiple.ensures.low, c.multiple.ensures.high) in
     let b : FitsSigned w128 c.excess_of.result = omega (arith, ints, c.excess_of.ensures.low, c.excess_of.ensures.high) in
-    let m : Within (2 ^ 32) c.multiple.result = record { low = omega (arith, ints, c.multiple.ensures.low); high = c.multiple.ensures.high } in
-    let h : Within (2 ^ 78) c.excess_of.result = record { low = c.excess_of.ensures.low; high = c.excess_of.ensures.high } in
-    simp to_z-of_z (fits_within (2 ^ 32 * 2 ^ 78) (c.multiple.result *ℤ c.excess_of.result) (omega arith) (within_product (2 ^ 32) (2 ^ 78) c.multiple.result c.excess_of.result m h))
+    let m : Spans (2 ^ 32) c.multiple.result = record { low = omega (arith, ints, c.multiple.ensures.low); high = c.multiple.ensures.high } in
+    let h : Spans (2 ^ 78) c.excess_of.result = record { low = c.excess_of.ensures.low; high = c.excess_of.ensures.high } in
+    simp to_z-of_z (fits_span (2 ^ 32 * 2 ^ 78) (c.multiple.result *ℤ c.excess_of.result) (omega arith) (spans_product (2 ^ 32) (2 ^ 78) c.multiple.result c.excess_of.result m h))
 
 pub returns-then-is_high : goal.returns-then-is_high
 returns-then-is_high c =

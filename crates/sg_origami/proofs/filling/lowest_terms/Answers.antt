@@ -2,7 +2,7 @@ use Rattle.std.proofs.Common.{ℤ, inl, inr, refl, arith}
 use Rattle.std.specs.Int.{w128}
 use Rattle.std.specs.Prelude.{FitsSigned}
 use Rattle.std.proofs.lemmas.Int.{ints, to_z-of_z}
-use Rattle.sg_origami.proofs.Lowest.{not_wide}
+use Rattle.sg_frac.proofs.Lowered.{fits_lowered}
 use Rattle.sg_origami.proofs.filling.lowest_terms.Goals as goal
 
 pub unreachable-requires : goal.unreachable-requires
@@ -15,5 +15,5 @@ unreachable-requires c =
     let h = simp to_z-of_z at c.in-None.ensures.none in
     elim (h.0 refl) [
       | inl zero ↦ absurd (omega (arith, ints, r.den_low, zero))
-      | inr wide ↦ not_wide num den r.den_low (record { low = omega (arith, ints, r.den_low); high = omega (arith, ints, r.den_high) }) (record { low = r.num_low; high = r.num_high }) wide
+      | inr wide ↦ fits_lowered num den r.den_low a b wide
     ]

@@ -2,7 +2,7 @@ use Rattle.std.proofs.Common.{arith, sym, ◌∙◌, ◌≡◌, ◌^◌, ◌*◌
 use Rattle.std.specs.Int.{w128}
 use Rattle.std.specs.Prelude.{FitsSigned}
 use Rattle.std.proofs.lemmas.Int.{ints, to_z-of_z}
-use Rattle.sg_origami.proofs.Bounds.{within_product, fits_within}
+use Rattle.sg_model.proofs.Spans.{spans_product, fits_span}
 use Rattle.sg_origami.proofs.Reachable.{reachable_spent, reachable_floor}
 use Rattle.sg_origami.proofs.Reasons.{no_floor, first_floor}
 use Rattle.sg_model.specs.Games.{payoff}
@@ -15,8 +15,8 @@ product-requires c =
     let s = c.spent_of-spent.ensures in
     let a : FitsSigned w128 c.floor_of-floor.result.pay = omega (arith, ints, f.low, f.high) in
     let b : FitsSigned w128 c.spent_of-spent.result.den = omega (arith, ints, s.den_low, s.den_high) in
-    let w = within_product (2 ^ 30) (2 ^ 46) c.floor_of-floor.result.pay c.spent_of-spent.result.den (record { low = f.low; high = f.high }) (record { low = omega (arith, ints, s.den_low); high = s.den_high }) in
-    simp to_z-of_z (fits_within (2 ^ 30 * 2 ^ 46) (c.floor_of-floor.result.pay *ℤ c.spent_of-spent.result.den) (omega arith) w)
+    let w = spans_product (2 ^ 30) (2 ^ 46) c.floor_of-floor.result.pay c.spent_of-spent.result.den (record { low = f.low; high = f.high }) (record { low = omega (arith, ints, s.den_low); high = s.den_high }) in
+    simp to_z-of_z (fits_span (2 ^ 30 * 2 ^ 46) (c.floor_of-floor.result.pay *ℤ c.spent_of-spent.result.den) (omega arith) w)
 
 pub returns-then-product-spent-clause-reachable : goal.returns-then-product-spent-clause-reachable
 returns-then-product-spent-clause-reachable c =

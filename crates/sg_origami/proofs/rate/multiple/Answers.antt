@@ -6,7 +6,7 @@ use Rattle.sg_model.specs.Games.{payoff}
 use Rattle.sg_model.specs.Origami.{gap}
 use Rattle.sg_model.proofs.Levels.{multiple_is}
 use Rattle.sg_origami.specs.Rates.{multiple}
-use Rattle.sg_origami.proofs.Bounds.{multiple_bounds}
+use Rattle.sg_model.proofs.Spans.{multiple_bounds}
 use Rattle.sg_origami.proofs.rate.multiple.Goals as goal
 
 pub returns : goal.returns

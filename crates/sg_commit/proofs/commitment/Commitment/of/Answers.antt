@@ -4,7 +4,7 @@ use Rattle.std.specs.Prelude.{FitsSigned}
 use Rattle.std.proofs.lemmas.Int.{ints}
 use Rattle.sg_model.specs.Commitments.{weight_total}
 use Rattle.sg_commit.proofs.Faults.{exact_total-is, no_fault-positive}
-use Rattle.sg_commit.proofs.Standing.{ArePositive}
+use Rattle.sg_model.proofs.Covers.{ArePositive}
 use Rattle.sg_commit.proofs.commitment.Commitment.of.Goals as goal
 
 pub tickets_of-requires-clause-positive : goal.tickets_of-requires-clause-positive

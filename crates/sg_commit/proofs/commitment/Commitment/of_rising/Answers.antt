@@ -1,9 +1,8 @@
-use Rattle.std.proofs.Common.{◌≡◌, true, refl, sym}
+use Rattle.std.proofs.Common.{refl}
 use Rattle.std.specs.Prelude.{FitsSigned}
 use Rattle.std.specs.Int.{w128}
 use Rattle.std.proofs.lemmas.Int.{to_z-of_z}
 use Rattle.sg_commit.specs.Committed.{IsCommitted}
-use Rattle.sg_commit.specs.Rising.{AreShares}
 use Rattle.sg_commit.proofs.SharedTotals.{shares_from, no_sum, not_lowest}
 use Rattle.sg_commit.proofs.commitment.Commitment.of_rising.Goals.{else-is_sum-via-then-is_sum+else-is_lowest, else-is_sum-via-else-is_sum}
 use Rattle.sg_commit.proofs.commitment.Commitment.of_rising.Goals as goal

@@ -5,5 +5,5 @@ use Rattle.sg_game.proofs.spread.Spread.join.Goals as goal
 
 pub returns : goal.returns
 returns c = λ xs ys h i.
-    joined c.args.self.now c.args.other.now (record { least = to_z w64 (of_z w64 c.least_with.result); greatest = to_z w64 (of_z w64 c.greatest_with.result) })
+    joined c.args.self.now.least c.args.self.now.greatest c.args.other.now.least c.args.other.now.greatest (to_z w64 (of_z w64 c.least_with.result)) (to_z w64 (of_z w64 c.greatest_with.result))
     (omega (arith, ints, c.least_with.ensures)) (omega (arith, ints, c.greatest_with.ensures)) xs ys h i

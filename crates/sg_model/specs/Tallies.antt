@@ -1,25 +1,19 @@
 -- How the tickets that cover each target are counted in one walk over the tickets.
-use Rattle.std.specs.Prelude.{◌≡◌, ◌^◌, ℕ, ◌+◌, ◌<◌, ◌≤◌, false, if◌then◌else◌, List, [], ◌∷◌, length, ℤ, pos, ◌≤ℤ◌, All, nat_eq, slice_index_or, slice_set, Result, Ok, Err}
+use Rattle.std.specs.Prelude.{◌≡◌, ◌^◌, ℕ, ◌+◌, ◌<◌, ◌≤◌, false, if◌then◌else◌, List, [], ◌∷◌, length, ℤ, pos, ◌≤ℤ◌, All, nat_eq, slice_index_or, slice_set}
+use Rattle.std.specs.Int.{w128, int_wrapping_add}
+use Rattle.sg_model.specs.declared.cell.Cell.{Cell}
 use Rattle.sg_model.specs.declared.ticket.Ticket.{Ticket}
 use Rattle.sg_model.specs.Sums.{nth}
 use Rattle.sg_model.specs.Games.{Game, is_matrix, resource_schedules, schedule_targets}
 use Rattle.sg_model.specs.Commitments.{cover_count, weight_total}
-use Rattle.sg_num.specs.declared.step.Wide.{Wide}
-use Rattle.sg_num.specs.Exact.{exact_sum}
-use Rattle.sg_check.specs.declared.tally.Cell.{Cell}
 
 -- what is counted of a target before any ticket
 abbrev pub no_cell : Cell
 no_cell = record { mark = 0; count = pos 0 }
 
--- the value of a step, or what was there before where it is refused
-abbrev pub value_or : ℤ → Result ℤ Wide → ℤ
-value_or before (Ok z) = z
-value_or before (Err wide) = before
-
 -- ticket number n covers the target: it counts once
 abbrev pub marked : ℕ → ℤ → Cell → Cell
-marked n w x = if nat_eq x.mark n then x else record { mark = n; count = value_or x.count (exact_sum x.count w) }
+marked n w x = if nat_eq x.mark n then x else record { mark = n; count = int_wrapping_add w128 x.count w }
 
 -- it covers target t
 abbrev pub touched : List Cell → ℕ → ℕ → ℤ → List Cell
@@ -49,6 +43,12 @@ pub record IsCounted (g : Game) (k : List Ticket) (cells : List Cell) : Type 0 w
   pub size : length g.goals < length cells
   pub counts : (t : ℕ) → 1 ≤ t → t ≤ length g.goals → (slice_index_or cells t no_cell).count ≡ cover_count g k t
 
--- so it is where there are cells
+-- a count of tickets out of a total of at most 2^95
+pub record IsCount (total count : ℤ) : Type 0 where
+  pub low : pos 0 ≤ℤ count
+  pub high : count ≤ℤ total
+  pub few : total ≤ℤ pos (2 ^ 95)
+
+-- the cells are counted, where there are any
 abbrev pub IsTable : Game → List Ticket → List Cell → Type 0
 IsTable g k cells = 1 ≤ length cells → IsCounted g k cells

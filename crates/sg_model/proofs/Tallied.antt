@@ -1,29 +1,28 @@
 -- The walk over the tickets counts what covers each target.
-use Rattle.std.proofs.Common.{◌≡◌, ℕ, ◌+◌, ◌<◌, ◌≤◌, ◌^◌, Bool, true, false, cond, ◌||◌, List, [], ◌∷◌, length, ℤ, pos, ◌+ℤ◌, ◌≤ℤ◌, sym, ◌∙◌, ap, subst, refl, arith, inl, inr, slice_index_or, replicate}
+use Rattle.std.proofs.Common.{◌≡◌, ℕ, ◌+◌, ◌<◌, ◌≤◌, ◌^◌, Bool, true, false, true≢false, cond, ◌||◌, List, [], ◌∷◌, length, ℤ, pos, ◌+ℤ◌, ◌≤ℤ◌, sym, ◌∙◌, ap, subst, refl, arith, inl, inr, slice_index_or, replicate}
 use Rattle.std.specs.List.{list_any}
-use Rattle.std.specs.Prelude.{nat_eq, Ok}
-use Rattle.std.proofs.lemmas.Int.{ints}
+use Rattle.std.specs.Prelude.{nat_eq}
+use Rattle.std.specs.Int.{w128, int_wrapping_add}
+use Rattle.std.proofs.lemmas.Int.{ints, int_wrap_fits, wrapping_add_is}
 use Rattle.std.proofs.lemmas.Bool.{cases_eq}
 use Rattle.std.proofs.lemmas.Bool.Decides.{nat_tests}
 use Rattle.std.proofs.lemmas.List.{get_or-set_same, get_or-set_other, get_or-replicate, length-set, length-replicate}
 use Rattle.std.proofs.lemmas.List.Elements.{All-head, All-tail}
 use Rattle.sg_model.specs.declared.ticket.Ticket.{Ticket}
 use Rattle.sg_model.specs.Sums.{nth}
-use Rattle.sg_model.specs.Games.{Game, is_matrix, resource_schedules, schedule_targets}
+use Rattle.sg_model.specs.Games.{Game, action_count, attacker, is_matrix, resource_schedules, schedule_targets}
 use Rattle.sg_model.specs.Plays.{covers, covers_from}
 use Rattle.sg_model.specs.Commitments.{cover_count, weight_total}
-use Rattle.sg_num.specs.declared.step.Op.TheVariants.{Sum}
-use Rattle.sg_num.specs.Exact.{exact_sum}
-use Rattle.sg_check.specs.declared.tally.Cell.{Cell}
-use Rattle.sg_check.specs.Tallies.{IsTable, marked, no_cell, tallied, touched, touched_all, touched_from, value_or}
-use Rattle.sg_check.proofs.Small.{ArePositive, exact_ok, weight_total-nonneg}
+use Rattle.sg_model.specs.declared.cell.Cell.{Cell}
+use Rattle.sg_model.specs.Tallies.{IsCount, IsCounted, IsTable, marked, no_cell, tallied, touched, touched_all, touched_from}
+use Rattle.sg_model.proofs.Covers.{ArePositive, cover_count-bounds, weight_total-nonneg}
 
 -- a cell after a test of whether the ticket covers its target
 abbrev tested : Bool → ℕ → ℤ → Cell → Cell
 tested b n w x = cond b (marked n w x) x
 
 marked-mark : (n : ℕ) (w : ℤ) (x : Cell) → nat_eq (marked n w x).mark n ≡ true
-marked-mark n w x = elim (nat_eq x.mark n) as (λ (b : Bool). nat_eq x.mark n ≡ b → nat_eq (cond b x (record { mark = n; count = value_or x.count (exact_sum x.count w) })).mark n ≡ true) [
+marked-mark n w x = elim (nat_eq x.mark n) as (λ (b : Bool). nat_eq x.mark n ≡ b → nat_eq (cond b x (record { mark = n; count = int_wrapping_add w128 x.count w })).mark n ≡ true) [
   | true ↦ (λ e. e)
   | false ↦ (λ e. grind (arith, nat_tests))
 ] refl
@@ -31,7 +30,7 @@ marked-mark n w x = elim (nat_eq x.mark n) as (λ (b : Bool). nat_eq x.mark n �
 marked-twice : (n : ℕ) (w : ℤ) (x : Cell) → marked n w (marked n w x) ≡ marked n w x
 marked-twice n w x =
     let y : Cell = marked n w x in
-    ap (λ (b : Bool). cond b y (record { mark = n; count = value_or y.count (exact_sum y.count w) })) (marked-mark n w x)
+    ap (λ (b : Bool). cond b y (record { mark = n; count = int_wrapping_add w128 y.count w })) (marked-mark n w x)
 
 tested-twice : (a b : Bool) (n : ℕ) (w : ℤ) (x : Cell) → tested b n w (tested a n w x) ≡ tested (a || b) n w x
 tested-twice true true n w x = marked-twice n w x
@@ -85,9 +84,10 @@ counted : (b : Bool) (n : ℕ) (w : ℤ) (x : Cell) → x.mark < n → pos 0 ≤
 counted false n w x lt low some room = record { mark = omega (arith, lt); is = omega (arith, ints) }
 counted true n w x lt low some room =
     let new : nat_eq x.mark n ≡ false = grind (arith, nat_tests) in
-    let sum : exact_sum x.count w ≡ Ok (x.count +ℤ w) = exact_ok Sum x.count w (record { low = omega (arith, ints, low, some); high = room }) in
-    subst (λ (b : Bool). Counts n (x.count +ℤ w) (cond b x (record { mark = n; count = value_or x.count (exact_sum x.count w) }))) (sym new)
-    (record { mark = omega arith; is = ap (value_or x.count) sum })
+    let sum : int_wrapping_add w128 x.count w ≡ x.count +ℤ w =
+    wrapping_add_is w128 x.count w (omega (arith, ints, low, some, room)) (omega (arith, ints, low, some, room)) ∙ int_wrap_fits w128 (x.count +ℤ w) (omega (arith, ints, low, some, room)) in
+    subst (λ (b : Bool). Counts n (x.count +ℤ w) (cond b x (record { mark = n; count = int_wrapping_add w128 x.count w }))) (sym new)
+    (record { mark = omega arith; is = sum })
 
 tallied-at : (g : Game) (cells : List Cell) (n t : ℕ) (k : List Ticket) → t < length cells → ArePositive k → (slice_index_or cells t no_cell).mark < n → pos 0 ≤ℤ (slice_index_or cells t no_cell).count
     → ((slice_index_or cells t no_cell).count +ℤ weight_total k) ≤ℤ pos (2 ^ 126)
@@ -133,3 +133,21 @@ tallied-table g k m cells new security positive few size fresh is =
           let all = tallied-at g cells 1 t k in_range positive (omega (arith, mark)) (omega (arith, ints, count)) (omega (arith, ints, count, few)) in
           ap (λ (xs : List Cell). (slice_index_or xs t no_cell).count) is ∙ omega (arith, ints, all, count);
     }
+
+-- an action of a game in security form is a target, and has a cell
+pub action-target : (g : Game) (k : List Ticket) (cells : List Cell) (l a : ℕ) → IsCounted g k cells → a ≤ action_count g l → (a ≤ length g.goals) × (a < length cells)
+action-target g k cells l a c high =
+    let in_range : a ≤ length g.goals = subst (λ (b : Bool). a ≤ cond b (length (attacker g l).actions) (length g.goals)) c.security high in
+    (in_range, omega (arith, in_range, c.size))
+
+-- its count is one out of the total
+pub is_count : (g : Game) (k : List Ticket) (cells : List Cell) (a : ℕ) → IsCounted g k cells → 1 ≤ a → a ≤ length g.goals → IsCount (weight_total k) (slice_index_or cells a no_cell).count
+is_count g k cells a c low high =
+    let b = cover_count-bounds g k a c.positive in
+    let is = c.counts a low high in
+    record { low = omega (arith, ints, b.0, is); high = omega (arith, ints, b.1, is); few = c.few }
+
+-- a game in security form has at most 10,000 targets where those that are counted are
+pub few_targets : (b : Bool) (m : ℕ) → b ≡ false → cond b 0 m ≤ 10000 → m ≤ 10000
+few_targets true m e h = absurd (true≢false e)
+few_targets false m e h = h
