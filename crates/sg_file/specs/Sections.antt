@@ -1,14 +1,19 @@
--- The tables of a game file with their keys, and the lists of names with the places of their entries.
-use Rattle.std.specs.Prelude.{ℕ, Bool, List, codes}
+-- The tables of a game file with their keys, the lists of names with the places of their entries, and the forms of types.
+use Rattle.std.specs.Prelude.{ℕ, Bool, List, Result, codes}
+use Rattle.toml.specs.Data.{Data}
+use Rattle.sg_model.specs.Games.{Attacker}
+use Rattle.sg_model.specs.declared.fault.GameFault.{GameFault}
 use Rattle.sg_model.specs.declared.fault.Place.{Place}
 use Rattle.sg_model.specs.declared.fault.Place.TheVariants as place_of
 use Rattle.sg_format.specs.Lists.{is_named_key}
-use Rattle.sg_format.specs.Types.{is_security_type_key, is_matrix_type_key}
+use Rattle.sg_format.specs.Types.{is_security_type_key, is_matrix_type_key, matrix_type_at, security_type_at}
 use Rattle.sg_format.specs.GameFiles.{is_patrols_key, is_resources_key, is_matrix_key}
 use Rattle.sg_file.specs.declared.keys.Section.{Section}
 use Rattle.sg_file.specs.declared.keys.Section.TheVariants.{Patrols, Resources, Matrix, Schedule, Resource, SecurityType, MatrixType}
 use Rattle.sg_file.specs.declared.names.Listing.{Listing}
 use Rattle.sg_file.specs.declared.names.Listing.TheVariants.{Targets, Rows, Actions}
+use Rattle.sg_file.specs.declared.types.TypeForm.{TypeForm}
+use Rattle.sg_file.specs.declared.types.TypeForm.TheVariants.{Security, Matrix as Tabled}
 use Rattle.sg_file.specs.declared.lists.Group.{Group}
 use Rattle.sg_file.specs.declared.lists.Group.TheVariants.{Schedules, Resources as Manned}
 
@@ -58,3 +63,8 @@ members_limit Manned = 500
 abbrev pub section_of : Group → Section
 section_of Schedules = Schedule
 section_of Manned = Resource
+
+-- the n-th type of a list of this form, beside those before it
+abbrev pub type_at : TypeForm → ℕ → List Attacker → Data → Result Attacker GameFault
+type_at (Security scaled targets) n before value = security_type_at (place_of.Attacker n) scaled targets before value
+type_at (Tabled rows) n before value = matrix_type_at (place_of.Attacker n) rows before value

@@ -9,6 +9,7 @@ ghost use Rattle.sg_format.specs.Lists.{each};
 ghost use Rattle.sg_format.specs.Types.{pay_at, pays_at, pay_table_at, prior_at, security_type_at, matrix_type_at, security_types_at, matrix_types_at};
 ghost use Rattle.sg_file.specs.Answers.{Gives};
 ghost use Rattle.sg_file.specs.Numbers.{Numbers};
+ghost use Rattle.sg_file.specs.Sections.{type_at};
 
 use crate::document::needed;
 use crate::fault::{GameError, OUT_OF_RANGE, check};
@@ -166,21 +167,45 @@ fn matrix_type(
     })
 }
 
-fn security_types_of(
+/// The form of the types that are read, and what their payoffs stand against.
+#[derive(Clone, Copy, Debug, PartialEq, Eq)]
+pub(crate) enum TypeForm {
+    /// The security form, with a scale or without, against so many targets.
+    Security(bool, usize),
+    /// The matrix form, against so many rows.
+    Matrix(usize),
+}
+
+/// A type with a new name, which is added to the index.
+fn attacker_type(
     alloc: Global,
-    scaled: bool,
-    targets: usize,
-    values: &[Value],
-) -> Result<Vec<TypeParts>, GameError>
+    form: TypeForm,
+    index: &mut Index,
+    number: u32,
+    value: &Value,
+) -> Result<TypeParts, GameError>
+    ensures gives { (before : List Attacker) → Numbers index.old (map (λ (x : Attacker). x.name) before)
+        → Gives attacker_of result (type_at form number before (data_of value.now)) }
+    ensures indexed { (before : List (List ℕ)) → Numbers index.old before → number ≡ length before + 1
+        → IfOk result (λ x. Numbers index.new (before ++ string_bytes x.name ∷ [])) }
+{
+    match form {
+        TypeForm::Security(scaled, targets) => {
+            security_type(alloc, scaled, targets, index, number, value)
+        }
+        TypeForm::Matrix(rows) => matrix_type(alloc, rows, index, number, value),
+    }
+}
+
+fn types_of(alloc: Global, form: TypeForm, values: &[Value]) -> Result<Vec<TypeParts>, GameError>
     requires { length values.now < 2 ^ 32 - 1 }
-    ensures { Gives (λ v. map attacker_of v.items) result
-        (each (λ before. security_type_at (place_of.Attacker (length before + 1)) scaled targets before) [] (items_view values.now)) }
+    ensures { Gives (λ v. map attacker_of v.items) result (each (λ before. type_at form (length before + 1) before) [] (items_view values.now)) }
 {
     let mut types: Vec<TypeParts> = Vec::new(alloc);
     let mut index: Index = BTreeMap::new(alloc);
     for (i, value) in values.iter().enumerate() {
         let number = (i + 1) as u32;
-        match security_type(alloc, scaled, targets, &mut index, number, value) {
+        match attacker_type(alloc, form, &mut index, number, value) {
             Ok(attacker) => types.push(attacker)?,
             Err(e) => return Err(e),
         }
@@ -205,28 +230,7 @@ pub(crate) fn security_types(
     ensures { Gives (λ v. map attacker_of v.items) result (security_types_at scaled targets (data_of value.now)) }
 {
     let values = some(Place::Document, most_types(scaled), value)?;
-    security_types_of(alloc, scaled, targets, values)
-}
-
-fn matrix_types_of(
-    alloc: Global,
-    rows: usize,
-    values: &[Value],
-) -> Result<Vec<TypeParts>, GameError>
-    requires { length values.now < 2 ^ 32 - 1 }
-    ensures { Gives (λ v. map attacker_of v.items) result
-        (each (λ before. matrix_type_at (place_of.Attacker (length before + 1)) rows before) [] (items_view values.now)) }
-{
-    let mut types: Vec<TypeParts> = Vec::new(alloc);
-    let mut index: Index = BTreeMap::new(alloc);
-    for (i, value) in values.iter().enumerate() {
-        let number = (i + 1) as u32;
-        match matrix_type(alloc, rows, &mut index, number, value) {
-            Ok(attacker) => types.push(attacker)?,
-            Err(e) => return Err(e),
-        }
-    }
-    Ok(types)
+    types_of(alloc, TypeForm::Security(scaled, targets), values)
 }
 
 /// The types of a game in matrix form.
@@ -239,5 +243,5 @@ pub(crate) fn matrix_types(
     ensures { Gives (λ v. map attacker_of v.items) result (matrix_types_at rows (data_of value.now)) }
 {
     let values = some(Place::Document, 8, value)?;
-    matrix_types_of(alloc, rows, values)
+    types_of(alloc, TypeForm::Matrix(rows), values)
 }

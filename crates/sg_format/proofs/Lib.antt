@@ -13,8 +13,13 @@ pub mod Broken
 pub mod Entries
 pub mod Parted
 pub mod Tables
+pub mod SecurityTables
+pub mod MatrixTables
+pub mod EntryFaults
+pub mod SingleChanges
 pub mod PartFaults
 pub mod PartReasons
+pub mod OtherPayoffs
 pub mod Scales
 pub mod Programs
 pub mod WorkedFaults

@@ -1,26 +1,22 @@
 -- The document of a game in which one part breaks its rule is refused for it, at the place of the part.
-use Rattle.std.proofs.Common.{◌≡◌, ◌≢◌, ℕ, suc, ◌+◌, ◌^◌, Bool, true, false, nat_le, nat_lt, List, [], ◌∷◌, length, map, take, get_or, ℤ, pos, Option, Some, None, Result, Ok, Err, is_some, refl, sym, ap, subst, ◌∙◌, arith, inl, inr}
+use Rattle.std.proofs.Common.{◌≡◌, ◌≢◌, ℕ, ◌^◌, Bool, true, false, nat_le, nat_lt, List, [], ◌∷◌, length, ℤ, pos, Option, Some, None, Ok, Err, is_some, refl, sym, ap, subst, ◌∙◌, arith}
 use Rattle.std.specs.Prelude.{bytes_eq, codes, if◌then◌else◌}
-use Rattle.std.specs.List.{AllPairs}
-use Rattle.std.proofs.lemmas.Bool.{cases_Bool, true≢false}
 use Rattle.std.proofs.lemmas.Bool.Decides.{nat_tests}
-use Rattle.toml.specs.Data.{Data, Items, Members, array, get_member, table}
+use Rattle.toml.specs.Data.{Data, Items, Members, get_member, table}
 use Rattle.sg_model.specs.declared.fault.Place.{Place}
 use Rattle.sg_model.specs.declared.fault.Place.TheVariants as place_of
 use Rattle.sg_model.specs.declared.fault.GameFault.{GameFault}
 use Rattle.sg_model.specs.declared.kind.Kind.{Kind}
 use Rattle.sg_model.specs.declared.kind.Kind.TheVariants.{Security, Matrix}
-use Rattle.sg_model.specs.Sums.{nth}
-use Rattle.sg_model.specs.Games.{Attacker, Game, Named, nobody, unnamed}
+use Rattle.sg_model.specs.Games.{Game}
 use Rattle.sg_model.specs.Limits.{is_scaled}
-use Rattle.sg_format.specs.Steps.{◌>>=◌, refused}
+use Rattle.sg_format.specs.Steps.{refused}
 use Rattle.sg_format.specs.Documents.{has_only, items_at, number_at}
-use Rattle.sg_format.specs.Lists.{each, few_at, item_count, named_at, resources_at, schedules_at, named_lists_at, names_at, some_at}
-use Rattle.sg_format.specs.Types.{matrix_type_at, matrix_types_at, security_type_at, security_types_at}
+use Rattle.sg_format.specs.Lists.{item_count, resources_at, schedules_at, names_at, some_at}
+use Rattle.sg_format.specs.Types.{matrix_types_at, security_types_at}
 use Rattle.sg_format.specs.GameFiles.{form_of, game_of_form, game_of_table, is_matrix_key, is_resources_key, resources_game, version_of, is_patrols_key, patrols_game, scale_at}
-use Rattle.sg_format.specs.Changes.{DiffersAt}
-use Rattle.sg_format.specs.Parts.{set_item, reading_order, stands_before, Agrees, AgreesUpTo, is_read_before, Changes, at_key, at_number, Group, NamedPart, NamesPart, Part, TypePart, before, goals, grouped, groups, listed_rule, matrix_rule, matrix_type_rule, members_key, name, named_path, named_rule, names, names_of, part_path, part_place, part_rule, patrols, patrols_rule, resources, scale, schedules, security_type_rule, number_within, type_path, typed, types, Step, names_path}
-use Rattle.sg_format.specs.PartLaws.{IsRefusedAt, SingleChangeAgrees}
+use Rattle.sg_format.specs.Parts.{Agrees, AgreesUpTo, is_read_before, at_key, at_number, NamesPart, Part, goals, grouped, groups, listed_rule, matrix_rule, name, named_path, names, names_of, part_path, part_place, part_rule, patrols, patrols_rule, resources, scale, schedules, number_within, type_path, typed, types, Step, names_path}
+use Rattle.sg_format.specs.PartLaws.{IsRefusedAt}
 use Rattle.sg_format.proofs.Inversion.{after, after_test}
 use Rattle.sg_format.proofs.Keys.{apart}
 use Rattle.sg_format.proofs.Listed.{named_lists_at-lists, names_at-names}
@@ -28,96 +24,10 @@ use Rattle.sg_format.proofs.Files.{IsHeaded, IsListedFile, IsMatrixFile, IsPatro
 use Rattle.sg_format.proofs.Faults.{form_same, version_same}
 use Rattle.sg_format.proofs.FaultyLists.{IsListedTable, listed_steps, listed_targets_fail, listed_types_fail, matrix_begin, matrix_types_fail, named_begin, patrols_types_fail, resources_fail, rows_fail, schedules_fail, security_begin, targets_fail}
 use Rattle.sg_format.proofs.Broken.{few_fails, no_reason, number_fails, reason_of, some_fails}
-use Rattle.sg_format.proofs.Entries.{at_set, before_set, count_set, entry_at, few_is, few_other, some_is, some_other}
-use Rattle.sg_format.proofs.Parted.{front_is, names_part_fails, names_place, only, place_is}
-use Rattle.sg_format.proofs.Tables.{agreed_only, later_there, matrix_part_fails, named_part_fails, security_part_fails}
-
--- the item at a number is the one at its index
-nth_at : {X : Type 0} (xs : List X) (n k : ℕ) (d x : X) → n ≡ suc k → get_or xs k d ≡ x → nth xs n d ≡ x
-nth_at xs n k d x e there = rw e there
-
-security_entry_fails : (scaled : Bool) (targets : ℕ) (first second : Data) (xs : List Attacker) (n : ℕ) (part : TypePart) (value : Data) (r : ℕ)
-    → security_types_at scaled targets first ≡ Ok xs → Agrees (at_number n ∷ type_path part) value (Some first) second
-    → reason_of (security_type_rule scaled targets (map (λ (x : Attacker). x.name) (before n xs)) part) value ≡ Some r → security_types_at scaled targets second ≡ refused r (place_of.Attacker n)
-unfolding security_types_at
-security_entry_fails scaled targets first second xs n part value r h c e =
-    let limit : ℕ = if scaled then 1 else 8 in
-    let read : List Attacker → Data → Result Attacker GameFault = λ others. security_type_at (place_of.Attacker (length others + 1)) scaled targets others in
-    let was : first ≡ array c.old = only first (array c.old) c.was in
-    let start : (some_at place_of.Document limit (array c.old) >>= (λ items. each read [] items)) ≡ Ok xs = rw was at h in
-    after (some_at place_of.Document limit (array c.old)) start (λ found e1 rest.
-    let whole_is : each read [] c.old ≡ Ok xs = rw (some_is place_of.Document limit c.old found e1) at rest in
-    let entry = entry_at read c.old xs c.index c.entry whole_is c.there in
-    let place = place_of.Attacker (length (take c.index xs) + 1) in
-    let broken = security_part_fails place scaled targets (take c.index xs) c.entry c.value entry.value part value r entry.is c.agree (rw (front_is xs n c.index c.number) at e) in
-    let f = entry.fails c.new c.value (record { reason = r; place = place }) c.earlier c.here broken in
-    let is = c.is in
-    let set = some_other place_of.Document limit c.old c.new found c.size e1 in
-    let there : length (take c.index xs) + 1 ≡ n = place_is xs n c.index entry.within c.number in
-    let last : security_types_at scaled targets second ≡ refused r place = rw (is, set) f in
-    rw there at last)
-
-matrix_entry_fails : (rows : ℕ) (first second : Data) (xs : List Attacker) (n : ℕ) (part : TypePart) (value : Data) (r : ℕ)
-    → matrix_types_at rows first ≡ Ok xs → Agrees (at_number n ∷ type_path part) value (Some first) second
-    → reason_of (matrix_type_rule rows (nth xs n nobody).actions (map (λ (x : Attacker). x.name) (before n xs)) part) value ≡ Some r → matrix_types_at rows second ≡ refused r (place_of.Attacker n)
-unfolding matrix_types_at
-matrix_entry_fails rows first second xs n part value r h c e =
-    let read : List Attacker → Data → Result Attacker GameFault = λ others. matrix_type_at (place_of.Attacker (length others + 1)) rows others in
-    let was : first ≡ array c.old = only first (array c.old) c.was in
-    let start : (some_at place_of.Document 8 (array c.old) >>= (λ items. each read [] items)) ≡ Ok xs = rw was at h in
-    after (some_at place_of.Document 8 (array c.old)) start (λ found e1 rest.
-    let whole_is : each read [] c.old ≡ Ok xs = rw (some_is place_of.Document 8 c.old found e1) at rest in
-    let entry = entry_at read c.old xs c.index c.entry whole_is c.there in
-    let place = place_of.Attacker (length (take c.index xs) + 1) in
-    let own = nth_at xs n c.index nobody entry.value c.number (entry.there nobody) in
-    let broken = matrix_part_fails place rows (take c.index xs) c.entry c.value entry.value part value r entry.is c.agree (rw (own, front_is xs n c.index c.number) at e) in
-    let f = entry.fails c.new c.value (record { reason = r; place = place }) c.earlier c.here broken in
-    let is = c.is in
-    let set = some_other place_of.Document 8 c.old c.new found c.size e1 in
-    let there : length (take c.index xs) + 1 ≡ n = place_is xs n c.index entry.within c.number in
-    let last : matrix_types_at rows second ≡ refused r place = rw (is, set) f in
-    rw there at last)
-
-named_entry_fails : (place : ℕ → Place) (group : Group) (known : List (List ℕ)) (limit members_limit : ℕ) (first second : Data) (xs : List Named) (n : ℕ) (part : NamedPart) (value : Data) (r : ℕ)
-    → AllPairs (λ x y. x ≢ y) known → named_lists_at place (members_key group) known limit members_limit first ≡ Ok xs → Agrees (at_number n ∷ named_path group part) value (Some first) second
-    → reason_of (named_rule (members_key group) members_limit known (nth xs n unnamed).members (names_of (before n xs)) part) value ≡ Some r
-    → named_lists_at place (members_key group) known limit members_limit second ≡ refused r (place n)
-unfolding named_lists_at
-named_entry_fails place group known limit members_limit first second xs n part value r distinct h c e =
-    let read : List Named → Data → Result Named GameFault = λ others. named_at (place (length others + 1)) (members_key group) known members_limit others in
-    let was : first ≡ array c.old = only first (array c.old) c.was in
-    let start : (few_at place_of.Document limit (array c.old) >>= (λ items. each read [] items)) ≡ Ok xs = rw was at h in
-    after (few_at place_of.Document limit (array c.old)) start (λ found e1 rest.
-    let whole_is : each read [] c.old ≡ Ok xs = rw (few_is place_of.Document limit c.old found e1) at rest in
-    let entry = entry_at read c.old xs c.index c.entry whole_is c.there in
-    let here = place (length (take c.index xs) + 1) in
-    let own = nth_at xs n c.index unnamed entry.value c.number (entry.there unnamed) in
-    let broken = named_part_fails here group known members_limit (take c.index xs) c.entry c.value entry.value part value r distinct entry.is c.agree (rw (own, front_is xs n c.index c.number) at e) in
-    let f = entry.fails c.new c.value (record { reason = r; place = here }) c.earlier c.here broken in
-    let is = c.is in
-    let set = few_other place_of.Document limit c.old c.new found c.size e1 in
-    let there : length (take c.index xs) + 1 ≡ n = place_is xs n c.index entry.within c.number in
-    let last : named_lists_at place (members_key group) known limit members_limit second ≡ refused r here = rw (is, set) f in
-    rw there at last)
-
--- the change at a top key
-pub record IsTopChange (key : List ℕ) (path : List Step) (value : Data) (first second : Members) : Type 0 where
-  pub new : Data
-  pub differs : DiffersAt key (Some new) first second
-  pub change : Changes path value (get_member key first) new
-
-table_is : (first second : Members) → Some (table first) ≡ Some (table second) → first ≡ second
-table_is first second e = cc
-
-pub top_change : (key : List ℕ) (path : List Step) (value : Data) (first second : Members) → Changes (at_key key ∷ path) value (Some (table first)) (table second) → IsTopChange key path value first second
-top_change key path value first second c =
-    let a : first ≡ c.old = table_is first c.old c.was in
-    let b : second ≡ c.new = table_is second c.new (ap (λ (d : Data). Some d) c.is) in
-    record {
-      new = c.value;
-      differs = subst (λ (t : Members). DiffersAt key (Some c.value) t second) (sym a) (subst (λ (t : Members). DiffersAt key (Some c.value) c.old t) (sym b) c.differs);
-      change = subst (λ (t : Members). Changes path value (get_member key t) c.value) (sym a) c.change;
-    }
+use Rattle.sg_format.proofs.Parted.{names_part_fails, names_place}
+use Rattle.sg_format.proofs.Tables.{agreed_only, later_there}
+use Rattle.sg_format.proofs.EntryFaults.{matrix_entry_fails, named_entry_fails, security_entry_fails}
+use Rattle.sg_format.proofs.SingleChanges.{table_is}
 
 -- what is said at a top key of a document that agrees with another one up to a part
 record IsTopAgreement (key : List ℕ) (path : List Step) (value : Data) (first second : Members) : Type 0 where
@@ -418,45 +328,3 @@ faulty_part first second g part value r h d e =
     (λ head m. rw m.kind (matrix_part first second g part value r head m (rw m.kind at d) (rw m.kind at e)))
     (λ head given there p. rw p.kind (patrols_part first second g part value given r p.patrols head there p (rw p.kind at d) (rw (p.kind, p.identical) at e)))
     (λ head there l. rw l.kind (listed_part first second g part value r head there l (rw l.kind at d) (rw (l.kind, l.no_patrols) at e)))
-
-not_before : (key : List ℕ) (keys : List (List ℕ)) → stands_before key key keys ≡ false
-not_before key [] = refl
-not_before key (first ∷ keys) = elim (cases_Bool (bytes_eq key first)) [
-  | inl is ↦ rw is refl
-  | inr isnt ↦ rw isnt (not_before key keys)
-]
-
-other_key : (other key : List ℕ) → is_read_before other key ≡ true → other ≢ key
-other_key other key holds e = true≢false (sym holds ∙ (ap (λ (k : List ℕ). is_read_before k key) e ∙ not_before key reading_order))
-
-changes_agree : (path : List Step) (value : Data) (first : Option Data) (second : Data) → Changes path value first second → Agrees path value first second
-changes_agree [] value first second c = c
-changes_agree (at_key key ∷ path) value first second c = record {
-  old = c.old;
-  new = c.new;
-  was = c.was;
-  is = c.is;
-  value = c.value;
-  here = c.differs.here;
-  earlier = λ other holds. c.differs.elsewhere other (other_key other key holds);
-  keys = λ other ne. ap is_some (c.differs.elsewhere other ne);
-  agree = changes_agree path value (get_member key c.old) c.value c.change;
-}
-changes_agree (at_number n ∷ path) value first second c = record {
-  index = c.index;
-  number = c.number;
-  old = c.items;
-  new = set_item c.index c.value c.items;
-  was = c.was;
-  is = c.is;
-  entry = c.entry;
-  there = c.there;
-  value = c.value;
-  here = at_set c.index c.value c.entry c.items c.there;
-  earlier = λ i low. before_set c.index c.value c.items i low;
-  size = count_set c.index c.value c.items;
-  agree = changes_agree path value (Some c.entry) c.value c.change;
-}
-
-pub single_change : SingleChangeAgrees
-single_change first second g part value d = changes_agree (part_path g.kind part) value (Some (table first)) (table second) d

@@ -26,7 +26,8 @@ use Rattle.sg_format.proofs.Accepted.{game_of_table-game}
 use Rattle.sg_format.proofs.Shapes.{matrix_form}
 use Rattle.std.proofs.lemmas.Int.{ints}
 use Rattle.sg_format.specs.Documents.{number_at}
-use Rattle.sg_format.proofs.Scales.{number_right, IsRead, limits_fail, read_game}
+use Rattle.sg_format.proofs.Scales.{IsRead, limits_fail, read_game}
+use Rattle.sg_format.proofs.OtherPayoffs.{number_right}
 
 reads_by : {A : Type 0} (r : Result A GameFault) → fault_in r ≡ None → (x : A) × (r ≡ Ok x)
 reads_by (Ok x) e = (x, refl)

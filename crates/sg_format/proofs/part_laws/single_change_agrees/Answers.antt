@@ -1,4 +1,4 @@
-use Rattle.sg_format.proofs.PartFaults.{single_change}
+use Rattle.sg_format.proofs.SingleChanges.{single_change}
 use Rattle.sg_format.proofs.part_laws.single_change_agrees.Goals as goal
 
 pub returns : goal.returns

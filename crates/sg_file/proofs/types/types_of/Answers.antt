@@ -2,26 +2,25 @@ use Rattle.std.proofs.Common.{◌≡◌, ◌∙◌, ◌+◌, length, map, get_or
 use Rattle.std.proofs.lemmas.List.{map_push, length-map}
 use Rattle.toml.specs.View.{view as data_of}
 use Rattle.sg_model.specs.Games.{Attacker}
-use Rattle.sg_model.specs.declared.fault.Place.TheVariants as place_of
 use Rattle.sg_game.specs.Seen.{attacker_of}
-use Rattle.sg_format.specs.Types.{security_type_at}
+use Rattle.sg_file.specs.Sections.{type_at}
 use Rattle.sg_file.specs.Answers.{Fails}
 use Rattle.sg_file.proofs.Items.{each-done, numbered-Fails, numbered-next}
-use Rattle.sg_file.proofs.types.security_types_of.Goals as goal
+use Rattle.sg_file.proofs.types.types_of.Goals as goal
 
 pub returns-in-Err : goal.returns-in-Err
 returns-in-Err c =
     let before = map attacker_of c.loop-i.types.items in
-    let read : Fails c.in-Err.e (security_type_at (place_of.Attacker (c.loop-i.i + 1)) c.args.scaled c.args.targets before (data_of (get_or c.args.values.now c.loop-i.i c.index-values-i.result))) =
+    let read : Fails c.in-Err.e (type_at c.args.form (c.loop-i.i + 1) before (data_of (get_or c.args.values.now c.loop-i.i c.index-values-i.result))) =
     rw (← c.index-values-i.is) (c.in-Err.ensures.gives before c.loop-i.invariant.indexed) in
-    rw (← c.loop-i.invariant.read) (numbered-Fails attacker_of (λ n. security_type_at (place_of.Attacker n) c.args.scaled c.args.targets) c.loop-i.types.items c.args.values.now c.loop-i.i (omega arith) c.index-values-i.result c.in-Err.e c.loop-i-test.true read)
+    rw (← c.loop-i.invariant.read) (numbered-Fails attacker_of (type_at c.args.form) c.loop-i.types.items c.args.values.now c.loop-i.i (omega arith) c.index-values-i.result c.in-Err.e c.loop-i-test.true read)
 
 pub loop-i-preserved : goal.loop-i-preserved
 loop-i-preserved c =
     let before = map attacker_of c.loop-i.types.items in
-    let read : security_type_at (place_of.Attacker (c.loop-i.i + 1)) c.args.scaled c.args.targets before (data_of (get_or c.args.values.now c.loop-i.i c.index-values-i.result)) ≡ Ok (attacker_of c.in-Ok.attacker) =
+    let read : type_at c.args.form (c.loop-i.i + 1) before (data_of (get_or c.args.values.now c.loop-i.i c.index-values-i.result)) ≡ Ok (attacker_of c.in-Ok.attacker) =
     rw (← c.index-values-i.is) (c.in-Ok.ensures.gives before c.loop-i.invariant.indexed) in
-    let next = numbered-next attacker_of (λ n. security_type_at (place_of.Attacker n) c.args.scaled c.args.targets) c.loop-i.types.items c.args.values.now c.loop-i.i (omega arith) c.index-values-i.result c.in-Ok.attacker c.loop-i-test.true read in
+    let next = numbered-next attacker_of (type_at c.args.form) c.loop-i.types.items c.args.values.now c.loop-i.i (omega arith) c.index-values-i.result c.in-Ok.attacker c.loop-i-test.true read in
     let names_count : c.loop-i.i + 1 ≡ length (map (λ (x : Attacker). x.name) before) + 1 = omega (arith, length-map before (λ (x : Attacker). x.name), length-map c.loop-i.types.items attacker_of) in
     record {
       count = rw (c.in_ok-push-in-Ok.ensures.len) (omega arith);
