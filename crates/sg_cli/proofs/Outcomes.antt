@@ -1,5 +1,5 @@
 -- A run that tells a refusal answers by it.
-use Rattle.std.proofs.Common.{◌≡◌, ◌≢◌, ◌⊎◌, ℕ, List, [], ◌∷◌, Option, Some, refl, sym, ◌∙◌, ap, subst, arith, inl, inr}
+use Rattle.std.proofs.Common.{◌≡◌, ◌≢◌, ◌⊎◌, ℕ, List, [], ◌∷◌, Option, Some, sym, ◌∙◌, ap, subst, arith, inl, inr}
 use Rattle.sg_cli.specs.Refusals.{status_of, HasNumbers}
 use Rattle.sg_words.specs.Commands.{Asked, solve, check, show}
 use Rattle.sg_shelf.specs.Logs.{Log}

@@ -170,7 +170,11 @@ fn keep(
         Ok(name) => name,
         Err(_) => return Err(ShelfError::Memory),
     };
-    match log.push(Reading { name, limit, outcome }) {
+    match log.push(Reading {
+        name,
+        limit,
+        outcome,
+    }) {
         Ok(()) => Ok(()),
         Err(_) => Err(ShelfError::Memory),
     }
@@ -209,9 +213,7 @@ impl Shelf for LongReport {
 fn is_logged(log: &[Reading], readings: &[(&str, usize, Outcome)]) -> bool {
     log.len() == readings.len()
         && log.iter().zip(readings).all(|(reading, (name, limit, outcome))| {
-            reading.name.as_str() == *name
-                && reading.limit == *limit
-                && reading.outcome == *outcome
+            reading.name.as_str() == *name && reading.limit == *limit && reading.outcome == *outcome
         })
 }
 
