@@ -2,7 +2,7 @@
 use Rattle.std.proofs.Common.{◌≡◌, ℕ, ◌-◌, ◌^◌, true, [], ◌∷◌, ◌++◌, refl, Some, None}
 use Rattle.std.specs.Prelude.{min}
 use Rattle.sg_frac.specs.Fractions.{Fraction}
-use Rattle.sg_model.specs.Examples.{neighbours, two_players}
+use Rattle.sg_model.specs.Examples.{neighbours, two_players, two_thieves}
 use Rattle.sg_tree.specs.declared.fact.Fact.{Fact}
 use Rattle.sg_tree.specs.declared.tree.Tree.{Tree}
 use Rattle.sg_tree.specs.declared.tree.Tree.TheVariants.{Unproved, Closed, Split}
@@ -14,7 +14,7 @@ use Rattle.sg_bounds.specs.Checking.{IsRefused}
 use Rattle.sg_bounds.proofs.Nodes.{node_of-Closed, node_of-Unproved}
 use Rattle.sg_bounds.proofs.Answering.{answer, stops_at}
 use Rattle.sg_bounds.specs.Examples.{mark, one_alone, one_type_tree, open_below, over, over_plays, plain_cap, proved_cap, reported, second_fact, shared_fact, short_fact, two_caps}
-use Rattle.sg_bounds.specs.OrderExamples.{WorkedOrders, beside_fact, deepest_fact, false_and_wide, ranked_players, ranked_report, ranked_tree, second_short, third_cap, three_players, three_types_report, wrong_and_wide, wrong_twice}
+use Rattle.sg_bounds.specs.OrderExamples.{WorkedOrders, beside_fact, deepest_fact, false_and_wide, ranked_players, ranked_report, ranked_tree, second_short, thieves_fact, thieves_report, third_cap, three_players, three_types_report, wrong_and_wide, wrong_twice}
 use Rattle.sg_bounds.proofs.Worked.{below_is, below_node, caps_wrong, first_open, nested_parts, one_more, open_is, open_node, open_part, reduced_test, right, split-nodes, three_facts, three_parts, two_facts, two_parts, wrong}
 
 abbrev nested_bases : Fact → Fact → Node
@@ -49,6 +49,19 @@ ranked_wrong : (deepest beside : Fact) (upper : Fraction) (line reason : ℕ) �
     → IsRefused ranked_players (ranked_report deepest beside upper) line reason
 ranked_wrong deepest beside upper = wrong ranked_players (ranked_report deepest beside upper) (ranked_node deepest beside) (ranked_is deepest beside)
 
+abbrev thieves_node : ℕ → Node
+thieves_node mu = split 1 None (parts_of (split 2 None (parts_of (unproved ∷ closed (thieves_fact mu) ∷ [])) ∷ unproved ∷ []))
+
+thieves_is : (mu : ℕ) (upper : Fraction) → node_of (thieves_report mu upper).tree ≡ thieves_node mu
+thieves_is mu upper =
+    let f = thieves_fact mu in
+    let inner : Tree = Split 2 None (Unproved ∷ Closed f ∷ []) in
+    let node : Node = split 2 None (parts_of (unproved ∷ closed f ∷ [])) in
+    let inner_is = split-nodes 2 None (Unproved ∷ Closed f ∷ []) (unproved ∷ closed f ∷ [])
+    (one_more Unproved unproved (Closed f ∷ []) (closed f ∷ []) node_of-Unproved (one_more (Closed f) (closed f) [] [] (node_of-Closed f) refl)) in
+    split-nodes 1 None (inner ∷ Unproved ∷ []) (node ∷ unproved ∷ [])
+    (one_more inner node (Unproved ∷ []) (unproved ∷ []) inner_is (one_more Unproved unproved [] [] node_of-Unproved refl))
+
 pub worked_orders : WorkedOrders
 worked_orders = record {
   three_types = right three_players (three_types_report (two_caps ++ (third_cap (over_plays 3 11 (mark 3 1 1 ∷ [])) ∷ []))) open_node open_is refl refl refl refl;
@@ -66,4 +79,6 @@ worked_orders = record {
   cap_before_tree = wrong two_players (reported one_alone 1 (over 3 1) [] (one_type_tree (over_plays 1 1 []) second_fact) (over 4 1) (Gap (Nodes 1))) (two_facts (over_plays 1 1 []) second_fact) (two_parts 1 None (over_plays 1 1 []) second_fact) 5 4 refl refl;
   split_before_base = wrong two_players (reported one_alone 1 (over 3 1) (plain_cap 2 4) (open_below (over_plays 1 2 []) 1 (Some (over_plays 3 10 (mark 1 1 1 ∷ [])))) (over 4 1) (Gap (Nodes 1))) (below_node (over_plays 1 2 []) 1 (Some (over_plays 3 10 (mark 1 1 1 ∷ [])))) (below_is (over_plays 1 2 []) 1 (Some (over_plays 3 10 (mark 1 1 1 ∷ [])))) 9 5 refl refl;
   base_wide = wrong two_players (reported one_alone 1 (over 3 1) (plain_cap 2 4) (open_below (over_plays 1 2 []) 2 (Some (over_plays 1 (2 ^ 127 - 1) []))) (over 4 1) (Gap (Nodes 1))) (below_node (over_plays 1 2 []) 2 (Some (over_plays 1 (2 ^ 127 - 1) []))) (below_is (over_plays 1 2 []) 2 (Some (over_plays 1 (2 ^ 127 - 1) []))) 10 9 refl refl;
+  thieves = right two_thieves (thieves_report 52 (over 22 5)) (thieves_node 52) (thieves_is 52 (over 22 5)) refl refl refl refl;
+  thieves_short = wrong two_thieves (thieves_report 51 (over 22 5)) (thieves_node 51) (thieves_is 51 (over 22 5)) 11 6 refl refl;
 }

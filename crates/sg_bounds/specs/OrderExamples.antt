@@ -2,7 +2,7 @@
 use Rattle.std.specs.Prelude.{ℕ, ◌-◌, ◌^◌, List, [], ◌∷◌, ◌++◌, ℤ, pos, codes, Some, None}
 use Rattle.sg_frac.specs.Fractions.{Fraction}
 use Rattle.sg_model.specs.Games.{Game}
-use Rattle.sg_model.specs.Examples.{leads, neighbour_tickets, neighbours, player, tabled, two_players}
+use Rattle.sg_model.specs.Examples.{leads, neighbour_tickets, neighbours, player, tabled, ticket, two_players, two_thieves}
 use Rattle.sg_tree.specs.declared.fact.Fact.{Fact}
 use Rattle.sg_tree.specs.declared.tree.Tree.{Tree}
 use Rattle.sg_tree.specs.declared.tree.Tree.TheVariants.{Unproved, Closed, Split}
@@ -12,7 +12,7 @@ use Rattle.sg_tree.specs.declared.report.Ending.TheVariants.{Optimal, Gap}
 use Rattle.sg_tree.specs.declared.report.Report.{Report}
 use Rattle.sg_bounds.specs.Accepted.{IsAccepted}
 use Rattle.sg_bounds.specs.Checking.{IsRefused}
-use Rattle.sg_bounds.specs.Examples.{low_leads, mark, one_alone, one_type_tree, open_below, open_tree, over, over_plays, plain_cap, proved_cap, reported, second_fact, shared_fact, short_fact, two_caps, two_types_report, under, weighing, with_caps}
+use Rattle.sg_bounds.specs.Examples.{low_leads, mark, one_alone, one_type_tree, open_below, open_tree, over, over_cover, over_plays, plain_cap, proved_cap, reported, row, second_fact, shared_fact, short_fact, two_caps, two_types_report, under, weighing, with_caps}
 
 -- ---- three types
 
@@ -81,6 +81,18 @@ deepest_fact mu = over_plays 1 mu (mark 3 2 1 ∷ [])
 abbrev pub beside_fact : Fact
 beside_fact = over_plays 1 7 (mark 2 1 1 ∷ [])
 
+-- ---- two types that attack two targets
+
+-- the first type attacks the first target and the second type the second: by column, 26 = 52 - 2 - 3 - 8 - 5 - 2 * 1 - 3 * 2 of the whole,
+-- 0 = 2 - 2, 3 - 3 and 3 - 2 - 1 at most of the choices, 8 = 3 + 8 + 5 * 1 - 4 * 2 and 15 = 2 + 5 - 4 * 1 + 6 * 2 of the targets
+abbrev pub thieves_fact : ℕ → Fact
+thieves_fact mu = over_cover 1 mu (row 1 2 ∷ row 2 3 ∷ row 3 3 ∷ row 4 2 ∷ row 5 8 ∷ row 6 5 ∷ row 7 1 ∷ row 8 2 ∷ [])
+
+-- both resources at the second target, worth (2 * -5 + 3 * 3) / 5, under the bound of the fact, (mu - 6 * 5) / 5
+abbrev pub thieves_report : ℕ → Fraction → Report
+thieves_report mu upper =
+    reported (ticket 1 (1 ∷ 2 ∷ []) ∷ []) 1 (under 1 5) (plain_cap 2 7) (Split 1 None (Split 2 None (Unproved ∷ Closed (thieves_fact mu) ∷ []) ∷ Unproved ∷ [])) upper (Gap (Nodes 3))
+
 -- the answers, as worked out by hand
 pub record WorkedOrders : Type 0 where
   pub three_types : IsAccepted three_players (three_types_report (two_caps ++ (third_cap (over_plays 3 11 (mark 3 1 1 ∷ [])) ∷ [])))
@@ -105,3 +117,6 @@ pub record WorkedOrders : Type 0 where
   pub split_before_base : IsRefused two_players (reported one_alone 1 (over 3 1) (plain_cap 2 4) (open_below (over_plays 1 2 []) 1 (Some (over_plays 3 10 (mark 1 1 1 ∷ [])))) (over 4 1) (Gap (Nodes 1))) 9 5
   -- a base whose bound doesn't fit
   pub base_wide : IsRefused two_players (reported one_alone 1 (over 3 1) (plain_cap 2 4) (open_below (over_plays 1 2 []) 2 (Some (over_plays 1 (2 ^ 127 - 1) []))) (over 4 1) (Gap (Nodes 1))) 10 9
+  -- 22 / 5, which is above the root's bound, (2 * -1 + 3 * 7) / 5
+  pub thieves : IsAccepted two_thieves (thieves_report 52 (over 22 5))
+  pub thieves_short : IsRefused two_thieves (thieves_report 51 (over 22 5)) 11 6
