@@ -1,12 +1,12 @@
 -- What payoffs and their differences are at most, over plays and over targets.
-use Rattle.std.proofs.Common.{◌≡◌, ℕ, ◌≤◌, Bool, true, false, cond, List, [], ◌∷◌, map, length, ℤ, pos, ◌+ℤ◌, ◌-ℤ◌, ◌≤ℤ◌, arith, MatchBool, flat_map, slice_index}
+use Rattle.std.proofs.Common.{◌≡◌, ℕ, ◌≤◌, List, [], ◌∷◌, map, length, ℤ, pos, ◌+ℤ◌, ◌-ℤ◌, ◌≤ℤ◌, arith, flat_map}
 use Rattle.std.specs.List.{Contains}
 use Rattle.std.proofs.lemmas.Int.{ints, int_max_is}
 use Rattle.std.proofs.lemmas.List.Elements.{All-contains}
 use Rattle.sg_model.specs.declared.kind.Kind.TheVariants.{Security}
 use Rattle.sg_model.specs.Sums.{greatest, least, nth, numbers}
-use Rattle.sg_model.specs.Games.{Game, action_count, attacker, is_matrix, payoff}
-use Rattle.sg_model.specs.Plays.{IsLegal, IsLegalJoint, IsRow, covers, pay_a, pay_d}
+use Rattle.sg_model.specs.Games.{Game, action_count, attacker, payoff}
+use Rattle.sg_model.specs.Plays.{IsLegal, covers, pay_a, pay_d}
 use Rattle.sg_model.specs.Payoffs.{payoffs_at, payoffs_of, shift_of}
 use Rattle.sg_model.proofs.Best.{greatest-bounds}
 use Rattle.sg_model.proofs.Forms.{no_matrix}

@@ -1,12 +1,11 @@
 -- Tests that decide: of numbers, lists, plays and columns.
-use Rattle.std.proofs.Common.{◌≡◌, ℕ, zero, suc, ◌+◌, ◌<◌, ◌≤◌, Bool, true, false, true≢false, cond, not, ◌||◌, List, [], ◌∷◌, map, ℤ, ◌≤ℤ◌, sym, ◌∙◌, ap, subst, refl, arith, nat_le, int_le, MatchBool, slice_index_or, flat_map, inl, inr, ◌⊎◌}
+use Rattle.std.proofs.Common.{◌≡◌, ℕ, zero, suc, ◌≤◌, Bool, true, false, true≢false, cond, not, ◌||◌, List, [], ◌∷◌, ℤ, ◌≤ℤ◌, sym, ◌∙◌, subst, refl, arith, nat_le, int_le, MatchBool, slice_index_or, inl, inr, ◌⊎◌}
 use Rattle.std.specs.Bool.{Decides}
 use Rattle.std.specs.List.{All, Contains, list_all, list_any}
 use Rattle.std.proofs.lemmas.Int.{ints}
-use Rattle.std.proofs.lemmas.Bool.{cases_eq}
 use Rattle.std.proofs.lemmas.Bool.Decides.{nat_tests, Decides-by_and, Decides-like, Decides-or}
-use Rattle.std.proofs.lemmas.List.Elements.{All-contains, Contains-append_left, Contains-append_right}
-use Rattle.sg_model.specs.Sums.{numbers, numbers_from}
+use Rattle.std.proofs.lemmas.List.Elements.{All-contains}
+use Rattle.sg_model.specs.Sums.{numbers}
 use Rattle.sg_model.proofs.Greatest.{Contains-head, Contains-tail}
 use Rattle.sg_model.proofs.Numbers.{All-numbers, All-numbers-at}
 

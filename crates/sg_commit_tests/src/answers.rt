@@ -8,6 +8,7 @@ ghost use Rattle.sg_game.specs.Counts.{IsActionOf, IsTypeOf};
 mod wide;
 mod worked;
 
+use crate::cases::{Wanted, are_met};
 use crate::games::{Drawn, PAY, Player, Shares, commitment, game};
 use sg_commit::{Commitment, are_legal, cover_count, is_best, sum_a, sum_d, take, value, worth};
 use sg_game::{Game, Kind};
@@ -170,21 +171,13 @@ fn gives_all(game: &Game, k: &Commitment, case: &Case) -> bool {
         && is_worth(game, k, &case.value)
 }
 
-/// Whether a case is met.
-fn is_met(alloc: Global, case: &Case) -> Result<bool, Fail> {
-    let game = game(alloc, case.game, case.priors)?;
-    let k = commitment(alloc, case.parts)?;
-    Ok(gives_all(&game, &k, case))
-}
-
-/// Whether all cases are met.
-fn are_met(alloc: Global, cases: &[Case]) -> Result<bool, Fail> {
-    for case in cases {
-        if !is_met(alloc, case)? {
-            return Ok(false);
-        }
+impl Wanted for Case {
+    /// Whether the case is met.
+    fn is_met(&self, alloc: Global) -> Result<bool, Fail> {
+        let game = game(alloc, self.game, self.priors)?;
+        let k = commitment(alloc, self.parts)?;
+        Ok(gives_all(&game, &k, self))
     }
-    Ok(true)
 }
 
 #[test]

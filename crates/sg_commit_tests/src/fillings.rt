@@ -1,5 +1,6 @@
 //! Games whose fillings were worked out by hand.
 
+use crate::cases::{Wanted, are_met};
 use crate::games::{Table, numbered, patrolled};
 use sg_game::{Game, Level};
 use sg_origami::{Filling, water};
@@ -132,21 +133,13 @@ fn is_filled(alloc: Global, game: &Game, case: &Case) -> bool {
     }
 }
 
-/// Whether a case is met.
-fn is_met(alloc: Global, case: &Case) -> Result<bool, Fail> {
-    let goals = numbered(alloc, case.payoffs.len())?;
-    let game = patrolled(alloc, case.scale, case.patrols, goals, case.payoffs)?;
-    Ok(is_filled(alloc, &game, case))
-}
-
-/// Whether all cases are met.
-fn are_met(alloc: Global, cases: &[Case]) -> Result<bool, Fail> {
-    for case in cases {
-        if !is_met(alloc, case)? {
-            return Ok(false);
-        }
+impl Wanted for Case {
+    /// Whether the case is met.
+    fn is_met(&self, alloc: Global) -> Result<bool, Fail> {
+        let goals = numbered(alloc, self.payoffs.len())?;
+        let game = patrolled(alloc, self.scale, self.patrols, goals, self.payoffs)?;
+        Ok(is_filled(alloc, &game, self))
     }
-    Ok(true)
 }
 
 #[test]

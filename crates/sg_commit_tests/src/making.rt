@@ -1,5 +1,6 @@
 //! What is made of parts: tickets in order, joined and in lowest terms, or the first fault.
 
+use crate::cases::{Wanted, are_met};
 use crate::games::{HALF, MOST, Shares, commitment, has_tickets, parts};
 use sg_commit::{Commitment, PartFault};
 use sg_model::{Play, Ticket};
@@ -154,26 +155,18 @@ fn is_of(k: &Commitment, tickets: Shares, total: i128) -> bool {
     k.total() == total && has_tickets(k.tickets(), tickets)
 }
 
-/// Whether parts give what is wanted, and a copy of it too.
-fn is_met(alloc: Global, case: &Case) -> Result<bool, Fail> {
-    let (shares, wanted) = case;
-    match (Commitment::of(parts(alloc, shares)?), wanted) {
-        (Ok(k), Ok((tickets, total))) => {
-            Ok(is_of(&k, tickets, *total) && is_of(&k.copy(alloc)?, tickets, *total))
-        }
-        (Err(fault), Err(wanted)) => Ok(fault == *wanted),
-        _ => Ok(false),
-    }
-}
-
-/// Whether all cases are met.
-fn are_met(alloc: Global, cases: &[Case]) -> Result<bool, Fail> {
-    for case in cases {
-        if !is_met(alloc, case)? {
-            return Ok(false);
+impl Wanted for Case {
+    /// Whether parts give what is wanted, and a copy of it too.
+    fn is_met(&self, alloc: Global) -> Result<bool, Fail> {
+        let (shares, wanted) = self;
+        match (Commitment::of(parts(alloc, shares)?), wanted) {
+            (Ok(k), Ok((tickets, total))) => {
+                Ok(is_of(&k, tickets, *total) && is_of(&k.copy(alloc)?, tickets, *total))
+            }
+            (Err(fault), Err(wanted)) => Ok(fault == *wanted),
+            _ => Ok(false),
         }
     }
-    Ok(true)
 }
 
 #[test]

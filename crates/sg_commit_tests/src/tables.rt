@@ -1,5 +1,6 @@
 //! Tables worked out by hand.
 
+use crate::cases::{Wanted, are_met};
 use crate::games::{Drawn, GATE_AND_HALL, HALF, Player, Shares, commitment, game};
 use sg_commit::{Commitment, are_legal};
 use sg_frac::Frac;
@@ -115,23 +116,15 @@ fn is_shown(alloc: Global, game: &Game, k: &Commitment, upper: Frac, case: &Case
     }
 }
 
-/// Whether a case is met.
-fn is_met(alloc: Global, case: &Case) -> Result<bool, Fail> {
-    let (num, den) = case.upper;
-    let upper = Frac::of(num, den).ok_or("a fraction")?;
-    let game = game(alloc, case.game, case.priors)?;
-    let k = commitment(alloc, case.tickets)?;
-    Ok(is_shown(alloc, &game, &k, upper, case))
-}
-
-/// Whether all cases are met.
-fn are_met(alloc: Global, cases: &[Case]) -> Result<bool, Fail> {
-    for case in cases {
-        if !is_met(alloc, case)? {
-            return Ok(false);
-        }
+impl Wanted for Case {
+    /// Whether the case is met.
+    fn is_met(&self, alloc: Global) -> Result<bool, Fail> {
+        let (num, den) = self.upper;
+        let upper = Frac::of(num, den).ok_or("a fraction")?;
+        let game = game(alloc, self.game, self.priors)?;
+        let k = commitment(alloc, self.tickets)?;
+        Ok(is_shown(alloc, &game, &k, upper, self))
     }
-    Ok(true)
 }
 
 #[test]

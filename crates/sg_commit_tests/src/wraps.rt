@@ -4,6 +4,7 @@ ghost use Rattle.sg_model.specs.Limits.{IsWithin};
 ghost use Rattle.sg_model.specs.Sums.{total};
 ghost use Rattle.sg_split.specs.Laying.{AreCounts};
 
+use crate::cases::{Wanted, are_met};
 use crate::games::{PAY, Shares, has_tickets, numbered, patrolled};
 use sg_commit::Commitment;
 use sg_game::{Game, Kind};
@@ -253,23 +254,15 @@ fn great_totals() -> &'static [Case] {
     CASES
 }
 
-/// Whether the tickets of a case are those that are wanted.
-fn is_met(alloc: Global, case: &Case) -> Result<bool, Fail> {
-    let game = even_game(alloc, case.patrols, case.counts.len())?;
-    Ok(match wrapped(alloc, &game, case.counts, case.total) {
-        Some(k) => has_tickets(k.tickets(), case.tickets),
-        None => false,
-    })
-}
-
-/// Whether all cases are met.
-fn are_met(alloc: Global, cases: &[Case]) -> Result<bool, Fail> {
-    for case in cases {
-        if !is_met(alloc, case)? {
-            return Ok(false);
-        }
+impl Wanted for Case {
+    /// Whether the tickets of a case are those that are wanted.
+    fn is_met(&self, alloc: Global) -> Result<bool, Fail> {
+        let game = even_game(alloc, self.patrols, self.counts.len())?;
+        Ok(match wrapped(alloc, &game, self.counts, self.total) {
+            Some(k) => has_tickets(k.tickets(), self.tickets),
+            None => false,
+        })
     }
-    Ok(true)
 }
 
 #[test]

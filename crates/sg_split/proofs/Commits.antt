@@ -1,25 +1,21 @@
 -- From the tickets of all moments to a commitment.
-use Rattle.std.proofs.Common.{◌≡◌, ℕ, zero, suc, ◌+◌, ◌<◌, ◌≤◌, Bool, true, false, cond, List, [], ◌∷◌, length, ℤ, pos, ◌+ℤ◌, ◌*ℤ◌, ◌≤ℤ◌, ap, subst, sym, ◌∙◌, refl, arith, get_or, bytes_eq, None, Ok}
+use Rattle.std.proofs.Common.{◌≡◌, ℕ, ◌+◌, ◌≤◌, true, List, [], ◌∷◌, length, ℤ, pos, ◌+ℤ◌, ◌*ℤ◌, ◌≤ℤ◌, ap, subst, sym, ◌∙◌, refl, arith, get_or, bytes_eq, None, Ok}
 use Rattle.std.specs.Int.{w128, ◌∣◌}
 use Rattle.std.specs.List.{All}
 use Rattle.std.specs.Prelude.{FitsSigned, int_le, unsigned_abs}
 use Rattle.std.proofs.lemmas.Int.{ints, unsigned_abs-mul}
-use Rattle.std.proofs.lemmas.List.Elements.{All-head, All-tail, All-weaker}
+use Rattle.std.proofs.lemmas.List.Elements.{All-head, All-tail}
 use Rattle.std.proofs.Math.Nat.{dvd-mul_left}
-use Rattle.std.proofs.lemmas.Slice.Eq.{bytes_eq-Decides}
 use Rattle.sg_model.specs.declared.ticket.Ticket.{Ticket}
-use Rattle.sg_model.specs.Sums.{nth, numbers_from, total}
+use Rattle.sg_model.specs.Sums.{nth, numbers_from}
 use Rattle.sg_model.specs.Games.{Game, resource_count}
 use Rattle.sg_model.specs.Limits.{IsGame}
 use Rattle.sg_model.specs.Plays.{IsLegal, covers}
 use Rattle.sg_model.specs.Commitments.{cover_count, scaled, weight_on, weight_total}
 use Rattle.sg_model.specs.OptimalityLaws.{AreOneMix}
-use Rattle.sg_model.proofs.Ints.{v, n, plus, times, same_by, mul-le}
+use Rattle.sg_model.proofs.Ints.{v, times, same_by, mul-le}
 use Rattle.sg_model.proofs.Joined.{same_cover_count, same_weight_total}
 use Rattle.sg_model.proofs.Scaled.{weight_total-scaled}
-use Rattle.sg_model.proofs.Covers.{weight_total-nonneg}
-use Rattle.sg_num.specs.declared.step.Op.TheVariants.{Sum}
-use Rattle.sg_num.proofs.Steps.{exact-fits, fits-from_FitsSigned}
 use Rattle.sg_commit.specs.Committed.{Committed, IsCommitted}
 use Rattle.sg_commit.proofs.Kept.{has_weight, kept, scaled-passing}
 use Rattle.sg_commit.proofs.SharedTotals.{exact_total-fits}

@@ -28,9 +28,8 @@ returns-then-has_cell c =
     let q : FitsSigned w128 c.count_at-count.result = record { sfits = c.count_at-count.type_inv } in
     let w : FitsSigned w128 c.args.total = c.ranges.total in
     let s : FitsSigned w128 c.counted_a.result = record { sfits = c.counted_a.type_inv } in
-    let e = simp to_z-of_z at c.counted_a.ensures in
-    (
+    let e = simp to_z-of_z at c.counted_a.ensures in (
       table_a-fits c.args.game.now c.promises.ensures c.args.tickets.now c.args.table.now is c.args.a,
       to_z-of_z w128 c.counted_a.result s
-      ∙ table_a-is c.args.game.now c.promises.ensures c.args.tickets.now c.args.table.now is c.args.a c.requires.known_action c.args.total c.count_at-count.result c.requires.total c.count_at-count.ensures c.counted_a.result e,
+          ∙ table_a-is c.args.game.now c.promises.ensures c.args.tickets.now c.args.table.now is c.args.a c.requires.known_action c.args.total c.count_at-count.result c.requires.total c.count_at-count.ensures c.counted_a.result e,
     )

@@ -28,9 +28,8 @@ returns-then-has_cell c =
     let q : FitsSigned w128 c.count_at-count.result = record { sfits = c.count_at-count.type_inv } in
     let w : FitsSigned w128 c.args.total = c.ranges.total in
     let s : FitsSigned w128 c.counted_d.result = record { sfits = c.counted_d.type_inv } in
-    let e = simp to_z-of_z at c.counted_d.ensures in
-    (
+    let e = simp to_z-of_z at c.counted_d.ensures in (
       table_d-fits c.args.game.now c.promises.ensures c.args.tickets.now c.args.table.now is c.args.a,
       to_z-of_z w128 c.counted_d.result s
-      ∙ table_d-is c.args.game.now c.promises.ensures c.args.tickets.now c.args.table.now is c.args.a c.requires.known_action c.args.total c.count_at-count.result c.requires.total c.count_at-count.ensures c.counted_d.result e,
+          ∙ table_d-is c.args.game.now c.promises.ensures c.args.tickets.now c.args.table.now is c.args.a c.requires.known_action c.args.total c.count_at-count.result c.requires.total c.count_at-count.ensures c.counted_d.result e,
     )
