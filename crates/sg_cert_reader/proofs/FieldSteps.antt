@@ -44,7 +44,7 @@ taken_rest before f more e = rw e refl
 
 -- ---- the fixed words, one after the other
 
-pub words_step : (ws fs : List (List ℕ)) (w : List ℕ) (more : List (List ℕ)) → ws ≡ w ∷ more → words_of ws fs ≡ (word_at w (slice_get fs 0) >>= λ _. words_of more (drop 1 fs))
+words_step : (ws fs : List (List ℕ)) (w : List ℕ) (more : List (List ℕ)) → ws ≡ w ∷ more → words_of ws fs ≡ (word_at w (slice_get fs 0) >>= λ _. words_of more (drop 1 fs))
 unfolding words_of
 words_step ws fs w more e = rw e refl
 
@@ -52,7 +52,7 @@ pub words_end : (ws fs : List (List ℕ)) → ws ≡ [] → words_of ws fs ≡ O
 unfolding words_of
 words_end ws fs e = rw e refl
 
-pub spelled_step : (ws fs : List (List ℕ)) (f : List ℕ) (more : List (List ℕ)) → fs ≡ f ∷ more → spelled_of ws fs ≡ (spelled_at (slice_get ws 0) f && spelled_of (drop 1 ws) more)
+spelled_step : (ws fs : List (List ℕ)) (f : List ℕ) (more : List (List ℕ)) → fs ≡ f ∷ more → spelled_of ws fs ≡ (spelled_at (slice_get ws 0) f && spelled_of (drop 1 ws) more)
 unfolding spelled_of
 spelled_step ws fs f more e = rw e refl
 

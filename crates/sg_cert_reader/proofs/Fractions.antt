@@ -27,12 +27,12 @@ shares_gcd a b (suc (suc g)) low h =
     let t : (suc (suc g) == 1) ≡ false = grind (arith, nat_tests) in
     rw t (shares_some a b b (suc (suc g)) (omega arith) (le_of_dvd (omega arith) h.1) h.0 h.1)
 
-pub same_fraction : (n d : ℤ) (f : Fraction) → pos 1 ≤ℤ d → shares (unsigned_abs n) (unsigned_abs d) (unsigned_abs d) ≡ false → IsReducedForm n d f → f ≡ parts n d
+same_fraction : (n d : ℤ) (f : Fraction) → pos 1 ≤ℤ d → shares (unsigned_abs n) (unsigned_abs d) (unsigned_abs d) ≡ false → IsReducedForm n d f → f ≡ parts n d
 same_fraction n d f low e h =
     let other : d ≢ pos 0 = λ z. absurd (omega (arith, ints, z, low)) in
     reduced_form-unique n d f (parts n d) other h (record { reduced = reduced_from_shares n d low e; equal = refl })
 
-pub never_wide : (n d : ℤ) → pos 1 ≤ℤ d → fits n ≡ true → fits d ≡ true → shares (unsigned_abs n) (unsigned_abs d) (unsigned_abs d) ≡ false
+never_wide : (n d : ℤ) → pos 1 ≤ℤ d → fits n ≡ true → fits d ≡ true → shares (unsigned_abs n) (unsigned_abs d) (unsigned_abs d) ≡ false
     → (d ≡ pos 0) ⊎ IsReducedFormWide n d → ⊥
 never_wide n d low a b e (inl z) = absurd (omega (arith, ints, z, low))
 never_wide n d low a b e (inr w) = let same = same_fraction n d w.0 low e w.1.0 in w.1.1 (rw same (a, b))

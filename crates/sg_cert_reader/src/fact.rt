@@ -39,13 +39,14 @@ fn mark_in(line: &[u8], before: Option<Mark>) -> Result<Mark, u8>
     Ok(Mark { l, a, v })
 }
 
-fn last_mark(marks: &[Mark]) -> Option<Mark>
-    ensures { result ≡ last marks.now }
+/// The last item, if any.
+fn last_item<T: Copy>(items: &[T]) -> Option<T>
+    ensures { result ≡ last items.now }
 {
-    if marks.is_empty() {
+    if items.is_empty() {
         None
     } else {
-        marks.get(marks.len() - 1).copied()
+        items.get(items.len() - 1).copied()
     }
 }
 
@@ -54,7 +55,7 @@ fn next_mark(lines: &mut Lines, done: &[Mark]) -> Result<Mark, ReportFault>
     ensures { Reads (λ m. m) result lines.new (mark_at done.now lines.old) }
 {
     let line = lines.next()?;
-    lines.within(mark_in(line, last_mark(done)))
+    lines.within(mark_in(line, last_item(done)))
 }
 
 fn marks(alloc: Global, lines: &mut Lines, k: u128) -> Result<Items<Mark>, ReportError>
@@ -91,22 +92,12 @@ fn row_in(line: &[u8], before: Option<Line>) -> Result<Line, u8>
     Ok(Line { row, v })
 }
 
-fn last_row(rows: &[Line]) -> Option<Line>
-    ensures { result ≡ last rows.now }
-{
-    if rows.is_empty() {
-        None
-    } else {
-        rows.get(rows.len() - 1).copied()
-    }
-}
-
 #[tactic(auto, unfolding(sg_cert::specs::Reading::row_at))]
 fn next_row(lines: &mut Lines, done: &[Line]) -> Result<Line, ReportFault>
     ensures { Reads (λ c. c) result lines.new (row_at done.now lines.old) }
 {
     let line = lines.next()?;
-    lines.within(row_in(line, last_row(done)))
+    lines.within(row_in(line, last_item(done)))
 }
 
 fn rows(alloc: Global, lines: &mut Lines, k: u128) -> Result<Items<Line>, ReportError>

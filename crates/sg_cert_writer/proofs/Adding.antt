@@ -17,16 +17,8 @@ Takes-both None b c x y p q = q ∙ rw p refl
 Takes-both (Some xs) b c x y p q = q ∙ rw p (ap Some (append_assoc xs x y))
 
 -- nothing is added
-pub Adds-none : (a : Shown) (p : List ℕ) → Adds a p a p []
+Adds-none : (a : Shown) (p : List ℕ) → Adds a p a p []
 Adds-none a p = record { put = []; taken = Takes-none a.0; all = sym (append-nil p); count = omega arith }
-
--- a text that only joins what is pending
-pub Adds-pending : (a : Shown) (p q t : List ℕ) → q ≡ p ++ t → Adds a p a q t
-Adds-pending a p q t e = record { put = []; taken = Takes-none a.0; all = e; count = omega arith }
-
--- all that is pending is put
-pub Adds-put : (a b : Shown) (p q : List ℕ) → Takes a.0 b.0 p → a.1 ≤ b.1 → q ≡ [] → Adds a p b q []
-Adds-put a b p q t n e = record { put = p; taken = t; all = ap (λ (xs : List ℕ). p ++ xs) e; count = n }
 
 pub Adds-trans : (a b c : Shown) (p q r t u : List ℕ) → Adds a p b q t → Adds b q c r u → Adds a p c r (t ++ u)
 Adds-trans a b c p q r t u x y = record {

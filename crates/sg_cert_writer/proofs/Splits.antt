@@ -10,10 +10,10 @@ use Rattle.sg_cert_writer.proofs.Adding.{folds_more, folds_stop, folds_end, fold
 use Rattle.sg_cert_writer.proofs.LineTexts.{folds_blocks, report_split}
 use Rattle.sg_cert.proofs.Trees.{rows_split}
 
-abbrev pub front_of : ℕ → Option Fact → List Tree → List ℕ
+abbrev front_of : ℕ → Option Fact → List Tree → List ℕ
 front_of l base parts = text_of (split_row l (length parts) ∷ base_rows base)
 
-pub texts_split : (t : Tree) (l : ℕ) (base : Option Fact) (parts : List Tree) → t ≡ Split l base parts → front_of l base parts ++ text_of (flat_map node_rows parts) ≡ text_of (node_rows t)
+texts_split : (t : Tree) (l : ℕ) (base : Option Fact) (parts : List Tree) → t ≡ Split l base parts → front_of l base parts ++ text_of (flat_map node_rows parts) ≡ text_of (node_rows t)
 texts_split t l base parts e = report_split (split_row l (length parts) ∷ base_rows base) (flat_map node_rows parts) ∙ ap text_of (sym (rows_split l base parts) ∙ ap node_rows (sym e))
 
 abbrev texts : List Tree → List ℕ
