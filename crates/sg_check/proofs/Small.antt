@@ -21,10 +21,10 @@ use Rattle.sg_num.specs.declared.step.Wide.{Wide}
 use Rattle.sg_num.specs.Exact.{exact, fits, result_of}
 use Rattle.sg_bounds.specs.Accepted.{Fits}
 use Rattle.sg_bounds.specs.Sizes.{pay_sums}
-use Rattle.sg_model.specs.Tallies.{IsCount, IsCounted, no_cell}
-use Rattle.sg_model.specs.declared.cell.Cell.{Cell}
+use Rattle.sg_game.specs.Tallies.{IsCount, IsCounted, no_cell}
+use Rattle.sg_game.specs.declared.cell.Cell.{Cell}
 use Rattle.sg_model.proofs.Spans.{Spans, Within, fits_span, pay-within, product-within, room}
-use Rattle.sg_model.proofs.Tallied.{action-target, is_count}
+use Rattle.sg_game.proofs.Tallied.{action-target, is_count}
 use Rattle.sg_num.proofs.Steps.{fits-from_FitsSigned}
 use Rattle.sg_game.specs.Counts.{IsActionOf}
 use Rattle.sg_check.specs.Valuing.{under_a, under_d}

@@ -8,7 +8,7 @@ use Rattle.std.proofs.lemmas.List.Elements.{All-head, All-tail}
 use Rattle.sg_model.specs.Limits.{IsPay, IsWithin}
 use Rattle.sg_model.specs.Sums.{total}
 use Rattle.sg_num.proofs.Signs.{mul-pos}
-use Rattle.sg_model.specs.Tallies.{IsCount}
+use Rattle.sg_game.specs.Tallies.{IsCount}
 use Rattle.sg_model.proofs.Spans.{Spans, fits_span, pay-within, spans_product}
 
 -- a product in the code, of numbers read as they are

@@ -6,13 +6,13 @@ ghost use Rattle.sg_model.specs.Games.{is_matrix, payoff, resource_schedules, sc
 ghost use Rattle.sg_model.specs.Limits.{IsPay};
 ghost use Rattle.sg_model.specs.Plays.{IsLegal};
 ghost use Rattle.sg_model.specs.Sums.{nth};
-ghost use Rattle.sg_model.specs.Tallies.{IsCount, IsTable, marked, no_cell, tallied, touched, touched_all, touched_from};
+ghost use Rattle.sg_game.specs.Tallies.{IsCount, IsTable, marked, no_cell, tallied, touched, touched_all, touched_from};
 ghost use Rattle.sg_game.specs.Counts.{IsActionOf, IsGoalOf, IsResourceOf};
 ghost use Rattle.sg_check.specs.Valuing.{AreLegal, Forms, under_a, under_d};
 
 use crate::sums::{total_a, total_d};
-use sg_game::Game;
-use sg_model::{Cell, Ticket};
+use sg_game::{Cell, Game};
+use sg_model::Ticket;
 
 /// One more than the greatest number of targets.
 pub(crate) const ROOM: usize = 10001;

@@ -11,7 +11,7 @@ ghost use Rattle.sg_bounds.specs.Checking.{AllPass, ticket_stops, value_line};
 ghost use Rattle.sg_bounds.specs.Sizes.{take_sums, value_sums};
 ghost use Rattle.sg_check.specs.Answering.{Answers, held};
 ghost use Rattle.sg_check.specs.Parts.{total_stops, worth_stops};
-ghost use Rattle.sg_model.specs.Tallies.{IsTable};
+ghost use Rattle.sg_game.specs.Tallies.{IsTable};
 ghost use Rattle.sg_check.specs.Valuing.{AreFormed, AreLegal, BestAreFormed, Forms, IsBestOf, IsTaken, IsWorthOf, paired, under_a, under_d};
 
 use crate::quotient::{Quotient, is_same, reduced};
@@ -19,8 +19,8 @@ use crate::refusal::Refusal;
 use crate::step::multiplied;
 use crate::tally::{ROOM, count_all, table_a, table_d};
 use sg_frac::Frac;
-use sg_game::{Game, Kind, prior_total};
-use sg_model::{Cell, Ticket};
+use sg_game::{Cell, Game, Kind, prior_total};
+use sg_model::Ticket;
 use sg_tree::Report;
 
 /// The greatest total for which the sums come from counts.

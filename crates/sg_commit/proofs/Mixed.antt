@@ -14,8 +14,8 @@ use Rattle.sg_model.proofs.Promises.{payoff-in_range}
 use Rattle.sg_num.specs.declared.step.Op.TheVariants.{Times}
 use Rattle.sg_num.specs.Exact.{and_then, exact_dot_step}
 use Rattle.sg_commit.specs.ExactSums.{exact_sum_a, exact_sum_d}
-use Rattle.sg_model.specs.declared.cell.Cell.{Cell}
-use Rattle.sg_model.specs.Tallies.{IsCounted, IsTable, no_cell}
+use Rattle.sg_game.specs.declared.cell.Cell.{Cell}
+use Rattle.sg_game.specs.Tallies.{IsCounted, IsTable, no_cell}
 use Rattle.sg_commit.specs.Tallies.{counted_sum}
 use Rattle.sg_model.proofs.Spans.{Within, product-within}
 use Rattle.sg_commit.proofs.Small.{dot_step-ok, exact_ok, few-sum_a, few-sum_d}

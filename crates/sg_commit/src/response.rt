@@ -8,13 +8,12 @@ ghost use Rattle.sg_model.specs.Commitments.{is_best, take_of};
 ghost use Rattle.sg_game.specs.Counts.{IsActionOf, IsTypeOf};
 ghost use Rattle.sg_commit.specs.Committed.{AreLegal};
 ghost use Rattle.sg_commit.specs.ExactSums.{compared, exact_is_best, exact_take, unless};
-ghost use Rattle.sg_model.specs.Tallies.{IsTable};
+ghost use Rattle.sg_game.specs.Tallies.{IsTable};
 ghost use Rattle.sg_commit.specs.Responses.{settled, take_from, take_step, taken_with, top_from, top_sum};
 
 use crate::commitment::Commitment;
 use crate::tally::{ROOM, count_all, table_sum_a, table_sum_d};
-use sg_game::{Game, Kind};
-use sg_model::Cell;
+use sg_game::{Cell, Game, Kind};
 use sg_num::Wide;
 
 // The greatest total for which the sums come from counts.

@@ -4,7 +4,7 @@ ghost use Rattle.std.specs.Prelude.{◌≡◌, ◌≤◌, ◌<◌, ◌^◌, fals
 ghost use Rattle.sg_model.specs.Games.{is_matrix, payoff, resource_schedules, schedule_targets};
 ghost use Rattle.sg_model.specs.Plays.{IsLegal};
 ghost use Rattle.sg_model.specs.Sums.{nth};
-ghost use Rattle.sg_model.specs.Tallies.{IsTable, marked, no_cell, tallied, touched, touched_all, touched_from};
+ghost use Rattle.sg_game.specs.Tallies.{IsTable, marked, no_cell, tallied, touched, touched_all, touched_from};
 ghost use Rattle.sg_game.specs.Counts.{IsActionOf, IsGoalOf, IsResourceOf, IsTypeOf};
 ghost use Rattle.sg_commit.specs.Committed.{AreLegal};
 ghost use Rattle.sg_commit.specs.ExactSums.{exact_sum_a, exact_sum_d};
@@ -12,8 +12,8 @@ ghost use Rattle.sg_commit.specs.Tallies.{counted_sum};
 
 use crate::commitment::Commitment;
 use crate::sums::{sum_a, sum_d};
-use sg_game::Game;
-use sg_model::{Cell, Ticket};
+use sg_game::{Cell, Game};
+use sg_model::Ticket;
 use sg_num::{Wide, dot_step, times};
 
 /// One more than the greatest number of targets.

@@ -12,3 +12,4 @@ pub mod Drawn
 pub mod Spreads
 pub mod Choices
 pub mod Fitting
+pub mod Tallied

@@ -8,3 +8,4 @@ pub mod Converting
 pub mod Drafts
 pub mod Counting
 pub mod Spreads
+pub mod Tallies

@@ -2,6 +2,7 @@
 #![tactic(auto)]
 
 mod build;
+mod cell;
 mod convert;
 mod counting;
 mod counts;
@@ -18,6 +19,7 @@ mod parts;
 mod play;
 mod spread;
 
+pub use cell::Cell;
 pub use counting::{is_single, least_play, plays_count, program_rows};
 pub use fault::BuildFault;
 pub use game::Game;

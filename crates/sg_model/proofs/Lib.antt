@@ -19,10 +19,6 @@ pub mod Worked
 pub mod Edges
 pub mod Joined
 pub mod Payoffs
-<<<<<<< HEAD
 pub mod Expected
 pub mod AtEdges
-=======
 pub mod Spans
-pub mod Tallied
->>>>>>> d32c858d2fefa9a7e846989b940925434b183d0d

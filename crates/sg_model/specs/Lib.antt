@@ -3,7 +3,6 @@ pub mod Games
 pub mod Plays
 pub mod Payoffs
 pub mod Commitments
-pub mod Tallies
 pub mod Optimality
 pub mod Origami
 pub mod Names

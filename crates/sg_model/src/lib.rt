@@ -6,7 +6,6 @@
 //! small games with their answers, `worked_edges` cases at the edges.
 #![tactic(auto)]
 
-mod cell;
 mod examples;
 mod fault;
 mod game_laws;
@@ -18,7 +17,6 @@ mod payoff_laws;
 mod play_laws;
 mod ticket;
 
-pub use cell::Cell;
 pub use examples::{worked_edges, worked_examples};
 pub use fault::{GameFault, Place};
 pub use game_laws::{

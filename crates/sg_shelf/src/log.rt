@@ -60,7 +60,12 @@ pub(crate) fn append(log: &mut Vec<Reading>, name: String, limit: usize, outcome
     ensures { log_of log.new.items ≡ log_with (log_of log.old.items) (string_bytes name) limit outcome }
 {
     if let Some(outcome) = outcome {
-        log.push(Reading { name, limit, outcome }).unwrap();
+        log.push(Reading {
+            name,
+            limit,
+            outcome,
+        })
+        .unwrap();
     }
 }
 
@@ -69,8 +74,6 @@ pub(crate) fn append(log: &mut Vec<Reading>, name: String, limit: usize, outcome
 pub(crate) fn is_logged(log: &[Reading], readings: &[(&str, usize, Outcome)]) -> bool {
     log.len() == readings.len()
         && log.iter().zip(readings).all(|(reading, (name, limit, outcome))| {
-            reading.name.as_str() == *name
-                && reading.limit == *limit
-                && reading.outcome == *outcome
+            reading.name.as_str() == *name && reading.limit == *limit && reading.outcome == *outcome
         })
 }

@@ -1,7 +1,7 @@
 use Rattle.std.proofs.Common.{◌≤◌, arith, length}
 use Rattle.sg_model.specs.Games.{is_matrix}
 use Rattle.sg_game.specs.Counts.{target_count}
-use Rattle.sg_model.proofs.Tallied.{few_targets, tallied-table}
+use Rattle.sg_game.proofs.Tallied.{few_targets, tallied-table}
 use Rattle.sg_check.proofs.tally.count_all.Goals as goal
 
 pub returns : goal.returns

@@ -1,5 +1,5 @@
 use Rattle.std.proofs.Common.{◌≡◌, ◌+◌, drop}
-use Rattle.sg_model.specs.Tallies.{tallied}
+use Rattle.sg_game.specs.Tallies.{tallied}
 use Rattle.sg_check.proofs.tally.tally.Given as goal
 
 -- the tickets that are left are counted after those before

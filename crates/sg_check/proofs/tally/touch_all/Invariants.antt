@@ -1,5 +1,5 @@
 use Rattle.std.proofs.Common.{◌≡◌, drop}
-use Rattle.sg_model.specs.Tallies.{touched_all}
+use Rattle.sg_game.specs.Tallies.{touched_all}
 use Rattle.sg_check.proofs.tally.touch_all.Given as goal
 
 -- the targets that are left are covered after those before

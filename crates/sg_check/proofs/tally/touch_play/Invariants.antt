@@ -1,5 +1,5 @@
 use Rattle.std.proofs.Common.{◌≡◌, ◌+◌, drop}
-use Rattle.sg_model.specs.Tallies.{touched_from}
+use Rattle.sg_game.specs.Tallies.{touched_from}
 use Rattle.sg_check.proofs.tally.touch_play.Given as goal
 
 -- the choices that are left come after those before

@@ -3,8 +3,8 @@ use Rattle.std.proofs.lemmas.Int.{ints}
 use Rattle.sg_model.specs.declared.ticket.Ticket.{Ticket}
 use Rattle.sg_model.specs.Games.{is_matrix}
 use Rattle.sg_game.specs.Counts.{target_count}
-use Rattle.sg_model.specs.Tallies.{tallied}
-use Rattle.sg_model.proofs.Tallied.{few_targets, tallied-table}
+use Rattle.sg_game.specs.Tallies.{tallied}
+use Rattle.sg_game.proofs.Tallied.{few_targets, tallied-table}
 use Rattle.sg_commit.proofs.tally.count_all.Goals as goal
 
 pub returns : goal.returns

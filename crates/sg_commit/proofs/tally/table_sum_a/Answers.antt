@@ -5,7 +5,7 @@ use Rattle.std.proofs.lemmas.Int.{to_z-of_z}
 use Rattle.sg_model.specs.Games.{payoff}
 use Rattle.sg_model.specs.Commitments.{weight_total}
 use Rattle.sg_commit.specs.Tallies.{counted_sum}
-use Rattle.sg_model.proofs.Tallied.{action-target}
+use Rattle.sg_game.proofs.Tallied.{action-target}
 use Rattle.sg_commit.proofs.Mixed.{counted_a-is, from_table}
 use Rattle.sg_commit.proofs.tally.table_sum_a.Goals as goal
 

@@ -1,7 +1,7 @@
 -- How the tickets that cover each target are counted in one walk over the tickets.
 use Rattle.std.specs.Prelude.{◌≡◌, ◌^◌, ℕ, ◌+◌, ◌<◌, ◌≤◌, false, if◌then◌else◌, List, [], ◌∷◌, length, ℤ, pos, ◌≤ℤ◌, All, nat_eq, slice_index_or, slice_set}
 use Rattle.std.specs.Int.{w128, int_wrapping_add}
-use Rattle.sg_model.specs.declared.cell.Cell.{Cell}
+use Rattle.sg_game.specs.declared.cell.Cell.{Cell}
 use Rattle.sg_model.specs.declared.ticket.Ticket.{Ticket}
 use Rattle.sg_model.specs.Sums.{nth}
 use Rattle.sg_model.specs.Games.{Game, is_matrix, resource_schedules, schedule_targets}

@@ -13,8 +13,8 @@ use Rattle.sg_model.specs.Sums.{nth}
 use Rattle.sg_model.specs.Games.{Game, action_count, attacker, is_matrix, resource_schedules, schedule_targets}
 use Rattle.sg_model.specs.Plays.{covers, covers_from}
 use Rattle.sg_model.specs.Commitments.{cover_count, weight_total}
-use Rattle.sg_model.specs.declared.cell.Cell.{Cell}
-use Rattle.sg_model.specs.Tallies.{IsCount, IsCounted, IsTable, marked, no_cell, tallied, touched, touched_all, touched_from}
+use Rattle.sg_game.specs.declared.cell.Cell.{Cell}
+use Rattle.sg_game.specs.Tallies.{IsCount, IsCounted, IsTable, marked, no_cell, tallied, touched, touched_all, touched_from}
 use Rattle.sg_model.proofs.Covers.{ArePositive, cover_count-bounds, weight_total-nonneg}
 
 -- a cell after a test of whether the ticket covers its target
