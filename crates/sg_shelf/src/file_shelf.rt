@@ -280,12 +280,12 @@ mod tests {
             is_logged(
                 &shelf.log,
                 &[
-                    (&path, Outcome::Given),
-                    (&path, Outcome::TooLong),
-                    ("/dev/null", Outcome::Given),
-                    ("/dev/zero", Outcome::TooLong),
-                    ("/no/such/file", Outcome::Failed),
-                    ("/", Outcome::Failed),
+                    (&path, 200_001, Outcome::Given),
+                    (&path, 200_000, Outcome::TooLong),
+                    ("/dev/null", 0, Outcome::Given),
+                    ("/dev/zero", 10, Outcome::TooLong),
+                    ("/no/such/file", 10, Outcome::Failed),
+                    ("/", 10, Outcome::Failed),
                 ],
             )
         );

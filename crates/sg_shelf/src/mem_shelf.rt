@@ -207,12 +207,12 @@ mod tests {
             is_logged(
                 &shelf.log,
                 &[
-                    ("a", Outcome::Given),
-                    ("a", Outcome::Failed),
-                    ("a", Outcome::TooLong),
-                    ("c", Outcome::Failed),
-                    ("c", Outcome::Failed),
-                    ("b", Outcome::Given),
+                    ("a", 3, Outcome::Given),
+                    ("a", 3, Outcome::Failed),
+                    ("a", 2, Outcome::TooLong),
+                    ("c", 9, Outcome::Failed),
+                    ("c", 9, Outcome::Failed),
+                    ("b", 0, Outcome::Given),
                 ],
             )
         );
