@@ -1,17 +1,10 @@
 -- How far apart two payoffs of the attacker may be, and what a play is worth to the defender.
-use Rattle.std.proofs.Common.{◌≡◌, ℕ, zero, suc, ◌≤◌, Bool, true, false, cond, List, [], ◌∷◌, map, length, ℤ, pos, ◌+ℤ◌, ◌-ℤ◌, ◌*ℤ◌, ◌≤ℤ◌, ap, subst, sym, refl, arith, MatchBool, flat_map, slice_index}
-use Rattle.std.specs.List.{Contains}
-use Rattle.std.specs.Int.{int_max}
-use Rattle.std.proofs.lemmas.Int.{ints, int_max_is}
-use Rattle.std.proofs.lemmas.List.Elements.{All-contains, Contains-append_left, Contains-append_right}
-use Rattle.sg_model.specs.Sums.{greatest, least, nth, numbers}
-use Rattle.sg_model.specs.Games.{Game, action_count, attacker, is_matrix, payoff}
+use Rattle.std.proofs.Common.{◌≡◌, ℕ, ◌≤◌, List, [], ◌∷◌, length, ℤ, pos, ◌+ℤ◌, ◌-ℤ◌, ◌*ℤ◌, ◌≤ℤ◌, refl, arith}
+use Rattle.std.proofs.lemmas.Int.{ints}
+use Rattle.sg_model.specs.Games.{Game, action_count, attacker}
 use Rattle.sg_model.specs.Payoffs.{shift_of}
-use Rattle.sg_model.specs.Plays.{IsLegal, IsLegalJoint, IsRow, covers, pay_a, pay_d}
-use Rattle.sg_model.proofs.Greatest.{Contains-head, Contains-tail}
-use Rattle.sg_model.proofs.Best.{greatest-bounds}
-use Rattle.sg_model.proofs.Payoffs.{Contains-numbers, bounded, least-bounds}
-use Rattle.sg_bounds.specs.Sizes.{attacker_most, attacker_payoffs_at, attacker_payoffs_of, attacker_span, defender_most}
+use Rattle.sg_model.specs.Plays.{IsLegal, pay_a, pay_d}
+use Rattle.sg_bounds.specs.Sizes.{attacker_most}
 use Rattle.sg_bounds.specs.Facts.{cost}
 use Rattle.sg_bounds.specs.Regions.{act_of, prefix}
 use Rattle.sg_bounds.proofs.Spans.{difference-small, play-of-type}

@@ -1,24 +1,18 @@
 -- With few tickets nothing that is formed leaves 128 bits.
-use Rattle.std.proofs.Common.{◌≡◌, ◌∙◌, ℕ, ◌<◌, ◌≤◌, ◌^◌, Bool, true, false, true≢false, cond, List, [], ◌∷◌, length, ℤ, pos, negsuc, ◌+ℤ◌, ◌-ℤ◌, ◌*ℤ◌, ◌≤ℤ◌, sym, subst, refl, arith, slice_index_or}
+use Rattle.std.proofs.Common.{◌≡◌, ◌∙◌, ℕ, ◌≤◌, ◌^◌, List, [], ◌∷◌, length, ℤ, pos, ◌+ℤ◌, ◌-ℤ◌, ◌*ℤ◌, ◌≤ℤ◌, sym, subst, refl, arith, slice_index_or}
 use Rattle.std.specs.List.{All}
-use Rattle.std.specs.Prelude.{Ok, Err}
 use Rattle.std.proofs.lemmas.Int.{ints}
-use Rattle.std.proofs.lemmas.Bool.Decides.{nat_tests}
 use Rattle.std.proofs.lemmas.List.Elements.{All-nil, All-cons, All-head, All-tail}
 use Rattle.sg_model.specs.declared.ticket.Ticket.{Ticket}
-use Rattle.sg_model.specs.Games.{Game, action_count, attacker, payoff}
+use Rattle.sg_model.specs.Games.{Game, payoff}
 use Rattle.sg_model.specs.Limits.{IsGame, IsPay}
 use Rattle.sg_model.specs.Plays.{pay_a, pay_d}
 use Rattle.sg_model.specs.Commitments.{cover_count, sum_a, sum_d, weight_total}
-use Rattle.sg_model.proofs.Ints.{v, n, plus, less, times, same_by, mul-le, product_nonneg}
-use Rattle.sg_model.proofs.Sums.{total-nonneg}
+use Rattle.sg_model.proofs.Ints.{v, plus, less, times, same_by, mul-le, product_nonneg}
 use Rattle.sg_model.proofs.Bound.{sum_d_is}
 use Rattle.sg_model.proofs.Covers.{ArePositive, weight_total-nonneg}
 use Rattle.sg_model.proofs.Levels.{sum_a_is}
 use Rattle.sg_model.proofs.Promises.{pay_a-in_range, pay_d-in_range}
-use Rattle.sg_num.specs.declared.step.Op.{Op}
-use Rattle.sg_num.specs.declared.step.Wide.{Wide}
-use Rattle.sg_num.specs.Exact.{exact, fits, result_of}
 use Rattle.sg_bounds.specs.Accepted.{Fits}
 use Rattle.sg_bounds.specs.Sizes.{pay_sums}
 use Rattle.sg_game.specs.Tallies.{IsCount, IsCounted, no_cell}

@@ -1,10 +1,8 @@
 -- Products, differences and sums in the code.
-use Rattle.std.proofs.Common.{◌≡◌, ℕ, ◌*◌, ◌<◌, ◌≤◌, ◌^◌, List, [], ◌∷◌, length, ℤ, pos, ◌+ℤ◌, ◌-ℤ◌, ◌*ℤ◌, ◌≤ℤ◌, ap, sym, subst, ◌∙◌, to_z, of_z, arith}
+use Rattle.std.proofs.Common.{◌≡◌, ℕ, ◌*◌, ◌<◌, ◌≤◌, ◌^◌, ℤ, pos, ◌+ℤ◌, ◌-ℤ◌, ◌*ℤ◌, ◌≤ℤ◌, ap, sym, subst, ◌∙◌, to_z, of_z, arith}
 use Rattle.std.specs.Prelude.{FitsSigned}
-use Rattle.std.specs.List.{All}
 use Rattle.std.specs.Int.{w128}
 use Rattle.std.proofs.lemmas.Int.{ints, to_z-of_z}
-use Rattle.std.proofs.lemmas.List.Elements.{All-head, All-tail}
 use Rattle.sg_model.specs.Limits.{IsPay, IsWithin}
 use Rattle.sg_model.specs.Sums.{total}
 use Rattle.sg_num.proofs.Signs.{mul-pos}

@@ -14,7 +14,7 @@ use Rattle.sg_frac.specs.Fractions.{IsReduced}
 use Rattle.sg_model.specs.Sums.{total, numbers}
 use Rattle.sg_model.specs.Games.{Game, payoff, resource_count}
 use Rattle.sg_model.specs.Limits.{IsGame, is_scaled}
-use Rattle.sg_model.specs.Origami.{IsFloor, IsOrigami, IsWater, SpendsAll, at_level, count_at, gap, share}
+use Rattle.sg_model.specs.Origami.{IsFloor, IsWater, SpendsAll, at_level, count_at, gap, share}
 use Rattle.sg_model.specs.declared.level.Level.{Level}
 use Rattle.sg_model.specs.declared.level.Level.TheVariants.{Resources, Target}
 use Rattle.sg_model.proofs.Forms.{no_matrix}
