@@ -12,7 +12,7 @@ use Rattle.sg_model.specs.Limits.{IsGame}
 use Rattle.sg_model.specs.Commitments.{IsCommitment, is_best, take_of, weight_total}
 use Rattle.sg_model.proofs.Ints.{v, n, plus, less, times, same_by, le_by, le_from, mul-le, product_nonneg}
 use Rattle.sg_model.proofs.Best.{take_of-reached}
-use Rattle.sg_model.proofs.Covers.{weight_total-positive}
+use Rattle.sg_model.proofs.Covers.{weight_total-nonneg, weight_total-positive}
 use Rattle.sg_model.proofs.Promises.{pay_a-in_range, pay_d-in_range, peopled}
 use Rattle.sg_model.proofs.Values.{prior_total-positive}
 use Rattle.sg_bounds.specs.Sizes.{pay_sums, running, take_sums, value_sums, weight_sums, worth_sums}
@@ -37,17 +37,9 @@ weights-small b z (x ∷ xs) low positive high =
     let P : Ticket → Type 0 = λ x. pos 1 ≤ℤ x.weight in
     let here = All-head P x xs positive in
     let rest = All-tail P x xs positive in
-    let later = weights-nonneg xs rest in
+    let later = weight_total-nonneg xs rest in
     All-cons (IsAtMost b) (z +ℤ x.weight) (running (z +ℤ x.weight) (map (λ (x : Ticket). x.weight) xs)) (omega (arith, ints, low, here, high, later), omega (arith, ints, low, here, high, later))
     (weights-small b (z +ℤ x.weight) xs (omega (arith, ints, low, here)) rest (omega (arith, ints, high)))
-  where
-    weights-nonneg : (k : List Ticket) → All (λ (x : Ticket). pos 1 ≤ℤ x.weight) k → pos 0 ≤ℤ weight_total k
-    weights-nonneg [] h = omega (arith, ints)
-    weights-nonneg (x ∷ xs) h = omega (arith, ints, All-head (λ (x : Ticket). pos 1 ≤ℤ x.weight) x xs h, weights-nonneg xs (All-tail (λ (x : Ticket). pos 1 ≤ℤ x.weight) x xs h))
-
-pub weight_total-nonneg : (k : List Ticket) → All (λ (x : Ticket). pos 1 ≤ℤ x.weight) k → pos 0 ≤ℤ weight_total k
-weight_total-nonneg [] h = omega (arith, ints)
-weight_total-nonneg (x ∷ xs) h = omega (arith, ints, All-head (λ (x : Ticket). pos 1 ≤ℤ x.weight) x xs h, weight_total-nonneg xs (All-tail (λ (x : Ticket). pos 1 ≤ℤ x.weight) x xs h))
 
 -- ---- products within bounds
 
