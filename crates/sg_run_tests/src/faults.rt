@@ -8,6 +8,7 @@ use crate::scenes::{Answer, Failing, NO_PUT, answers_on, shelf_of, sink_of, word
 use sg_cli::run;
 use sg_shelf::{Outcome, Reading, Shelf, ShelfError};
 use std::alloc::{AllocError, Global};
+use std::marker::Model;
 use std::test::*;
 
 /// Two targets, the first worth twice the second.
@@ -147,7 +148,7 @@ fn writes_after_a_failed_telling(alloc: Global) -> Result<bool, AllocError> {
     Ok(first == 4 && second == 0 && out.bytes() == SOLVED.as_bytes())
 }
 
-/// A shelf that tells no file, with one game and a report that is too long. It logs its reads.
+/// A shelf that tells no file, with one game and a report that is too long. Clauses see it as its log.
 #[derive(Drop)]
 struct LongReport {
     game: Vec<u8>,
@@ -180,14 +181,20 @@ fn keep(
     }
 }
 
-impl Shelf for LongReport {
-    ghost use Rattle.sg_shelf.specs.Logs.{log_of};
+impl Model for LongReport {
+    ghost use Rattle.sg_shelf.specs.Logs.{Log, log_of};
 
+    ghost Value = { Log };
+
+    ghost view = { λ shelf. log_of shelf.log.items };
+}
+
+impl Shelf for LongReport {
     ghost files = { λ shelf. None };
 
     ghost faults = { λ shelf. 0 };
 
-    ghost log = { λ shelf. log_of shelf.log.items };
+    ghost log = { λ shelf. shelf };
 
     fn read(&mut self, alloc: Global, name: &str, limit: usize) -> Result<Vec<u8>, ShelfError> {
         if name == "report" {
