@@ -8,3 +8,6 @@ pub mod Readers
 pub mod Faults
 pub mod Plays
 pub mod LineOrder
+mod LineExamples
+mod RowLines
+mod CapRows

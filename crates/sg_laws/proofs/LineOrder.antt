@@ -13,9 +13,15 @@ use Rattle.sg_frac.specs.Fractions.{Fraction}
 use Rattle.sg_tree.specs.declared.fact.Mark.{Mark}
 use Rattle.sg_tree.specs.declared.fact.Line.{Line}
 use Rattle.sg_num.specs.Exact.{fits}
+use Rattle.sg_tree.specs.declared.tree.Tree.{Tree}
+use Rattle.sg_tree.specs.declared.tree.Tree.TheVariants.{Unproved}
+use Rattle.sg_cert.specs.Place.{Place}
+use Rattle.sg_cert.specs.Lines.{at_line}
+use Rattle.sg_cert.specs.Reading.{deep_from}
+use Rattle.sg_cert.specs.declared.fault.ReportFault.{ReportFault}
 use Rattle.sg_cert.specs.Fields.{shaped_as, count_follows, count_is, fields, fitting, has_word, is_number_text, natural_next, natural_of, numbers_of, shaped_if, spelled_of, value_of, whole_next, whole_of, words_of, ◌>>=◌}
 use Rattle.sg_cert.specs.LineReading.{fix_of, gap_of, looks_head_of, looks_of, nodes_of, optimal_of, pivots_of, wide_as, wide_head_of, counts_of, fraction_next, fraction_of, header_of, highest, in_order, lowest, mark_of, plain_of, proved_of, reduced_of, row_of, shares, spent_of, split_of, target_of, ticket_of}
-use Rattle.sg_laws.specs.LineTests.{WordInOrder, VerdictInOrder, counted_slot, fix_at, fix_slots, gap_slots, looks_line, looks_slots, nodes_line, optimal_line, optimal_slots, pivots_line, pivots_slots, step_slot, wide_line, wide_slots, number_at, natural_at, CapInOrder, CountsInOrder, FractionInOrder, HeaderInOrder, LinesInOrder, MarkInOrder, RowInOrder, Slot, SplitInOrder, TicketInOrder, WaterInOrder, counts_slots, each, fixed, fraction_slots, header_slots, is_lowest, is_ranged, is_spelled, is_there, mark_slots, naturals, number, numbers, plain_line, plain_slots, proved_line, proved_slots, row_slots, spent_line, spent_slots, split_slots, target_line, target_slots, ticket_slots, within}
+use Rattle.sg_laws.specs.LineTests.{DeepSplitInOrder, first_of, tests_of, WordInOrder, VerdictInOrder, counted_slot, fix_at, fix_slots, gap_slots, looks_line, looks_slots, nodes_line, optimal_line, optimal_slots, pivots_line, pivots_slots, step_slot, wide_line, wide_slots, number_at, natural_at, CapInOrder, CountsInOrder, FractionInOrder, HeaderInOrder, LinesInOrder, MarkInOrder, RowInOrder, Slot, SplitInOrder, TicketInOrder, WaterInOrder, counts_slots, each, fixed, fraction_slots, header_slots, is_lowest, is_ranged, is_spelled, is_there, mark_slots, naturals, number, numbers, plain_line, plain_slots, proved_line, proved_slots, row_slots, spent_line, spent_slots, split_slots, target_line, target_slots, ticket_slots, within}
 
 -- ---- the words of a line, and what should stand in it
 
@@ -230,6 +236,24 @@ splits fs =
     three_or SplitInOrder fs (λ e u. short (count_is 3 3 fs) (length fs == 3) (codes "split") split_slots fs _ _ (refl, refl, tt) e u)
     (λ a b c. long true (codes "split") split_slots (a ∷ b ∷ c ∷ []) _ _ (refl, refl, tt) refl refl
     (next _ _ _ _ _ _ (natural 1 8 b (c ∷ [])) (next _ _ _ _ _ _ (natural 1 65535 c []) refl)))
+
+-- the fault of a split whose line is right
+abbrev too_deep : Place → ℕ × ℕ → Result (Tree × Place) ReportFault
+too_deep p s = Err (record { line = p.line; reason = 8 })
+
+-- one more test that fails behind all others
+deep_tests : (tests : List (Bool × ℕ)) (v : ℕ × ℕ) (p : Place) (y : Tree × Place) → (at_line p (first_of tests v) >>= too_deep p) ≡ at_line p (first_of (tests ++ (false, 8) ∷ []) y)
+deep_tests [] v p y = refl
+deep_tests (t ∷ ts) v p y = by_test t.0 (deep_tests ts v p y)
+  where
+    by_test : (b : Bool) → (at_line p (first_of ts v) >>= too_deep p) ≡ at_line p (first_of (ts ++ (false, 8) ∷ []) y)
+        → (at_line p (cond b (first_of ts v) (Err t.1)) >>= too_deep p) ≡ at_line p (cond b (first_of (ts ++ (false, 8) ∷ []) y) (Err t.1))
+    by_test true h = h
+    by_test false h = refl
+
+deep : (fs : List (List ℕ)) (p : Place) → DeepSplitInOrder fs p
+unfolding deep_from
+deep fs p = rw (splits fs) (deep_tests (tests_of (length fs == 3) split_slots fs []) (natural_at 1 fs, natural_at 2 fs) p (Unproved, p))
 
 header : (word : List ℕ) → Matches (fields word) (header_slots word) → (fs : List (List ℕ)) → HeaderInOrder word fs
 unfolding header_of
@@ -603,6 +627,7 @@ lines = record {
   value = fraction (codes "value") (refl, refl, tt);
   cap = cap;
   split = splits;
+  deep = deep;
   plays = header (codes "plays") (refl, refl, tt);
   mark = mark;
   cover = header (codes "cover") (refl, refl, tt);

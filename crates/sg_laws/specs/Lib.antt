@@ -2,3 +2,4 @@ pub mod Stops
 pub mod Faults
 pub mod Plays
 pub mod LineTests
+pub mod WorkedLines

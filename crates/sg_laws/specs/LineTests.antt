@@ -11,6 +11,10 @@ use Rattle.sg_tree.specs.declared.fix.Fix.{Fix}
 use Rattle.sg_tree.specs.declared.report.Cause.TheVariants as causes
 use Rattle.sg_tree.specs.declared.report.Ending.{Ending}
 use Rattle.sg_tree.specs.declared.report.Ending.TheVariants.{Optimal, Gap}
+use Rattle.sg_tree.specs.declared.tree.Tree.TheVariants.{Unproved}
+use Rattle.sg_cert.specs.Place.{Place}
+use Rattle.sg_cert.specs.Lines.{at_line}
+use Rattle.sg_cert.specs.Reading.{deep_from}
 use Rattle.sg_cert.specs.Fields.{count_follows, count_is, fitting, has_word, is_number_text, shaped_as, value_of}
 use Rattle.sg_cert.specs.LineReading.{cap_of, counts_of, follows, fraction_of, header_of, highest, lowest, mark_follows, mark_of, row_follows, row_of, shares, split_of, ticket_of, verdict_of, water_of}
 
@@ -176,6 +180,10 @@ split_slots = fixed (codes "split") ∷ number (pos 1) (pos 8) ∷ number (pos 1
 abbrev pub SplitInOrder : List (List ℕ) → Type 0
 SplitInOrder fs = split_of fs ≡ says split_slots fs [] (natural_at 1 fs, natural_at 2 fs)
 
+-- a split below eight others: the tests of its line, and then its depth
+abbrev pub DeepSplitInOrder : List (List ℕ) → Place → Type 0
+DeepSplitInOrder fs p = deep_from fs p ≡ at_line p (says split_slots fs ((false, 8) ∷ []) (Unproved, p))
+
 -- ---- the verdict
 
 -- verdict optimal
@@ -253,6 +261,7 @@ pub record LinesInOrder : Type 0 where
   pub value : (fs : List (List ℕ)) → FractionInOrder (codes "value") fs
   pub cap : (fs : List (List ℕ)) → CapInOrder fs
   pub split : (fs : List (List ℕ)) → SplitInOrder fs
+  pub deep : (fs : List (List ℕ)) (p : Place) → DeepSplitInOrder fs p
   pub plays : (fs : List (List ℕ)) → HeaderInOrder (codes "plays") fs
   pub mark : (before : Option Mark) (fs : List (List ℕ)) → MarkInOrder before fs
   pub cover : (fs : List (List ℕ)) → HeaderInOrder (codes "cover") fs

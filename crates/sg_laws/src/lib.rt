@@ -11,6 +11,6 @@ mod stop_laws;
 pub use fault_laws::{
     early_end, fault_of_its_line, fault_stays, lines_before, nothing_behind, other_first_line,
 };
-pub use order_laws::lines_in_order;
+pub use order_laws::{lines_are_worked, lines_in_order};
 pub use play_laws::{plays_are_counted, plays_are_listed};
-pub use stop_laws::stop_lines;
+pub use stop_laws::{cap_rows_spell, rows_are_lines, stop_lines};

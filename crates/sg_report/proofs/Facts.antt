@@ -88,4 +88,5 @@ unfolding digits
 tables_are_worked = record {
   one_patrol = record { value = over 2 3; reduced = record { reduced = record { positive = omega (arith, ints); coprime = two_three }; equal = refl }; shown = refl };
   one_player = record { value = over 11 3; reduced = record { reduced = record { positive = omega (arith, ints); coprime = eleven_three }; equal = refl }; shown = refl };
+  two_players = record { value = over 11 3; reduced = record { reduced = record { positive = omega (arith, ints); coprime = eleven_three }; equal = refl }; shown = refl };
 }

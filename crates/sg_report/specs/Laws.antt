@@ -4,7 +4,7 @@ use Rattle.sg_model.specs.declared.ticket.Ticket.{Ticket}
 use Rattle.sg_model.specs.Games.{Game}
 use Rattle.sg_model.specs.Commitments.{IsCommitment, is_best, sum_d, take_of}
 use Rattle.sg_model.specs.Limits.{IsGame}
-use Rattle.sg_model.specs.Examples.{one_player, row_mix, two_targets, two_tickets}
+use Rattle.sg_model.specs.Examples.{one_player, row_mix, two_players, two_targets, two_tickets}
 use Rattle.sg_frac.specs.Fractions.{Fraction}
 use Rattle.sg_game.specs.Counts.{IsActionOf, IsTypeOf}
 use Rattle.sg_report.specs.Tables.{IsTable, answer, is_answer}
@@ -43,3 +43,5 @@ pub record TablesAreWorked : Type 0 where
       (lines (codes "value 2/3" ∷ codes "upper 2/3" ∷ codes "tickets 3" ∷ codes "target gate 2" ∷ codes "target hall 1" ∷ codes "type thief attacks gate" ∷ []))
   pub one_player : IsTable one_player row_mix (over 4 1)
       (lines (codes "value 11/3" ∷ codes "upper 4/1" ∷ codes "tickets 3" ∷ codes "row a 2" ∷ codes "row b 1" ∷ codes "type first attacks b" ∷ []))
+  pub two_players : IsTable two_players row_mix (over 4 1)
+      (lines (codes "value 11/3" ∷ codes "upper 4/1" ∷ codes "tickets 3" ∷ codes "row a 2" ∷ codes "row b 1" ∷ codes "type first attacks b" ∷ codes "type second attacks b" ∷ []))

@@ -244,6 +244,66 @@ fn refuses_a_long_report(alloc: Global, words: &[&str]) -> Result<bool, AllocErr
     Ok(answered && is_logged(&shelf.log, &readings))
 }
 
+/// The words, the report, the reads that fail, and the readings that a run leaves in the log.
+struct Logged(
+    &'static [&'static str],
+    Option<&'static str>,
+    &'static [u64],
+    &'static [(&'static str, usize, Outcome)],
+);
+
+static LOGGED: [Logged; 4] = [
+    Logged(
+        SOLVE,
+        None,
+        &[],
+        &[("game.toml", 4_194_304, Outcome::Given)],
+    ),
+    Logged(
+        CHECK,
+        Some(MET_REPORT),
+        &[],
+        &[
+            ("game.toml", 4_194_304, Outcome::Given),
+            ("report", 536_870_912, Outcome::Given),
+        ],
+    ),
+    Logged(
+        SHOW,
+        Some(MET_REPORT),
+        &[2],
+        &[
+            ("game.toml", 4_194_304, Outcome::Given),
+            ("report", 536_870_912, Outcome::Failed),
+        ],
+    ),
+    Logged(
+        CHECK,
+        Some(MET_REPORT),
+        &[1],
+        &[("game.toml", 4_194_304, Outcome::Failed)],
+    ),
+];
+
+/// Whether a run reads so.
+fn reads_so(alloc: Global, case: &Logged) -> Result<bool, AllocError> {
+    let Logged(words, report, fails, readings) = case;
+    let words = words_of(alloc, words)?;
+    let mut shelf = shelf_of(alloc, TWO_ROWS.as_bytes(), *report, fails)?;
+    let mut out = sink_of(alloc, &[], 0)?;
+    let mut err = sink_of(alloc, &[], 0)?;
+    let _ = run(alloc, &words, &mut shelf, &mut out, &mut err);
+    Ok(is_logged(shelf.log(), readings))
+}
+
+#[test]
+fn reads_files_in_order(rt: HostRuntime) -> Result<(), AllocError> {
+    for case in &LOGGED {
+        assert!(rt; reads_so(rt.alloc(), case)?);
+    }
+    Ok(())
+}
+
 #[test]
 fn tells_long_reports_and_goes_on(rt: HostRuntime) -> Result<(), AllocError> {
     let alloc = rt.alloc();

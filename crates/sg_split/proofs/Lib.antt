@@ -10,3 +10,4 @@ pub mod Legal
 pub mod Mixes
 pub mod Moments
 pub mod Tickets
+mod CutExamples

@@ -1,5 +1,5 @@
 -- What holds of counts that lie end to end on identical patrols.
-use Rattle.std.specs.Prelude.{◌≡◌, ◌≢◌, ℕ, ◌+◌, ◌≤◌, ◌<◌, ◌⊎◌, List, length, ℤ, pos, ◌≤ℤ◌, ◌<ℤ◌, All, AllPairs, slice_index_or, int_rem}
+use Rattle.std.specs.Prelude.{◌≡◌, ◌≢◌, ℕ, ◌+◌, ◌≤◌, ◌<◌, ◌⊎◌, List, [], ◌∷◌, length, ℤ, pos, ◌≤ℤ◌, ◌<ℤ◌, All, AllPairs, slice_index_or, int_rem}
 use Rattle.sg_model.specs.declared.ticket.Ticket.{Ticket}
 use Rattle.sg_model.specs.Sums.{nth}
 use Rattle.sg_model.specs.Games.{Game, resource_count}
@@ -19,6 +19,15 @@ MomentsCoverCounts = (g : Game) → IsGame g → (counts : List ℤ) (tickets : 
 -- a cut place: moment 0, or the moment of its patrol at which a count ends
 abbrev pub IsCutPlace : List ℤ → ℤ → ℤ → Type 0
 IsCutPlace counts tickets moment = (moment ≡ pos 0) ⊎ ((k : ℕ) × (k < length counts) × (moment ≡ int_rem (slice_index_or (ends_from (pos 0) counts) k (pos 0)) tickets))
+
+-- The first target on one ticket of two, with one patrol: the patrol starts there, and leaves at moment 1. Two targets on two tickets of three each, with
+-- two patrols: the first ends at moment 2, and the second, at which the line is at place 4, at moment 1. Of a target on one ticket of three, moment 2 is none.
+pub record CutPlacesAreWorked : Type 0 where
+  pub start : IsCutPlace (pos 1 ∷ []) (pos 2) (pos 0)
+  pub leaving : IsCutPlace (pos 1 ∷ []) (pos 2) (pos 1)
+  pub first_of_two : IsCutPlace (pos 2 ∷ pos 2 ∷ []) (pos 3) (pos 2)
+  pub second_of_two : IsCutPlace (pos 2 ∷ pos 2 ∷ []) (pos 3) (pos 1)
+  pub no_other : IsCutPlace (pos 1 ∷ []) (pos 3) (pos 2) → ⊥
 
 -- from a moment to before the next cut place the play stays the same
 abbrev pub PlaysStayBetweenCuts : Type 0

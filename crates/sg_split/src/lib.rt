@@ -19,5 +19,7 @@ mod line;
 mod place;
 mod wrapping;
 
-pub use laws::{laid_tickets_are_few, moments_cover_counts, plays_stay_between_cuts};
+pub use laws::{
+    cut_places_are_worked, laid_tickets_are_few, moments_cover_counts, plays_stay_between_cuts,
+};
 pub use wrapping::wrap;
