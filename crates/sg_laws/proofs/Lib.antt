@@ -11,3 +11,4 @@ pub mod LineOrder
 mod LineExamples
 mod RowLines
 mod CapRows
+mod PartFaults

@@ -3,3 +3,4 @@ pub mod Faults
 pub mod Plays
 pub mod LineTests
 pub mod WorkedLines
+pub mod PartFaults

@@ -5,6 +5,7 @@
 
 mod fault_laws;
 mod order_laws;
+mod part_laws;
 mod play_laws;
 mod stop_laws;
 
@@ -12,5 +13,6 @@ pub use fault_laws::{
     early_end, fault_of_its_line, fault_stays, lines_before, nothing_behind, other_first_line,
 };
 pub use order_laws::{lines_are_worked, lines_in_order};
+pub use part_laws::part_faults_say;
 pub use play_laws::{plays_are_counted, plays_are_listed};
 pub use stop_laws::{cap_rows_spell, rows_are_lines, stop_lines};
