@@ -1,6 +1,6 @@
 //! The program's one call.
 
-ghost use Rattle.std.specs.Prelude.{◌≡◌, ◌≢◌, ◌⊎◌, ◌≤◌, IfOk, IfErr};
+ghost use Rattle.std.specs.Prelude.{◌≡◌, ◌≢◌, ◌≤◌, IfOk, IfErr};
 ghost use Rattle.sg_shelf.specs.Faults.{raised};
 ghost use Rattle.sg_words.specs.Commands.{command_given};
 ghost use Rattle.sg_cli.specs.ShelfReads.{trail};
@@ -72,11 +72,11 @@ pub fn run<S: Shelf, O: Sink, E: Sink>(
         (trail (S.log shelf.new) (S.faults shelf.new))
         (O.faults out.old) (O.faults out.new) (O.taken out.old) (O.taken out.new)) result }
 
-    // With success nothing is told, and a refusal in one piece; with any refusal but a failing output that is not touched.
+    // With success nothing is told, with a refusal just one piece is put; with any refusal but a failing output that is not touched.
     ensures silent { result ≡ 0 → err.new ≡ err.old }
     ensures silent_gap { result ≡ 10 → err.new ≡ err.old }
     ensures kept { result ≢ 0 → result ≢ 10 → result ≢ 9 → out.new ≡ out.old }
-    ensures one_piece { (err.new ≡ err.old) ⊎ (E.puts err.new ≡ raised (E.puts err.old)) }
+    ensures one_piece { result ≢ 0 → result ≢ 10 → E.puts err.new ≡ raised (E.puts err.old) }
 
     // The shelf's files are as they were, and no count falls.
     ensures files { S.files shelf.new ≡ S.files shelf.old }
