@@ -18,6 +18,7 @@ use Rattle.sg_tree.specs.declared.fact.Line.{Line}
 use Rattle.sg_bounds.specs.Facts.{IsLineOf, IsCoverFact}
 use Rattle.sg_bounds.specs.Regions.{IsFix}
 use Rattle.sg_bounds.specs.FactLaws.{CoverIsPlays}
+use Rattle.sg_model.proofs.Lists.{All-flat_map}
 use Rattle.sg_model.proofs.Forms.{no_matrix}
 use Rattle.sg_model.proofs.Ints.{v, n, plus, less, times, same_by, mul-le}
 use Rattle.sg_model.proofs.Sums.{total-add, total-le, total-same, total-scaled, total-exchange, total-append}
@@ -26,10 +27,6 @@ use Rattle.sg_model.proofs.Numbers.{All-numbers}
 pub total-map : {X Y : Type 0} (f : Y → ℤ) (h : X → Y) (xs : List X) → total f (map h xs) ≡ total (λ x. f (h x)) xs
 total-map f h [] = refl
 total-map f h (x ∷ xs) = ap (λ (z : ℤ). f (h x) +ℤ z) (total-map f h xs)
-
-pub All-flat_map : {X Y : Type 0} (P : Y → Type 0) (h : X → List Y) (xs : List X) → All (λ x. All P (h x)) xs → All P (flat_map h xs)
-All-flat_map P h [] all = All-nil P
-All-flat_map P h (x ∷ xs) all = All-append P (h x) (flat_map h xs) (All-head (λ x. All P (h x)) x xs all) (All-flat_map P h xs (All-tail (λ x. All P (h x)) x xs all))
 
 -- one number among those that pass
 none_left : (p : ℕ → Bool) (z : ℤ) (s a m : ℕ) → s < a → total (λ t. where_same s t z) (filter p (numbers_from a m)) ≡ pos 0

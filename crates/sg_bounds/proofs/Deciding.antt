@@ -37,8 +37,10 @@ use Rattle.sg_bounds.specs.Leaves.{tree_bounds_of}
 use Rattle.sg_bounds.specs.Sizes.{bound_sums, size_sums, value_sums, weight_sums}
 use Rattle.sg_bounds.specs.Accepted.{AreLowest, Fits, IsBelow, IsGreatest, IsSame, IsWaterTree, is_optimal}
 use Rattle.sg_bounds.specs.Checking.{IsCapShape, IsWaterRoot, Passes, Test, legal, weights_fit, totalled, lowest, value_fits, valued, capped, cap_within, caps_end, rooted, leveled, forks, sized, holds, bounded, topped, judged}
-use Rattle.sg_bounds.proofs.Told.{Decides-all, Decides-any, Decides-if, Decides-iff, Decides-le, Decides-le_z, Decides-listed, Decides-none, Decides-numbers}
-use Rattle.sg_bounds.proofs.Listed.{columns-are, columns-inside, columns_of_game, plays-are, plays-inside, plays_of}
+use Rattle.sg_model.proofs.Decided.{Decides-all, Decides-any, Decides-if, Decides-iff, Decides-le, Decides-le_z, Decides-listed, Decides-none, Decides-numbers}
+use Rattle.sg_bounds.proofs.Listed.{columns-are, columns-inside, columns_of_game}
+use Rattle.sg_model.proofs.LegalPlays.{legal_plays-legal, legal_plays-complete}
+use Rattle.sg_model.specs.PlayLists.{legal_plays}
 
 -- ---- plays
 
@@ -99,7 +101,7 @@ Decides-mark g fix m =
 abbrev plays_test : Game → ℤ → Fix → (rho mu : ℤ) → List Mark → Bool
 plays_test g shift fix rho mu marks =
     (int_le (pos 1) rho && int_le (pos 0) mu)
-    && (list_all (mark_test g fix) marks && list_all (λ play. int_le ((rho *ℤ cost g shift fix play) -ℤ regret g fix marks play) mu) (plays_of g))
+    && (list_all (mark_test g fix) marks && list_all (λ play. int_le ((rho *ℤ cost g shift fix play) -ℤ regret g fix marks play) mu) (legal_plays g))
 
 Decides-plays : (g : Game) (shift : ℤ) (fix : Fix) (rho mu : ℤ) (marks : List Mark) → Decides (plays_test g shift fix rho mu marks) (IsPlaysFact g shift fix rho mu marks)
 Decides-plays g shift fix rho mu marks =
@@ -107,13 +109,13 @@ Decides-plays g shift fix rho mu marks =
     let d = list_all (mark_test g fix) marks in
     let low = λ (play : List ℕ). int_le ((rho *ℤ cost g shift fix play) -ℤ regret g fix marks play) mu in
     let Low : List ℕ → Type 0 = λ play. ((rho *ℤ cost g shift fix play) -ℤ regret g fix marks play) ≤ℤ mu in
-    let e = list_all low (plays_of g) in
+    let e = list_all low (legal_plays g) in
     Decides-like (plays_test g shift fix rho mu marks)
     (λ k. record { rho_positive = k.0.0; mu_nonneg = k.0.1; marks_of = k.1.0; each = k.1.1 })
     (λ (is : IsPlaysFact g shift fix rho mu marks). ((is.rho_positive, is.mu_nonneg), (is.marks_of, is.each)))
     (Decides-and (a && b) (d && e) (Decides-and a b (Decides-le_z (pos 1) rho) (Decides-le_z (pos 0) mu))
     (Decides-and d e (Decides-all (mark_test g fix) (IsMarkOf g fix) (Decides-mark g fix) marks)
-    (Decides-listed (IsLegal g) (plays_of g) (plays-are g) (plays-inside g) low Low (λ play. Decides-le_z ((rho *ℤ cost g shift fix play) -ℤ regret g fix marks play) mu))))
+    (Decides-listed (IsLegal g) (legal_plays g) (legal_plays-legal g) (legal_plays-complete g) low Low (λ play. Decides-le_z ((rho *ℤ cost g shift fix play) -ℤ regret g fix marks play) mu))))
 
 abbrev line_test : Game → Fix → Line → Bool
 line_test g fix line = nat_le 1 line.row && (nat_le line.row (length (rows g fix)) && int_le (pos 1) line.v)

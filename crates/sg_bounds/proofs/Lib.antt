@@ -10,7 +10,6 @@ pub mod Checks
 pub mod Accepts
 pub mod Verdicts
 pub mod Nodes
-pub mod Told
 pub mod Listed
 pub mod Deciding
 pub mod Answering

@@ -19,7 +19,7 @@ use Rattle.sg_bounds.specs.Sizes.{pay_sums, running, take_sums, value_sums, weig
 use Rattle.sg_bounds.specs.Accepted.{Fits}
 use Rattle.sg_bounds.specs.ReportLaws.{SmallTotalsFit}
 use Rattle.sg_bounds.specs.SizeLaws.{IsAtMost}
-use Rattle.sg_bounds.proofs.Cover.{All-flat_map}
+use Rattle.sg_model.proofs.Lists.{All-flat_map}
 use Rattle.sg_bounds.proofs.Places.{nth-next}
 
 at_most-fits : (b z : ℤ) → b <ℤ pos (2 ^ 127) → IsAtMost b z → Fits z

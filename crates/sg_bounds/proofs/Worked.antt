@@ -21,7 +21,7 @@ use Rattle.sg_bounds.specs.Trees.{Node, unproved, closed, split, node_of, parts_
 use Rattle.sg_bounds.specs.Accepted.{IsAccepted}
 use Rattle.sg_bounds.specs.Checking.{IsRefused}
 use Rattle.sg_bounds.specs.Examples.{WorkedReports, based_report, both_dominated, both_dominated_report, cover_report, dominated, dominated_report, empty_fact, first_fact, half_dominated, half_dominated_report, late_fact, level_tree, low_players, low_report, low_water, mark, nested_report, no_target, one_alone, one_target, one_type_report, one_type_tree, open_below, open_report, open_tree, over, over_cover, over_plays, plain_cap, proved_cap, reported, row, row_report, second_fact, shared_fact, shared_report, short_fact, small_mark, spent_report, split_for_scaled, two_to_one, two_types_tree, unbased_report, water_report, weighted_fact, weighted_players, weighted_report, wide_bound, with_caps, with_tickets, with_tree}
-use Rattle.sg_bounds.proofs.Told.{Decides-le_z}
+use Rattle.sg_model.proofs.Decided.{Decides-le_z}
 use Rattle.sg_bounds.proofs.Nodes.{node_of-Closed, node_of-Split, node_of-Unproved}
 use Rattle.sg_bounds.proofs.Answering.{accepted_by, answer, refused_by, stops_at}
 

@@ -25,7 +25,7 @@ use Rattle.sg_tree.specs.declared.report.Report.{Report}
 use Rattle.sg_tree.specs.Claims.{is_claim}
 use Rattle.sg_bounds.specs.Checking.{AllPass, ticket_stops}
 use Rattle.sg_bounds.proofs.Claims.{claim_commits}
-use Rattle.sg_bounds.proofs.Cover.{All-flat_map}
+use Rattle.sg_model.proofs.Lists.{All-flat_map}
 use Rattle.sg_bounds.specs.Accepted.{Fits}
 use Rattle.sg_bounds.specs.Sizes.{pay_sums, take_sums, value_sums, worth_sums}
 use Rattle.sg_check.specs.declared.value.Best.{Best}

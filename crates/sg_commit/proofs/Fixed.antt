@@ -18,7 +18,8 @@ use Rattle.sg_model.specs.Commitments.{scaled, weight_on, weight_total}
 use Rattle.sg_model.specs.OptimalityLaws.{AreOneMix}
 use Rattle.sg_model.proofs.Ints.{cancel, v, plus, times, same_by}
 use Rattle.sg_num.proofs.Divisors.{dvd-coprime, some_from_IsGcd}
-use Rattle.sg_commit.specs.Committed.{AreLowest, Committed, IsCommitted, is_before, is_rising}
+use Rattle.sg_commit.specs.Committed.{AreLowest, Committed, IsCommitted, is_rising}
+use Rattle.sg_model.specs.Orders.{is_before}
 use Rattle.sg_commit.proofs.Kept.{before-trans, head_before, not_before_itself, rising-tail, weight_on-scaled}
 use Rattle.sg_model.proofs.Covers.{ArePositive}
 use Rattle.sg_commit.proofs.Worths.{product-positive}

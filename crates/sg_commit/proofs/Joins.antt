@@ -7,7 +7,8 @@ use Rattle.std.proofs.lemmas.Slice.Eq.{bytes_eq-Decides}
 use Rattle.sg_model.specs.declared.ticket.Ticket.{Ticket}
 use Rattle.sg_model.specs.OptimalityLaws.{AreOneMix}
 use Rattle.sg_model.proofs.Joined.{mix-joined}
-use Rattle.sg_commit.specs.Committed.{is_before, is_rising}
+use Rattle.sg_model.specs.Orders.{is_before}
+use Rattle.sg_commit.specs.Committed.{is_rising}
 use Rattle.sg_commit.specs.Joining.{join_onto, joined}
 use Rattle.sg_commit.proofs.Orders.{comes_before, sorted-head, sorted-tail, sorted-first, before_or_same, rising-cons}
 use Rattle.sg_model.proofs.Covers.{ArePositive}

@@ -10,7 +10,8 @@ use Rattle.std.specs.Prelude.{bytes_eq}
 use Rattle.std.proofs.lemmas.List.Sorted.{ranks_by}
 use Rattle.std.proofs.lemmas.Map.Text.{is_eq-slice_cmp}
 use Rattle.sg_model.specs.declared.ticket.Ticket.{Ticket}
-use Rattle.sg_commit.specs.Committed.{is_before, is_rising}
+use Rattle.sg_model.specs.Orders.{is_before}
+use Rattle.sg_commit.specs.Committed.{is_rising}
 
 -- whether one ticket's play comes before another's
 abbrev pub comes_before : Ticket → Ticket → Bool

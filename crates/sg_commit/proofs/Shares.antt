@@ -18,7 +18,8 @@ use Rattle.sg_model.specs.OptimalityLaws.{AreOneMix}
 use Rattle.sg_model.proofs.Ints.{factor_positive, v, times, same_by, cancel, product_nonneg}
 use Rattle.sg_model.proofs.Joined.{mix-permuted, same_weight_total}
 use Rattle.sg_model.proofs.Scaled.{weight_total-scaled}
-use Rattle.sg_commit.specs.Committed.{AreLowest, IsCommitted, is_before, is_rising}
+use Rattle.sg_commit.specs.Committed.{AreLowest, IsCommitted, is_rising}
+use Rattle.sg_model.specs.Orders.{is_before}
 use Rattle.sg_commit.specs.Joining.{IsCommonDivisor, joined, no_ticket}
 use Rattle.sg_commit.specs.Parts.{AreMultiple}
 use Rattle.sg_commit.proofs.Orders.{comes_before}

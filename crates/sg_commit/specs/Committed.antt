@@ -1,10 +1,9 @@
 -- Commitments as they are kept: tickets in rising order of their plays, with weights in lowest terms and their total.
 use Rattle.std.specs.Prelude.{◌≡◌, ◌≢◌, ℕ, Bool, true, ◌&&◌, List, [], ◌∷◌, ℤ, pos, ◌≤ℤ◌, All, unsigned_abs}
 use Rattle.std.specs.Int.{◌∣◌}
-use Rattle.std.specs.Ordering.{nat_cmp, is_lt}
-use Rattle.std.specs.Cmp.Lexicographic.{slice_cmp}
 use Rattle.sg_model.specs.declared.ticket.Ticket.{Ticket}
 use Rattle.sg_model.specs.Games.{Game}
+use Rattle.sg_model.specs.Orders.{is_before}
 use Rattle.sg_model.specs.Plays.{IsLegal}
 use Rattle.sg_model.specs.Commitments.{weight_total}
 
@@ -12,10 +11,6 @@ use Rattle.sg_model.specs.Commitments.{weight_total}
 pub record Committed : Type 0 where
   pub tickets : List Ticket
   pub total : ℤ
-
--- whether a list of choices comes before another in the order of lists
-abbrev pub is_before : List ℕ → List ℕ → Bool
-is_before before after = is_lt (slice_cmp nat_cmp before after)
 
 -- whether the play of each ticket comes before that of the next
 abbrev pub is_rising : List Ticket → Bool

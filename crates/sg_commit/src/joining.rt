@@ -4,7 +4,7 @@ ghost use Rattle.std.specs.Prelude.{◌≡◌, ◌≢◌, ◌≤◌, ◌<◌, �
 ghost use Rattle.std.specs.List.Sorted.{IsSortedBy};
 ghost use Rattle.sg_model.specs.declared.ticket.Ticket.{Ticket};
 ghost use Rattle.sg_model.specs.Commitments.{scaled, weight_total};
-ghost use Rattle.sg_commit.specs.Committed.{is_before};
+ghost use Rattle.sg_model.specs.Orders.{is_before};
 ghost use Rattle.sg_commit.specs.Joining.{IsCommonDivisor, joined, no_ticket, outcome, standing};
 ghost use Rattle.sg_commit.specs.Parts.{AreMultiple};
 

@@ -2,7 +2,8 @@
 use Rattle.std.proofs.Common.{◌≡◌, ◌∙◌, ℕ, zero, suc, ◌+◌, ◌*◌, ◌-◌, ◌<◌, ◌≤◌, false, length, refl, ap, sym, subst, arith}
 use Rattle.std.proofs.Math.Nat.{mul_assoc, mul-le-mul_left}
 use Rattle.sg_model.specs.Games.{Game, is_matrix, resource_schedules, schedule_count, schedule_targets}
-use Rattle.sg_game.specs.Counting.{IsSingle, choices_from}
+use Rattle.sg_model.specs.PlayLists.{choices_from}
+use Rattle.sg_game.specs.Counting.{IsSingle}
 
 pub choices-some : (g : Game) (r n : ℕ) → 1 ≤ choices_from g r n
 choices-some g r zero = omega arith

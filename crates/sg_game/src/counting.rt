@@ -4,8 +4,9 @@ ghost use Rattle.std.specs.Prelude.{◌≡◌, ◌≤◌, ◌<◌, ◌*◌, ◌�
 ghost use Rattle.sg_model.specs.Games.{is_matrix, resource_count, resource_schedules};
 ghost use Rattle.sg_model.specs.Limits.{program_rows};
 ghost use Rattle.sg_model.specs.Plays.{IsLegal};
+ghost use Rattle.sg_model.specs.PlayLists.{choices_from, play_count};
 ghost use Rattle.sg_game.specs.Counts.{IsResourceOf};
-ghost use Rattle.sg_game.specs.Counting.{IsSingle, choices_from, least_code, play_count};
+ghost use Rattle.sg_game.specs.Counting.{IsSingle, least_code};
 
 use crate::draft::rows_of;
 use crate::game::Game;

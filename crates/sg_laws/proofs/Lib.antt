@@ -6,7 +6,6 @@ pub mod Cuts
 pub mod Steady
 pub mod Readers
 pub mod Faults
-pub mod Plays
 pub mod LineOrder
 mod LineExamples
 mod RowLines

@@ -1,6 +1,5 @@
 pub mod Stops
 pub mod Faults
-pub mod Plays
 pub mod LineTests
 pub mod WorkedLines
 pub mod PartFaults

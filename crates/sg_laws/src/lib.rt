@@ -6,7 +6,6 @@
 mod fault_laws;
 mod order_laws;
 mod part_laws;
-mod play_laws;
 mod stop_laws;
 
 pub use fault_laws::{
@@ -14,5 +13,4 @@ pub use fault_laws::{
 };
 pub use order_laws::{lines_are_worked, lines_in_order};
 pub use part_laws::part_faults_say;
-pub use play_laws::{plays_are_counted, plays_are_listed};
 pub use stop_laws::{cap_rows_spell, rows_are_lines, stop_lines};

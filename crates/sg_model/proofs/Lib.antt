@@ -19,6 +19,10 @@ pub mod Worked
 pub mod Edges
 pub mod Joined
 pub mod Payoffs
+pub mod Before
+pub mod Decided
+pub mod Lists
+pub mod LegalPlays
 pub mod Expected
 pub mod AtEdges
 pub mod Spans

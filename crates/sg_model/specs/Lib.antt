@@ -1,6 +1,8 @@
 pub mod Sums
 pub mod Games
+pub mod Orders
 pub mod Plays
+pub mod PlayLists
 pub mod Payoffs
 pub mod Commitments
 pub mod Optimality
@@ -10,6 +12,7 @@ pub mod Limits
 pub mod ReportText
 pub mod GameLaws
 pub mod PlayLaws
+pub mod PlayListLaws
 pub mod PayoffLaws
 pub mod OptimalityLaws
 pub mod OrigamiLaws

@@ -2,7 +2,7 @@
 //!
 //! The definitions stand in `specs/`, one module a subject, and every other crate cites them. The functions below
 //! carry laws about the definitions: each has an empty body, and its contract is a statement of one of the modules
-//! `GameLaws`, `LimitLaws`, `PlayLaws`, `PayoffLaws`, `OptimalityLaws` and `OrigamiLaws` of `specs/`. `worked_examples` carries
+//! `GameLaws`, `LimitLaws`, `Orders`, `PlayLaws`, `PlayListLaws`, `PayoffLaws`, `OptimalityLaws` and `OrigamiLaws` of `specs/`. `worked_examples` carries
 //! small games with their answers, `worked_edges` cases at the edges.
 #![tactic(auto)]
 
@@ -15,6 +15,7 @@ mod optimality_laws;
 mod origami_laws;
 mod payoff_laws;
 mod play_laws;
+mod play_list_laws;
 mod ticket;
 
 pub use examples::{worked_edges, worked_examples};
@@ -39,5 +40,9 @@ pub use payoff_laws::{
 pub use play_laws::{
     covers_are_few, covers_where_held, held_pays_covered, patrols_cover_choices,
     same_cover_pays_same,
+};
+pub use play_list_laws::{
+    legal_plays_are_all, legal_plays_are_counted, legal_plays_rise, plays_are_counted,
+    test_is_order,
 };
 pub use ticket::{Play, Ticket};

@@ -9,7 +9,8 @@ use Rattle.std.proofs.lemmas.Bool.{and_from}
 use Rattle.std.proofs.lemmas.Bool.Decides.{nat_tests}
 use Rattle.std.proofs.lemmas.List.Elements.{All-nil, All-cons, All-head, All-tail}
 use Rattle.sg_model.specs.declared.ticket.Ticket.{Ticket}
-use Rattle.sg_commit.specs.Committed.{Committed, IsCommitted, is_before}
+use Rattle.sg_commit.specs.Committed.{Committed, IsCommitted}
+use Rattle.sg_model.specs.Orders.{is_before}
 use Rattle.sg_commit.specs.Committed as committed
 use Rattle.sg_tree.specs.Claims.{HaveOneLength, are_positive, comes_before, is_claim, is_rising}
 

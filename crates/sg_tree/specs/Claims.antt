@@ -1,9 +1,8 @@
 -- What a report may say of its tickets.
 use Rattle.std.specs.Prelude.{◌≡◌, ℕ, ℤ, pos, All, Bool, true, not, ◌&&◌, ◌==◌, int_le, List, [], ◌∷◌, length}
 use Rattle.std.specs.List.{list_all}
-use Rattle.std.specs.Ordering.{nat_cmp, is_lt}
-use Rattle.std.specs.Cmp.Lexicographic.{slice_cmp}
 use Rattle.sg_model.specs.declared.ticket.Ticket.{Ticket}
+use Rattle.sg_model.specs.Orders.{is_before}
 
 -- tickets and the total that is stated of them
 pub record Claimed : Type 0 where
@@ -12,7 +11,7 @@ pub record Claimed : Type 0 where
 
 -- whether a list of choices is as long as another and comes before it in the order of lists
 abbrev pub comes_before : List ℕ → List ℕ → Bool
-comes_before before after = length before == length after && is_lt (slice_cmp nat_cmp before after)
+comes_before before after = length before == length after && is_before before after
 
 -- whether each list of choices comes before the next
 abbrev pub is_rising : List Ticket → Bool

@@ -1,6 +1,6 @@
 use Rattle.std.proofs.Common.{◌≡◌, ◌+◌, ◌*◌, ◌<◌, ◌^◌, ℕ, length, ap, arith, sym, ◌∙◌, subst, ◌-◌}
 use Rattle.sg_model.specs.Games.{resource_count, resource_schedules}
-use Rattle.sg_game.specs.Counting.{choices_from}
+use Rattle.sg_model.specs.PlayLists.{choices_from}
 use Rattle.sg_game.proofs.Choices.{choices-next, choices-over}
 use Rattle.sg_game.proofs.counting.choices.Goals as goal
 

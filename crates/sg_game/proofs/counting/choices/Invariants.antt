@@ -1,6 +1,6 @@
 use Rattle.std.proofs.Common.{◌≡◌, ◌+◌, ◌*◌, ◌-◌}
 use Rattle.sg_model.specs.Games.{resource_count}
-use Rattle.sg_game.specs.Counting.{choices_from}
+use Rattle.sg_model.specs.PlayLists.{choices_from}
 use Rattle.sg_game.proofs.counting.choices.Given as goal
 
 -- the count so far, times that of the rest

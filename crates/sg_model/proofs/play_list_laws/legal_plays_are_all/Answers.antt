@@ -1,0 +1,5 @@
+use Rattle.sg_model.proofs.LegalPlays.{legal_plays_are_all}
+use Rattle.sg_model.proofs.play_list_laws.legal_plays_are_all.Goals as goal
+
+pub returns : goal.returns
+returns c = legal_plays_are_all
