@@ -16,9 +16,9 @@ use Rattle.sg_tree.specs.declared.fix.Fix.{Fix}
 use Rattle.sg_bounds.specs.Regions.{IsInRegion}
 use Rattle.sg_tree.specs.declared.fact.Fact.{Fact}
 use Rattle.sg_tree.specs.declared.fact.Fact.TheVariants.{Plays, Cover, Water}
-use Rattle.sg_bounds.specs.Facts.{rho_of, mu_of, HoldsFor, no_fact}
+use Rattle.sg_bounds.specs.Facts.{rho_of, mu_of, HoldsFor, no_fact, shifted_sum}
 use Rattle.sg_bounds.specs.Regions.{IsFix, alone}
-use Rattle.sg_bounds.specs.FactLaws.{FactBounds, CapBounds, EmptyRegion, shifted_sum}
+use Rattle.sg_bounds.specs.FactLaws.{FactBounds, CapBounds, EmptyRegion}
 use Rattle.sg_model.proofs.Ints.{v, n, plus, times, same_by, le_by, le_from, mul-le, cancel-le}
 use Rattle.sg_model.proofs.Sums.{total-le, total-scaled, total-add}
 use Rattle.sg_model.proofs.Numbers.{All-numbers}
@@ -60,9 +60,9 @@ sum_d-low g k is_k l a from_one in_range low high =
     omega (arith, ints, a1, b, d, weight_total-positive k is_k.some is_k.positive)
 
 pub each_fact_bounds : FactBounds
-each_fact_bounds g fix is_fix (Plays rho mu marks) holds k is_k region = duality.fact_bounds g (shift_of g) fix rho mu marks holds k is_k region
+each_fact_bounds g fix is_fix (Plays rho mu marks) holds k is_k region = duality.fact_bounds g fix rho mu marks holds k is_k region
 each_fact_bounds g fix is_fix (Cover rho mu lines) holds k is_k region =
-    duality.fact_bounds g (shift_of g) fix rho mu _ (cover_is_plays g (shift_of g) fix is_fix rho mu lines holds) k is_k region
+    duality.fact_bounds g fix rho mu _ (cover_is_plays g fix is_fix rho mu lines holds) k is_k region
 each_fact_bounds g fix is_fix (Water level why) holds k is_k region = absurd holds
 
 pub holds-rho : (g : Game) (fix : Fix) (f : Fact) → HoldsFor g fix f → pos 1 ≤ℤ rho_of f

@@ -6,6 +6,7 @@ use Rattle.std.proofs.lemmas.Int.{ints}
 use Rattle.std.proofs.lemmas.Bool.{cases_eq}
 use Rattle.std.proofs.lemmas.Bool.Decides.{nat_tests, when_false}
 use Rattle.std.proofs.lemmas.List.Elements.{All-head, All-tail, All-nil, All-cons, All-append, All-filter, All-map, filter_passes}
+use Rattle.sg_model.specs.Payoffs.{shift_of}
 use Rattle.sg_model.specs.Sums.{total, numbers, numbers_from, nth}
 use Rattle.sg_model.specs.Games.{Game, is_matrix, attacker, action_count, payoff, resource_count, resource_schedules, schedule_targets}
 use Rattle.sg_model.specs.Plays.{pay_a, pay_d, covers, covers_from, IsLegal, IsLegalJoint, IsRow}
@@ -313,23 +314,23 @@ columns_are g security play legal =
     (All-append (IsColumn g) (chosen 1 play) (map covering (covered g play)) plain (All-map (IsColumn g) covering (covered g play) (All-filter (covers g play) InTargets (numbers (length g.goals)) range)))
 
 -- the cost of a play is the sum of its columns' costs
-cost_is : (g : Game) → is_matrix g ≡ false → (shift : ℤ) (fix : Fix) → IsFix g fix → (play : List ℕ) → total (column_cost g shift fix) (columns_of g play) ≡ cost g shift fix play
-cost_is g security shift fix is_fix play =
-    let a = split_columns (column_cost g shift fix) g play in
-    let b = chosen-none (column_cost g shift fix) 1 play (λ r j. refl) in
+cost_is : (g : Game) → is_matrix g ≡ false → (fix : Fix) → IsFix g fix → (play : List ℕ) → total (column_cost g fix) (columns_of g play) ≡ cost g fix play
+cost_is g security fix is_fix play =
+    let a = split_columns (column_cost g fix) g play in
+    let b = chosen-none (column_cost g fix) 1 play (λ r j. refl) in
     let gain = λ (p : ℕ × ℕ). (attacker g p.0).prior *ℤ ((payoff g p.0 p.1).dc -ℤ (payoff g p.0 p.1).du) in
     let d = total-exchange (λ (t : ℕ) (p : ℕ × ℕ). where_same p.1 t (gain p)) (covered g play) (fixed fix) in
-    let base = λ (p : ℕ × ℕ). (attacker g p.0).prior *ℤ ((payoff g p.0 p.1).du +ℤ shift) in
+    let base = λ (p : ℕ × ℕ). (attacker g p.0).prior *ℤ ((payoff g p.0 p.1).du +ℤ shift_of g) in
     let more = λ (p : ℕ × ℕ). total (λ t. where_same p.1 t (gain p)) (covered g play) in
     let e = total-add base more (fixed fix) in
-    let part = λ (p : ℕ × ℕ). (attacker g p.0).prior *ℤ (pay_d g p.0 play p.1 +ℤ shift) in
+    let part = λ (p : ℕ × ℕ). (attacker g p.0).prior *ℤ (pay_d g p.0 play p.1 +ℤ shift_of g) in
     let f = total-same (λ p. base p +ℤ more p) part (fixed fix) (λ i y lt.
     let p : ℕ × ℕ = slice_index_or (fixed fix) i y in
     let act = is_fix.acts i y lt in
     let actions : action_count g p.0 ≡ length g.goals = rw security refl in
     let q = picked (covers g play) (gain p) p.1 1 (length g.goals) act.0 (omega (arith, act.1, actions)) in
-    let w = v (attacker g p.0).prior in let u = v (payoff g p.0 p.1).du in let k = v (payoff g p.0 p.1).dc in let h = v shift in
-    let both : base p +ℤ cond (covers g play p.1) (gain p) (pos 0) ≡ part p = rw security (elim (covers g play p.1) as (λ x. base p +ℤ cond x (gain p) (pos 0) ≡ (attacker g p.0).prior *ℤ (cond x (payoff g p.0 p.1).dc (payoff g p.0 p.1).du +ℤ shift)) [
+    let w = v (attacker g p.0).prior in let u = v (payoff g p.0 p.1).du in let k = v (payoff g p.0 p.1).dc in let h = v (shift_of g) in
+    let both : base p +ℤ cond (covers g play p.1) (gain p) (pos 0) ≡ part p = rw security (elim (covers g play p.1) as (λ x. base p +ℤ cond x (gain p) (pos 0) ≡ (attacker g p.0).prior *ℤ (cond x (payoff g p.0 p.1).dc (payoff g p.0 p.1).du +ℤ shift_of g)) [
       | true ↦ same_by (plus (times w (plus u h)) (times w (less k u))) (times w (plus k h)) (omega arith)
       | false ↦ same_by (plus (times w (plus u h)) (n 0)) (times w (plus u h)) (omega arith)
     ]) in
@@ -350,8 +351,8 @@ lines_sum g fix mu lines play =
     (λ i y lt. let x : Line = slice_index_or lines i y in total-scaled (entry g fix (row_of g fix x)) x.v cs) in
     omega (arith, ints, a, b, one, d, e)
 
-pub cover_is_plays : (g : Game) (shift : ℤ) (fix : Fix) → IsFix g fix → (rho mu : ℤ) (lines : List Line) → IsCoverFact g shift fix rho mu lines → IsPlaysFact g shift fix rho mu (marks_of g fix lines)
-cover_is_plays g shift fix is_fix rho mu lines fact =
+pub cover_is_plays : (g : Game) (fix : Fix) → IsFix g fix → (rho mu : ℤ) (lines : List Line) → IsCoverFact g fix rho mu lines → IsPlaysFact g fix rho mu (marks_of g fix lines)
+cover_is_plays g fix is_fix rho mu lines fact =
     let security = no_matrix g fact.security in
     record {
       rho_positive = fact.rho_positive;
@@ -361,13 +362,13 @@ cover_is_plays g shift fix is_fix rho mu lines fact =
           let cs : List Column = columns_of g play in
           let right = λ (c : Column). (mu *ℤ entry g fix whole c) +ℤ total (λ (x : Line). x.v *ℤ entry g fix (row_of g fix x) c) lines in
           let are = columns_are g security play legal in
-          let a = total-le (λ c. rho *ℤ column_cost g shift fix c) right cs (λ i d lt. fact.each (slice_index_or cs i d) (are i d lt)) in
-          let b = total-scaled (column_cost g shift fix) rho cs in
-          let d : rho *ℤ total (column_cost g shift fix) cs ≡ rho *ℤ cost g shift fix play = ap (λ (z : ℤ). rho *ℤ z) (cost_is g security shift fix is_fix play) in
+          let a = total-le (λ c. rho *ℤ column_cost g fix c) right cs (λ i d lt. fact.each (slice_index_or cs i d) (are i d lt)) in
+          let b = total-scaled (column_cost g fix) rho cs in
+          let d : rho *ℤ total (column_cost g fix) cs ≡ rho *ℤ cost g fix play = ap (λ (z : ℤ). rho *ℤ z) (cost_is g security fix is_fix play) in
           let e = lines_sum g fix mu lines play in
           let f = lines_regret g security fix is_fix play lines fact.lines_of in
           omega (arith, ints, a, b, d, e, f);
     }
 
 pub cover_plays : CoverIsPlays
-cover_plays g shift fix is_fix rho mu lines fact = (marks_of g fix lines, cover_is_plays g shift fix is_fix rho mu lines fact)
+cover_plays g fix is_fix rho mu lines fact = (marks_of g fix lines, cover_is_plays g fix is_fix rho mu lines fact)

@@ -29,7 +29,7 @@ use Rattle.sg_tree.specs.declared.fix.Fix.{Fix}
 use Rattle.sg_tree.specs.declared.report.Cap.{Cap}
 use Rattle.sg_tree.specs.declared.report.Report.{Report}
 use Rattle.sg_bounds.specs.Regions.{act_of}
-use Rattle.sg_bounds.specs.Coverage.{Column, IsColumn, column_cost, entry, row_of, rows, whole}
+use Rattle.sg_bounds.specs.Coverage.{Column, IsColumn, column_cost, entry, row_of, rows, whole, columns}
 use Rattle.sg_bounds.specs.Facts.{HoldsFor, IsCoverFact, IsLineOf, IsMarkOf, IsPlaysFact, cost, mu_of, regret, rho_of}
 use Rattle.sg_bounds.specs.Caps.{IsWithin}
 use Rattle.sg_bounds.specs.Trees.{Node, unproved, closed, split, IsRoot, node_of}
@@ -38,7 +38,7 @@ use Rattle.sg_bounds.specs.Sizes.{bound_sums, size_sums, value_sums, weight_sums
 use Rattle.sg_bounds.specs.Accepted.{AreLowest, Fits, IsBelow, IsGreatest, IsSame, IsWaterTree, is_optimal}
 use Rattle.sg_bounds.specs.Checking.{IsCapShape, IsWaterRoot, Passes, Test, legal, weights_fit, totalled, lowest, value_fits, valued, capped, cap_within, caps_end, rooted, leveled, forks, sized, holds, bounded, topped, judged}
 use Rattle.sg_model.proofs.Decided.{Decides-all, Decides-any, Decides-if, Decides-iff, Decides-le, Decides-le_z, Decides-listed, Decides-none, Decides-numbers}
-use Rattle.sg_bounds.proofs.Listed.{columns-are, columns-inside, columns_of_game}
+use Rattle.sg_bounds.proofs.Listed.{columns-are, columns-inside}
 use Rattle.sg_model.proofs.LegalPlays.{legal_plays-legal, legal_plays-complete}
 use Rattle.sg_model.specs.PlayLists.{legal_plays}
 
@@ -98,24 +98,24 @@ Decides-mark g fix m =
     (Decides-and (d && e) (f && h) (Decides-and d e (Decides-le 1 m.a) (Decides-le m.a (action_count g m.l)))
     (Decides-and f h (Decides-not (eqb m.a (act_of fix m.l)) (Decides-eqb m.a (act_of fix m.l))) (Decides-le_z (pos 1) m.v))))
 
-abbrev plays_test : Game → ℤ → Fix → (rho mu : ℤ) → List Mark → Bool
-plays_test g shift fix rho mu marks =
+abbrev plays_test : Game → Fix → (rho mu : ℤ) → List Mark → Bool
+plays_test g fix rho mu marks =
     (int_le (pos 1) rho && int_le (pos 0) mu)
-    && (list_all (mark_test g fix) marks && list_all (λ play. int_le ((rho *ℤ cost g shift fix play) -ℤ regret g fix marks play) mu) (legal_plays g))
+    && (list_all (mark_test g fix) marks && list_all (λ play. int_le ((rho *ℤ cost g fix play) -ℤ regret g fix marks play) mu) (legal_plays g))
 
-Decides-plays : (g : Game) (shift : ℤ) (fix : Fix) (rho mu : ℤ) (marks : List Mark) → Decides (plays_test g shift fix rho mu marks) (IsPlaysFact g shift fix rho mu marks)
-Decides-plays g shift fix rho mu marks =
+Decides-plays : (g : Game) (fix : Fix) (rho mu : ℤ) (marks : List Mark) → Decides (plays_test g fix rho mu marks) (IsPlaysFact g fix rho mu marks)
+Decides-plays g fix rho mu marks =
     let a = int_le (pos 1) rho in let b = int_le (pos 0) mu in
     let d = list_all (mark_test g fix) marks in
-    let low = λ (play : List ℕ). int_le ((rho *ℤ cost g shift fix play) -ℤ regret g fix marks play) mu in
-    let Low : List ℕ → Type 0 = λ play. ((rho *ℤ cost g shift fix play) -ℤ regret g fix marks play) ≤ℤ mu in
+    let low = λ (play : List ℕ). int_le ((rho *ℤ cost g fix play) -ℤ regret g fix marks play) mu in
+    let Low : List ℕ → Type 0 = λ play. ((rho *ℤ cost g fix play) -ℤ regret g fix marks play) ≤ℤ mu in
     let e = list_all low (legal_plays g) in
-    Decides-like (plays_test g shift fix rho mu marks)
+    Decides-like (plays_test g fix rho mu marks)
     (λ k. record { rho_positive = k.0.0; mu_nonneg = k.0.1; marks_of = k.1.0; each = k.1.1 })
-    (λ (is : IsPlaysFact g shift fix rho mu marks). ((is.rho_positive, is.mu_nonneg), (is.marks_of, is.each)))
+    (λ (is : IsPlaysFact g fix rho mu marks). ((is.rho_positive, is.mu_nonneg), (is.marks_of, is.each)))
     (Decides-and (a && b) (d && e) (Decides-and a b (Decides-le_z (pos 1) rho) (Decides-le_z (pos 0) mu))
     (Decides-and d e (Decides-all (mark_test g fix) (IsMarkOf g fix) (Decides-mark g fix) marks)
-    (Decides-listed (IsLegal g) (legal_plays g) (legal_plays-legal g) (legal_plays-complete g) low Low (λ play. Decides-le_z ((rho *ℤ cost g shift fix play) -ℤ regret g fix marks play) mu))))
+    (Decides-listed (IsLegal g) (legal_plays g) (legal_plays-legal g) (legal_plays-complete g) low Low (λ play. Decides-le_z ((rho *ℤ cost g fix play) -ℤ regret g fix marks play) mu))))
 
 abbrev line_test : Game → Fix → Line → Bool
 line_test g fix line = nat_le 1 line.row && (nat_le line.row (length (rows g fix)) && int_le (pos 1) line.v)
@@ -135,35 +135,35 @@ Decides-security Matrix = (λ e. absurd (true≢false (sym e)), λ h. absurd (tr
 abbrev column_side : Game → Fix → ℤ → List Line → Column → ℤ
 column_side g fix mu lines c = (mu *ℤ entry g fix whole c) +ℤ total (λ (line : Line). line.v *ℤ entry g fix (row_of g fix line) c) lines
 
-abbrev cover_test : Game → ℤ → Fix → (rho mu : ℤ) → List Line → Bool
-cover_test g shift fix rho mu lines =
+abbrev cover_test : Game → Fix → (rho mu : ℤ) → List Line → Bool
+cover_test g fix rho mu lines =
     not (is_matrix g)
     && ((int_le (pos 1) rho && int_le (pos 0) mu)
-    && (list_all (line_test g fix) lines && list_all (λ c. int_le (rho *ℤ column_cost g shift fix c) (column_side g fix mu lines c)) (columns_of_game g)))
+    && (list_all (line_test g fix) lines && list_all (λ c. int_le (rho *ℤ column_cost g fix c) (column_side g fix mu lines c)) (columns g)))
 
-Decides-cover : (g : Game) (shift : ℤ) (fix : Fix) (rho mu : ℤ) (lines : List Line) → Decides (cover_test g shift fix rho mu lines) (IsCoverFact g shift fix rho mu lines)
-Decides-cover g shift fix rho mu lines =
+Decides-cover : (g : Game) (fix : Fix) (rho mu : ℤ) (lines : List Line) → Decides (cover_test g fix rho mu lines) (IsCoverFact g fix rho mu lines)
+Decides-cover g fix rho mu lines =
     let a = int_le (pos 1) rho in let b = int_le (pos 0) mu in
     let d = list_all (line_test g fix) lines in
-    let low = λ (c : Column). int_le (rho *ℤ column_cost g shift fix c) (column_side g fix mu lines c) in
-    let Low : Column → Type 0 = λ c. (rho *ℤ column_cost g shift fix c) ≤ℤ column_side g fix mu lines c in
-    let e = list_all low (columns_of_game g) in
-    Decides-like (cover_test g shift fix rho mu lines)
+    let low = λ (c : Column). int_le (rho *ℤ column_cost g fix c) (column_side g fix mu lines c) in
+    let Low : Column → Type 0 = λ c. (rho *ℤ column_cost g fix c) ≤ℤ column_side g fix mu lines c in
+    let e = list_all low (columns g) in
+    Decides-like (cover_test g fix rho mu lines)
     (λ k. record { security = k.0; rho_positive = k.1.0.0; mu_nonneg = k.1.0.1; lines_of = k.1.1.0; each = k.1.1.1 })
-    (λ (is : IsCoverFact g shift fix rho mu lines). (is.security, ((is.rho_positive, is.mu_nonneg), (is.lines_of, is.each))))
+    (λ (is : IsCoverFact g fix rho mu lines). (is.security, ((is.rho_positive, is.mu_nonneg), (is.lines_of, is.each))))
     (Decides-and (not (is_matrix g)) ((a && b) && (d && e)) (Decides-security g.kind)
     (Decides-and (a && b) (d && e) (Decides-and a b (Decides-le_z (pos 1) rho) (Decides-le_z (pos 0) mu))
     (Decides-and d e (Decides-all (line_test g fix) (IsLineOf g fix) (Decides-line g fix) lines)
-    (Decides-listed (IsColumn g) (columns_of_game g) (columns-are g) (columns-inside g) low Low (λ c. Decides-le_z (rho *ℤ column_cost g shift fix c) (column_side g fix mu lines c))))))
+    (Decides-listed (IsColumn g) (columns g) (columns-are g) (columns-inside g) low Low (λ c. Decides-le_z (rho *ℤ column_cost g fix c) (column_side g fix mu lines c))))))
 
 abbrev fact_test : Game → Fix → Fact → Bool
-fact_test g fix (Plays rho mu marks) = plays_test g (shift_of g) fix rho mu marks
-fact_test g fix (Cover rho mu lines) = cover_test g (shift_of g) fix rho mu lines
+fact_test g fix (Plays rho mu marks) = plays_test g fix rho mu marks
+fact_test g fix (Cover rho mu lines) = cover_test g fix rho mu lines
 fact_test g fix (Water level why) = false
 
 Decides-fact : (g : Game) (fix : Fix) (f : Fact) → Decides (fact_test g fix f) (HoldsFor g fix f)
-Decides-fact g fix (Plays rho mu marks) = Decides-plays g (shift_of g) fix rho mu marks
-Decides-fact g fix (Cover rho mu lines) = Decides-cover g (shift_of g) fix rho mu lines
+Decides-fact g fix (Plays rho mu marks) = Decides-plays g fix rho mu marks
+Decides-fact g fix (Cover rho mu lines) = Decides-cover g fix rho mu lines
 Decides-fact g fix (Water level why) = Decides-none false refl
 
 -- ---- levels

@@ -5,6 +5,7 @@ use Rattle.std.specs.Prelude.{int_le}
 use Rattle.std.proofs.lemmas.Int.{ints}
 use Rattle.std.proofs.lemmas.List.Elements.{All-head, All-tail}
 use Rattle.std.proofs.lemmas.List.Sums.{AllPass-from_list_all}
+use Rattle.sg_model.specs.Payoffs.{shift_of}
 use Rattle.sg_model.specs.Sums.{total, numbers}
 use Rattle.sg_model.specs.Games.{Game, attacker, action_count}
 use Rattle.sg_model.specs.Plays.{pay_d, pay_a}
@@ -74,13 +75,13 @@ split_part rho (x ∷ xs) c r =
     ap (λ (b : ℤ). (x.weight *ℤ ((rho *ℤ c x) -ℤ r x)) +ℤ b) (split_part rho xs c r)
     ∙ same_by (plus (times w (less (times q y) z)) (less (times q (v s)) (v t))) (less (times q (plus (times w y) (v s))) (plus (times w z) (v t))) (omega arith)
 
-pub fact_bounds : (g : Game) (shift : ℤ) (fix : Fix) (rho mu : ℤ) (marks : List Mark) → IsPlaysFact g shift fix rho mu marks
+pub fact_bounds : (g : Game) (fix : Fix) (rho mu : ℤ) (marks : List Mark) → IsPlaysFact g fix rho mu marks
     → (k : List Ticket) → IsCommitment g k → IsInRegion g fix k
-    → (rho *ℤ total (λ (p : ℕ × ℕ). (attacker g p.0).prior *ℤ (sum_d g k p.0 p.1 +ℤ (shift *ℤ weight_total k))) (fixed fix)) ≤ℤ (mu *ℤ weight_total k)
-fact_bounds g shift fix rho mu marks fact k is_k region =
+    → (rho *ℤ total (λ (p : ℕ × ℕ). (attacker g p.0).prior *ℤ (sum_d g k p.0 p.1 +ℤ (shift_of g *ℤ weight_total k))) (fixed fix)) ≤ℤ (mu *ℤ weight_total k)
+fact_bounds g fix rho mu marks fact k is_k region =
     let w = λ (x : Ticket). x.weight in
     let d : ℤ = weight_total k in
-    let c = λ (x : Ticket). cost g shift fix x.play.code in
+    let c = λ (x : Ticket). cost g fix x.play.code in
     let r = λ (x : Ticket). regret g fix marks x.play.code in
     let each : All (λ (x : Ticket). (w x *ℤ ((rho *ℤ c x) -ℤ r x)) ≤ℤ (mu *ℤ w x)) k =
     λ i x lt.
@@ -91,12 +92,12 @@ fact_bounds g shift fix rho mu marks fact k is_k region =
     let a = total-le (λ (x : Ticket). w x *ℤ ((rho *ℤ c x) -ℤ r x)) (λ (x : Ticket). mu *ℤ w x) k each in
     let b = total-scaled w mu k in
     let e = split_part rho k c r in
-    let part = λ (x : Ticket) (p : ℕ × ℕ). (attacker g p.0).prior *ℤ (pay_d g p.0 x.play.code p.1 +ℤ shift) in
-    let sums = λ (p : ℕ × ℕ). (attacker g p.0).prior *ℤ (sum_d g k p.0 p.1 +ℤ (shift *ℤ d)) in
+    let part = λ (x : Ticket) (p : ℕ × ℕ). (attacker g p.0).prior *ℤ (pay_d g p.0 x.play.code p.1 +ℤ shift_of g) in
+    let sums = λ (p : ℕ × ℕ). (attacker g p.0).prior *ℤ (sum_d g k p.0 p.1 +ℤ (shift_of g *ℤ d)) in
     let costs : total (λ (x : Ticket). w x *ℤ c x) k ≡ total sums (fixed fix) =
     weighted w part k (fixed fix)
     ∙ total-same (λ (p : ℕ × ℕ). total (λ (x : Ticket). w x *ℤ part x p) k) sums (fixed fix)
-    (λ i y lt. let p : ℕ × ℕ = slice_index_or (fixed fix) i y in cost_part (attacker g p.0).prior shift k (λ (x : Ticket). pay_d g p.0 x.play.code p.1)) in
+    (λ i y lt. let p : ℕ × ℕ = slice_index_or (fixed fix) i y in cost_part (attacker g p.0).prior (shift_of g) k (λ (x : Ticket). pay_d g p.0 x.play.code p.1)) in
     let regrets = weighted w (λ (x : Ticket) (m : Mark). m.v *ℤ (pay_a g m.l x.play.code m.a -ℤ pay_a g m.l x.play.code (act_of fix m.l))) k marks in
     let none = no_gain g fix k region marks fact.marks_of in
     let scaled : rho *ℤ total (λ (x : Ticket). w x *ℤ c x) k ≡ rho *ℤ total sums (fixed fix) = ap (λ (z : ℤ). rho *ℤ z) costs in

@@ -1,7 +1,7 @@
--- The rows of the coverage table, by their numbers.
+-- The rows of a node's programs, by their numbers.
 use Rattle.std.proofs.Common.{◌≡◌, ℕ, zero, suc, ◌+◌, ◌-◌, ◌*◌, ◌<◌, ◌≤◌, Bool, true, false, cond, List, [], ◌∷◌, ◌++◌, length, map, sym, ◌∙◌, ap, refl, arith, get_or, eqb, nat_lt, not, flat_map, slice_index, length-append, inl, inr}
 use Rattle.std.specs.List.{All, filter, zip}
-use Rattle.std.specs.Prelude.{nat_eq}
+use Rattle.std.specs.Prelude.{nat_eq, sum_by}
 use Rattle.std.proofs.lemmas.Bool.{cases_eq}
 use Rattle.std.proofs.lemmas.Bool.Decides.{nat_tests}
 use Rattle.std.proofs.lemmas.List.{get_or_append_left, get_or-append-add, length-map}
@@ -14,7 +14,8 @@ use Rattle.sg_model.proofs.Forms.{no_matrix}
 use Rattle.sg_model.proofs.Numbers.{length-numbers_from, nth-map, nth-numbers_from}
 use Rattle.sg_bounds.specs.Regions.{fixed}
 use Rattle.sg_bounds.specs.Coverage.{Row, gains, held, others, rows, spends, whole, within}
-use Rattle.sg_bounds.specs.RowLaws.{RowsInOrder, other_than}
+use Rattle.sg_bounds.specs.PlayRows.{other_actions}
+use Rattle.sg_bounds.specs.RowLaws.{PlayRowsAreCounted, RowsInOrder, other_than}
 
 -- ---- places of an append, and of mapped numbers
 
@@ -64,6 +65,12 @@ inside a s (suc m) low high =
           let rest : s + suc m - (a + 1) ≡ s + 1 + m - (a + 1) = omega arith in
           rw (e, some, rest) (ap (λ (xs : List ℕ). s ∷ xs) (inside a (s + 1) m (omega arith) (omega arith))))
     ]
+
+-- all but one of m numbers are one less
+apart-count : (a m : ℕ) → 1 ≤ a → a ≤ m → length (filter (apart a) (numbers m)) ≡ m - 1
+apart-count a m low high =
+    ap length (inside a 1 m low (omega arith))
+    ∙ omega (arith, length-append (numbers_from 1 (a - 1)) (numbers_from (a + 1) (1 + m - (a + 1))), length-numbers_from 1 (a - 1), length-numbers_from (a + 1) (1 + m - (a + 1)))
 
 -- all but one of m numbers
 others-are : (g : Game) (a : ℕ) → 1 ≤ a → a ≤ length g.goals → others g a ≡ numbers_from 1 (a - 1) ++ numbers_from (a + 1) (length g.goals - a)
@@ -184,3 +191,16 @@ rows_in_order g security fix is_fix =
           ∙ (nth-right second (third ++ moves) (t + p) t whole c2 (omega (arith, some))
           ∙ (nth-right third moves p t whole c3 some ∙ moves-at g security fix.first fix.acts is_fix.acts i j lt low high)));
     }
+
+-- ---- the rows of a program of plays
+
+compared-count : (g : Game) (ps : List (ℕ × ℕ)) → All (IsAct g) ps → length (flat_map (other_actions g) ps) ≡ sum_by (λ (p : ℕ × ℕ). action_count g p.0 - 1) ps
+compared-count g [] all = refl
+compared-count g (p ∷ ps) all =
+    let here = All-head (IsAct g) p ps all in
+    let later = compared-count g ps (All-tail (IsAct g) p ps all) in
+    let one = length-map (filter (apart p.1) (numbers (action_count g p.0))) (λ (a : ℕ). (p.0, a)) ∙ apart-count p.1 (action_count g p.0) here.0 here.1 in
+    omega (arith, length-append (other_actions g p) (flat_map (other_actions g) ps), one, later)
+
+pub play_rows_are_counted : PlayRowsAreCounted
+play_rows_are_counted g fix is_fix = ap (λ (m : ℕ). 1 + m) (compared-count g (fixed fix) is_fix.acts)

@@ -95,7 +95,7 @@ module _ (g : Game) (is_peopled : IsPeopled g) (fix : Fix) (is_fix : IsFix g fix
 
   -- ---- plays
 
-  cost-small : (play : List ℕ) → IsLegal g play → IsAtMost (fixed_priors g fix *ℤ defender_most g) (cost g (shift_of g) fix play)
+  cost-small : (play : List ℕ) → IsLegal g play → IsAtMost (fixed_priors g fix *ℤ defender_most g) (cost g fix play)
   cost-small play legal =
       costs-small (λ (p : ℕ × ℕ). (attacker g p.0).prior *ℤ (pay_d g p.0 play p.1 +ℤ shift_of g))
       (λ p low high act.
@@ -132,7 +132,7 @@ module _ (g : Game) (is_peopled : IsPeopled g) (fix : Fix) (is_fix : IsFix g fix
     most-nonneg : (l b : ℕ) → fix.first ≤ l → l < fix.first + length fix.acts → 1 ≤ b → b ≤ action_count g l → pos 0 ≤ℤ ((attacker g l).prior *ℤ defender_most g)
     most-nonneg l b low high from_one in_list = let h = gain-small l b low high from_one in_list in let p = h.0 in let q = h.1 in omega (arith, ints, p, q)
 
-    column-small : (c : Column) → IsColumn g c → IsAtMost (fixed_priors g fix *ℤ defender_most g) (column_cost g (shift_of g) fix c)
+    column-small : (c : Column) → IsColumn g c → IsAtMost (fixed_priors g fix *ℤ defender_most g) (column_cost g fix c)
     column-small always is =
         costs-small (λ (p : ℕ × ℕ). (attacker g p.0).prior *ℤ ((payoff g p.0 p.1).du +ℤ shift_of g))
         (λ p low high act.
@@ -215,13 +215,13 @@ module _ (g : Game) (is_peopled : IsPeopled g) (fix : Fix) (is_fix : IsFix g fix
 pub play_sums : PlaySumsAreSmall
 play_sums g is_peopled fix is_fix rho mu positive marks are play legal =
     let sum : ℤ = total (λ (m : Mark). m.v) marks in
-    joined g fix rho mu (cost g (shift_of g) fix play) (regret g fix marks play) sum (size_sum g fix (Plays rho mu marks)) positive
+    joined g fix rho mu (cost g fix play) (regret g fix marks play) sum (size_sum g fix (Plays rho mu marks)) positive
     (ap (λ (z : ℤ). ((rho *ℤ fixed_priors g fix) *ℤ defender_most g) +ℤ (z *ℤ attacker_most g)) (total-map (λ (z : ℤ). z) (λ (m : Mark). m.v) marks))
     (cost-small g is_peopled fix is_fix play legal) (regret-small g is_peopled fix is_fix play legal marks are)
 
 pub column_sums : ColumnSumsAreSmall
 column_sums g is_peopled security fix is_fix rho mu positive lines are c is =
     let sum : ℤ = total (λ (line : Line). line.v) lines in
-    joined g fix rho mu (column_cost g (shift_of g) fix c) (total (λ (line : Line). line.v *ℤ entry g fix (row_of g fix line) c) lines) sum (size_sum g fix (Cover rho mu lines)) positive
+    joined g fix rho mu (column_cost g fix c) (total (λ (line : Line). line.v *ℤ entry g fix (row_of g fix line) c) lines) sum (size_sum g fix (Cover rho mu lines)) positive
     (ap (λ (z : ℤ). ((rho *ℤ fixed_priors g fix) *ℤ defender_most g) +ℤ (z *ℤ attacker_most g)) (total-map (λ (z : ℤ). z) (λ (line : Line). line.v) lines))
     (column-small g is_peopled fix is_fix security c is) (lines-small g is_peopled fix is_fix security lines are c)

@@ -1,8 +1,9 @@
 -- The coverage table of a node: what a commitment covers, as columns and rows of a linear program.
-use Rattle.std.specs.Prelude.{ℕ, ◌≤◌, Bool, if◌then◌else◌, List, ◌++◌, map, length, ℤ, pos, negsuc, ◌+ℤ◌, ◌-ℤ◌, ◌*ℤ◌, filter, flat_map, nat_eq, not}
+use Rattle.std.specs.Prelude.{ℕ, ◌≤◌, Bool, if◌then◌else◌, List, ◌∷◌, ◌++◌, map, length, ℤ, pos, negsuc, ◌+ℤ◌, ◌-ℤ◌, ◌*ℤ◌, filter, flat_map, nat_eq, not}
 use Rattle.std.specs.List.{list_any}
 use Rattle.sg_model.specs.Sums.{total, numbers, nth}
 use Rattle.sg_model.specs.Games.{Game, attacker, payoff, resource_count, resource_schedules, schedule_targets}
+use Rattle.sg_model.specs.Payoffs.{shift_of}
 use Rattle.sg_tree.specs.declared.fact.Line.{Line}
 use Rattle.sg_tree.specs.declared.fix.Fix.{Fix}
 use Rattle.sg_bounds.specs.Regions.{fixed, act_of}
@@ -27,6 +28,12 @@ abbrev pub IsColumn : Game → Column → Type 0
 IsColumn g always = Unit {0}
 IsColumn g (chooses r j) = (1 ≤ r) × (r ≤ resource_count g) × (1 ≤ j) × (j ≤ length (resource_schedules g r))
 IsColumn g (covering t) = (1 ≤ t) × (t ≤ length g.goals)
+
+-- the columns in order: the whole, each choice of each resource, each target
+abbrev pub columns : Game → List Column
+columns g =
+    always ∷ (flat_map (λ r. map (chooses r) (numbers (length (resource_schedules g r)))) (numbers (resource_count g))
+    ++ map covering (numbers (length g.goals)))
 
 -- the targets other than a
 abbrev pub others : Game → ℕ → List ℕ
@@ -66,10 +73,10 @@ entry g fix (gains l b) (covering t) =
     where_same b t ((payoff g l b).ac -ℤ (payoff g l b).au) +ℤ where_same (act_of fix l) t ((payoff g l (act_of fix l)).au -ℤ (payoff g l (act_of fix l)).ac)
 
 -- what a column is worth to the defender: prior times payoff, with the shift, summed over the fixed types
-abbrev pub column_cost : Game → ℤ → Fix → Column → ℤ
-column_cost g shift fix always = total (λ (p : ℕ × ℕ). (attacker g p.0).prior *ℤ ((payoff g p.0 p.1).du +ℤ shift)) (fixed fix)
-column_cost g shift fix (chooses r j) = pos 0
-column_cost g shift fix (covering t) =
+abbrev pub column_cost : Game → Fix → Column → ℤ
+column_cost g fix always = total (λ (p : ℕ × ℕ). (attacker g p.0).prior *ℤ ((payoff g p.0 p.1).du +ℤ shift_of g)) (fixed fix)
+column_cost g fix (chooses r j) = pos 0
+column_cost g fix (covering t) =
     total (λ (p : ℕ × ℕ). where_same p.1 t ((attacker g p.0).prior *ℤ ((payoff g p.0 p.1).dc -ℤ (payoff g p.0 p.1).du))) (fixed fix)
 
 -- the row that a line names

@@ -1,26 +1,21 @@
 -- What facts and caps say of commitments.
-use Rattle.std.specs.Prelude.{◌≡◌, ℕ, ◌≤◌, List, length, ℤ, pos, ◌+ℤ◌, ◌*ℤ◌, ◌≤ℤ◌}
+use Rattle.std.specs.Prelude.{◌≡◌, ℕ, ◌≤◌, List, length, ℤ, pos, ◌*ℤ◌, ◌≤ℤ◌}
 use Rattle.sg_model.specs.declared.ticket.Ticket.{Ticket}
-use Rattle.sg_model.specs.Sums.{total}
-use Rattle.sg_model.specs.Games.{Game, attacker}
-use Rattle.sg_model.specs.Payoffs.{IsPeopled, shift_of}
-use Rattle.sg_model.specs.Commitments.{IsCommitment, sum_d, take_of, weight_total}
+use Rattle.sg_model.specs.Games.{Game}
+use Rattle.sg_model.specs.Payoffs.{IsPeopled}
+use Rattle.sg_model.specs.Commitments.{IsCommitment, take_of, weight_total}
 use Rattle.sg_tree.specs.declared.fact.Fact.{Fact}
 use Rattle.sg_tree.specs.declared.fact.Mark.{Mark}
 use Rattle.sg_tree.specs.declared.fact.Line.{Line}
 use Rattle.sg_tree.specs.declared.fix.Fix.{Fix}
-use Rattle.sg_bounds.specs.Regions.{IsFix, IsInRegion, fixed}
-use Rattle.sg_bounds.specs.Facts.{HoldsFor, IsCoverFact, IsPlaysFact, mu_of, rho_of}
+use Rattle.sg_bounds.specs.Regions.{IsFix, IsInRegion}
+use Rattle.sg_bounds.specs.Facts.{HoldsFor, IsCoverFact, IsPlaysFact, mu_of, rho_of, shifted_sum}
 use Rattle.sg_bounds.specs.Caps.{IsAllowedBy}
 
 -- a fact of the coverage table is a fact over plays, whose marks are its lines of types and actions
 abbrev pub CoverIsPlays : Type 0
-CoverIsPlays = (g : Game) (shift : ℤ) (fix : Fix) → IsFix g fix → (rho mu : ℤ) (lines : List Line) → IsCoverFact g shift fix rho mu lines
-    → (marks : List Mark) × IsPlaysFact g shift fix rho mu marks
-
--- what the defender gets of the fixed types where they take the fixed actions: prior times payoff, with the shift
-abbrev pub shifted_sum : Game → Fix → List Ticket → ℤ
-shifted_sum g fix k = total (λ (p : ℕ × ℕ). (attacker g p.0).prior *ℤ (sum_d g k p.0 p.1 +ℤ (shift_of g *ℤ weight_total k))) (fixed fix)
+CoverIsPlays = (g : Game) (fix : Fix) → IsFix g fix → (rho mu : ℤ) (lines : List Line) → IsCoverFact g fix rho mu lines
+    → (marks : List Mark) × IsPlaysFact g fix rho mu marks
 
 -- weak duality: a fact that holds for a fix bounds each commitment of its region
 abbrev pub FactBounds : Type 0

@@ -3,23 +3,30 @@ use Rattle.std.specs.Prelude.{◌≡◌, ◌≢◌, ℕ, ◌+◌, ◌<◌, ◌�
 use Rattle.sg_model.specs.declared.kind.Kind.TheVariants.{Security}
 use Rattle.sg_model.specs.Sums.{total}
 use Rattle.sg_model.specs.Games.{Game, attacker, action_count}
-use Rattle.sg_model.specs.Plays.{IsLegal, pay_d, pay_a}
+use Rattle.sg_model.specs.declared.ticket.Ticket.{Ticket}
+use Rattle.sg_model.specs.Plays.{IsLegal, pay_d}
 use Rattle.sg_model.specs.Payoffs.{shift_of}
+use Rattle.sg_model.specs.Commitments.{sum_d, weight_total}
 use Rattle.sg_tree.specs.declared.fact.Fact.{Fact}
 use Rattle.sg_tree.specs.declared.fact.Fact.TheVariants.{Plays, Cover, Water}
 use Rattle.sg_tree.specs.declared.fact.Mark.{Mark}
 use Rattle.sg_tree.specs.declared.fact.Line.{Line}
 use Rattle.sg_tree.specs.declared.fix.Fix.{Fix}
 use Rattle.sg_bounds.specs.Regions.{fixed, act_of}
+use Rattle.sg_bounds.specs.PlayRows.{gain}
 use Rattle.sg_bounds.specs.Coverage.{Column, IsColumn, whole, rows, entry, column_cost, row_of}
 
 -- what a play is worth to the defender: prior times payoff, with the shift, summed over the fixed types
-abbrev pub cost : Game → ℤ → Fix → List ℕ → ℤ
-cost g shift fix play = total (λ (p : ℕ × ℕ). (attacker g p.0).prior *ℤ (pay_d g p.0 play p.1 +ℤ shift)) (fixed fix)
+abbrev pub cost : Game → Fix → List ℕ → ℤ
+cost g fix play = total (λ (p : ℕ × ℕ). (attacker g p.0).prior *ℤ (pay_d g p.0 play p.1 +ℤ shift_of g)) (fixed fix)
 
--- what the marked actions pay above the fixed ones where this is played, times the multipliers
+-- what the defender gets of the fixed types where they take the fixed actions: prior times payoff, with the shift
+abbrev pub shifted_sum : Game → Fix → List Ticket → ℤ
+shifted_sum g fix k = total (λ (p : ℕ × ℕ). (attacker g p.0).prior *ℤ (sum_d g k p.0 p.1 +ℤ (shift_of g *ℤ weight_total k))) (fixed fix)
+
+-- the entries of a play in the rows of the marks, times the multipliers
 abbrev pub regret : Game → Fix → List Mark → List ℕ → ℤ
-regret g fix marks play = total (λ (m : Mark). m.v *ℤ (pay_a g m.l play m.a -ℤ pay_a g m.l play (act_of fix m.l))) marks
+regret g fix marks play = total (λ (m : Mark). m.v *ℤ gain g fix play (m.l, m.a)) marks
 
 -- a mark: a fixed type, an action of it other than the fixed one, and a multiplier of at least 1
 pub record IsMarkOf (g : Game) (fix : Fix) (m : Mark) : Type 0 where
@@ -31,11 +38,11 @@ pub record IsMarkOf (g : Game) (fix : Fix) (m : Mark) : Type 0 where
   pub positive : pos 1 ≤ℤ m.v
 
 -- rho times the worth of each legal play, less its regret, is at most mu
-pub record IsPlaysFact (g : Game) (shift : ℤ) (fix : Fix) (rho mu : ℤ) (marks : List Mark) : Type 0 where
+pub record IsPlaysFact (g : Game) (fix : Fix) (rho mu : ℤ) (marks : List Mark) : Type 0 where
   pub rho_positive : pos 1 ≤ℤ rho
   pub mu_nonneg : pos 0 ≤ℤ mu
   pub marks_of : All (IsMarkOf g fix) marks
-  pub each : (play : List ℕ) → IsLegal g play → ((rho *ℤ cost g shift fix play) -ℤ regret g fix marks play) ≤ℤ mu
+  pub each : (play : List ℕ) → IsLegal g play → ((rho *ℤ cost g fix play) -ℤ regret g fix marks play) ≤ℤ mu
 
 -- a line: a row from 1, and a multiplier of at least 1
 pub record IsLineOf (g : Game) (fix : Fix) (line : Line) : Type 0 where
@@ -44,18 +51,18 @@ pub record IsLineOf (g : Game) (fix : Fix) (line : Line) : Type 0 where
   pub positive : pos 1 ≤ℤ line.v
 
 -- rho times the worth of each column is at most mu times its entry in row 0 with the entries of the lines, times their multipliers
-pub record IsCoverFact (g : Game) (shift : ℤ) (fix : Fix) (rho mu : ℤ) (lines : List Line) : Type 0 where
+pub record IsCoverFact (g : Game) (fix : Fix) (rho mu : ℤ) (lines : List Line) : Type 0 where
   pub security : g.kind ≡ Security
   pub rho_positive : pos 1 ≤ℤ rho
   pub mu_nonneg : pos 0 ≤ℤ mu
   pub lines_of : All (IsLineOf g fix) lines
   pub each : (c : Column) → IsColumn g c
-      → (rho *ℤ column_cost g shift fix c) ≤ℤ ((mu *ℤ entry g fix whole c) +ℤ total (λ (line : Line). line.v *ℤ entry g fix (row_of g fix line) c) lines)
+      → (rho *ℤ column_cost g fix c) ≤ℤ ((mu *ℤ entry g fix whole c) +ℤ total (λ (line : Line). line.v *ℤ entry g fix (row_of g fix line) c) lines)
 
 -- a fact that holds for a node; a water level is no fact of a node
 abbrev pub HoldsFor : Game → Fix → Fact → Type 0
-HoldsFor g fix (Plays rho mu marks) = IsPlaysFact g (shift_of g) fix rho mu marks
-HoldsFor g fix (Cover rho mu lines) = IsCoverFact g (shift_of g) fix rho mu lines
+HoldsFor g fix (Plays rho mu marks) = IsPlaysFact g fix rho mu marks
+HoldsFor g fix (Cover rho mu lines) = IsCoverFact g fix rho mu lines
 HoldsFor g fix (Water level why) = ⊥
 
 -- the multiplier of what the defender gets

@@ -1,4 +1,5 @@
 pub mod Regions
+pub mod PlayRows
 pub mod Coverage
 pub mod Facts
 pub mod Caps

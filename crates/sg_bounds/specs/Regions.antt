@@ -1,5 +1,5 @@
 -- Which commitments a node of the tree speaks of: those to which the fixed types answer by the fixed actions.
-use Rattle.std.specs.Prelude.{◌≢◌, ℕ, ◌+◌, ◌-◌, ◌<◌, ◌≤◌, List, [], ◌∷◌, length, IsTrue, All, slice_index}
+use Rattle.std.specs.Prelude.{◌≡◌, ◌≢◌, ◌⊎◌, ℕ, ◌+◌, ◌-◌, ◌<◌, ◌≤◌, List, [], ◌∷◌, length, IsTrue, All, slice_index}
 use Rattle.std.specs.List.{zip}
 use Rattle.sg_model.specs.Sums.{numbers_from}
 use Rattle.sg_model.specs.Games.{Game, action_count}
@@ -29,6 +29,11 @@ pub record IsFix (g : Game) (fix : Fix) : Type 0 where
   pub from_one : 1 ≤ fix.first
   pub in_range : fix.first + length fix.acts ≤ length g.types + 1
   pub acts : All (λ (p : ℕ × ℕ). (1 ≤ p.1) × (p.1 ≤ action_count g p.0)) (fixed fix)
+
+-- a node of the search: the first types are fixed, or one later type alone
+pub record IsNode (g : Game) (fix : Fix) : Type 0 where
+  pub is_fix : IsFix g fix
+  pub form : (fix.first ≡ 1) ⊎ ((2 ≤ fix.first) × (length fix.acts ≡ 1))
 
 -- each fixed action is best for its type
 abbrev pub IsInRegion : Game → Fix → List Ticket → Type 0

@@ -1,11 +1,12 @@
--- The rows of the coverage table by their numbers.
-use Rattle.std.specs.Prelude.{◌≡◌, ℕ, ◌+◌, ◌-◌, ◌*◌, ◌<◌, ◌≤◌, if◌then◌else◌, length, nat_lt, slice_index}
+-- The rows of a node's programs by their numbers, and the columns of the coverage table.
+use Rattle.std.specs.Prelude.{◌≡◌, ◌≢◌, ℕ, ◌+◌, ◌-◌, ◌*◌, ◌<◌, ◌≤◌, if◌then◌else◌, List, length, nat_lt, slice_index, All, AllPairs, Contains}
 use Rattle.sg_model.specs.declared.kind.Kind.TheVariants.{Security}
 use Rattle.sg_model.specs.Sums.{nth}
 use Rattle.sg_model.specs.Games.{Game, resource_count}
 use Rattle.sg_tree.specs.declared.fix.Fix.{Fix}
 use Rattle.sg_bounds.specs.Regions.{IsFix}
-use Rattle.sg_bounds.specs.Coverage.{gains, held, rows, spends, whole, within}
+use Rattle.sg_bounds.specs.PlayRows.{comparisons, play_row_count}
+use Rattle.sg_bounds.specs.Coverage.{Column, IsColumn, columns, gains, held, rows, spends, whole, within}
 
 -- how many rows there are from row 1: the resources, twice the targets, and for each fixed type its other actions
 abbrev pub row_count : Game → Fix → ℕ
@@ -28,3 +29,17 @@ pub record HasRows (g : Game) (fix : Fix) : Type 0 where
 -- in a security game the rows stand in this order
 abbrev pub RowsInOrder : Type 0
 RowsInOrder = (g : Game) → g.kind ≡ Security → (fix : Fix) → IsFix g fix → HasRows g fix
+
+-- the rows of a program of plays are counted by each fixed type's own actions
+abbrev pub PlayRowsAreCounted : Type 0
+PlayRowsAreCounted = (g : Game) (fix : Fix) → IsFix g fix → 1 + length (comparisons g fix) ≡ play_row_count g fix
+
+-- columns alone, no two of them the same, and every column among them
+pub record AreAllColumns (g : Game) (columns : List Column) : Type 0 where
+  pub known : All (IsColumn g) columns
+  pub distinct : AllPairs (λ x y. x ≢ y) columns
+  pub complete : (c : Column) → IsColumn g c → Contains columns c
+
+-- the list of columns holds each of them once, and nothing else
+abbrev pub ColumnsAreAll : Type 0
+ColumnsAreAll = (g : Game) → AreAllColumns g (columns g)

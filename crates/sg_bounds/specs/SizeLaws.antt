@@ -4,7 +4,7 @@ use Rattle.sg_model.specs.declared.kind.Kind.TheVariants.{Security}
 use Rattle.sg_model.specs.Sums.{total}
 use Rattle.sg_model.specs.Games.{Game}
 use Rattle.sg_model.specs.Plays.{IsLegal}
-use Rattle.sg_model.specs.Payoffs.{IsPeopled, shift_of}
+use Rattle.sg_model.specs.Payoffs.{IsPeopled}
 use Rattle.sg_tree.specs.declared.fact.Fact.TheVariants.{Plays, Cover}
 use Rattle.sg_tree.specs.declared.fact.Mark.{Mark}
 use Rattle.sg_tree.specs.declared.fact.Line.{Line}
@@ -28,11 +28,11 @@ pub record AreSmall (g : Game) (fix : Fix) (rho size multipliers worth entries :
 abbrev pub PlaySumsAreSmall : Type 0
 PlaySumsAreSmall = (g : Game) → IsPeopled g → (fix : Fix) → IsFix g fix → (rho mu : ℤ) → pos 1 ≤ℤ rho → (marks : List Mark) → All (IsMarkOf g fix) marks
     → (play : List ℕ) → IsLegal g play
-    → AreSmall g fix rho (size_sum g fix (Plays rho mu marks)) (total (λ (m : Mark). m.v) marks) (cost g (shift_of g) fix play) (regret g fix marks play)
+    → AreSmall g fix rho (size_sum g fix (Plays rho mu marks)) (total (λ (m : Mark). m.v) marks) (cost g fix play) (regret g fix marks play)
 
 -- over a column of the coverage table
 abbrev pub ColumnSumsAreSmall : Type 0
 ColumnSumsAreSmall = (g : Game) → IsPeopled g → g.kind ≡ Security → (fix : Fix) → IsFix g fix → (rho mu : ℤ) → pos 1 ≤ℤ rho → (lines : List Line) → All (IsLineOf g fix) lines
     → (c : Column) → IsColumn g c
-    → AreSmall g fix rho (size_sum g fix (Cover rho mu lines)) (total (λ (line : Line). line.v) lines) (column_cost g (shift_of g) fix c)
+    → AreSmall g fix rho (size_sum g fix (Cover rho mu lines)) (total (λ (line : Line). line.v) lines) (column_cost g fix c)
     (total (λ (line : Line). line.v *ℤ entry g fix (row_of g fix line) c) lines)

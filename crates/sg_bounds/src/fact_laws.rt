@@ -1,7 +1,7 @@
 //! Laws about facts and caps, each as the contract of a function that does nothing.
 
 ghost use Rattle.sg_bounds.specs.FactLaws.{CapBounds, CoverIsPlays, EmptyRegion, FactBounds};
-ghost use Rattle.sg_bounds.specs.RowLaws.{RowsInOrder};
+ghost use Rattle.sg_bounds.specs.RowLaws.{ColumnsAreAll, PlayRowsAreCounted, RowsInOrder};
 
 /// A fact of the coverage table is a fact over all legal plays.
 pub fn cover_is_plays()
@@ -27,4 +27,14 @@ pub fn empty_region()
 /// its other actions.
 pub fn rows_in_order()
     ensures { RowsInOrder }
+{}
+
+/// The rows of a program of plays are row 0 and, for each fixed type, one for each of its own other actions.
+pub fn play_rows_are_counted()
+    ensures { PlayRowsAreCounted }
+{}
+
+/// The list of the coverage table's columns holds each column once, and nothing else.
+pub fn columns_are_all()
+    ensures { ColumnsAreAll }
 {}

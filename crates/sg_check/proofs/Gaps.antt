@@ -24,5 +24,5 @@ plus_zero z = omega (arith, ints)
 
 -- what a play is worth where one type is fixed
 pub cost-one : (g : Game) (act : ℕ) (play : List ℕ) (prior d : ℤ) → prior ≡ (attacker g 1).prior → d ≡ pay_d g 1 play act +ℤ shift_of g
-    → prior *ℤ d ≡ cost g (shift_of g) (prefix (act ∷ [])) play
+    → prior *ℤ d ≡ cost g (prefix (act ∷ [])) play
 cost-one g act play prior d e f = rw (e, f) (plus_zero ((attacker g 1).prior *ℤ (pay_d g 1 play act +ℤ shift_of g)))

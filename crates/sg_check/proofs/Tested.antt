@@ -52,13 +52,13 @@ stated-wide g r m s marks n line h e wide = (n, inl ((λ p. wide ((size-one g m 
 
 -- it doesn't hold
 pub stated-fails : (g : Game) (r : Report) (m : Measures) (s : Stated) (marks : List Mark) (n line : ℕ) → AreMeasures g m → line ≡ held n
-    → SizeFits s.rho m.prior m.defender_most (multipliers marks) m.attacker_most → (IsPlaysFact g (shift_of g) (prefix (s.act ∷ [])) s.rho s.mu marks → ⊥)
+    → SizeFits s.rho m.prior m.defender_most (multipliers marks) m.attacker_most → (IsPlaysFact g (prefix (s.act ∷ [])) s.rho s.mu marks → ⊥)
     → Refuses g r (fact_stops n (s.act ∷ []) (Plays s.rho s.mu marks)) (record { line = line; reason = 6 })
 stated-fails g r m s marks n line h e size fails = (n, inr ((size-one g m s.act s.rho s.mu marks h).0 size, inl (fails, refl, refl)), e)
 
 -- its bound doesn't fit
 pub stated-unbounded : (g : Game) (r : Report) (m : Measures) (s : Stated) (marks : List Mark) (n line : ℕ) → AreMeasures g m → line ≡ held n
-    → SizeFits s.rho m.prior m.defender_most (multipliers marks) m.attacker_most → IsPlaysFact g (shift_of g) (prefix (s.act ∷ [])) s.rho s.mu marks
+    → SizeFits s.rho m.prior m.defender_most (multipliers marks) m.attacker_most → IsPlaysFact g (prefix (s.act ∷ [])) s.rho s.mu marks
     → int_lt (pos 0) s.mu ≡ true → (BoundFits s.rho s.mu m.rest m.priors → ⊥)
     → Refuses g r (fact_stops n (s.act ∷ []) (Plays s.rho s.mu marks)) (record { line = line; reason = 9 })
 stated-unbounded g r m s marks n line h e size holds some wide =
@@ -66,7 +66,7 @@ stated-unbounded g r m s marks n line h e size holds some wide =
 
 -- it bounds nothing
 pub stated-empty : (g : Game) (r : Report) (m : Measures) (s : Stated) (marks : List Mark) (n : ℕ) → AreMeasures g m
-    → SizeFits s.rho m.prior m.defender_most (multipliers marks) m.attacker_most → IsPlaysFact g (shift_of g) (prefix (s.act ∷ [])) s.rho s.mu marks
+    → SizeFits s.rho m.prior m.defender_most (multipliers marks) m.attacker_most → IsPlaysFact g (prefix (s.act ∷ [])) s.rho s.mu marks
     → int_lt (pos 0) s.mu ≡ false
     → BoundAnswers g r (fact_stops n (s.act ∷ []) (Plays s.rho s.mu marks)) (listed (fact_bound g r.caps 1 (Plays s.rho s.mu marks))) (Ok None)
 stated-empty g r m s marks n h size holds none =
@@ -80,7 +80,7 @@ bound_den g b s m h rho is =
 
 -- it bounds, and this is its bound
 pub stated-bounds : (g : Game) (r : Report) (m : Measures) (s : Stated) (marks : List Mark) (n : ℕ) (b : Quotient) (f : Fraction) → AreMeasures g m
-    → SizeFits s.rho m.prior m.defender_most (multipliers marks) m.attacker_most → IsPlaysFact g (shift_of g) (prefix (s.act ∷ [])) s.rho s.mu marks
+    → SizeFits s.rho m.prior m.defender_most (multipliers marks) m.attacker_most → IsPlaysFact g (prefix (s.act ∷ [])) s.rho s.mu marks
     → int_lt (pos 0) s.mu ≡ true → BoundFits s.rho s.mu m.rest m.priors → IsBoundOf b s.rho s.mu m.rest m.priors → IsReducedForm b.num b.den f
     → BoundAnswers g r (fact_stops n (s.act ∷ []) (Plays s.rho s.mu marks)) (listed (fact_bound g r.caps 1 (Plays s.rho s.mu marks))) (Ok (Some f))
 stated-bounds g r m s marks n b f h size holds some fit is form =

@@ -17,7 +17,7 @@ use Rattle.sg_check.specs.Sized.{SizeFits, multipliers}
 
 -- rho times the worth of the play, less its regret, is at most mu
 abbrev pub PlayHolds : Game → Stated → List Mark → List ℕ → Type 0
-PlayHolds g s marks play = ((s.rho *ℤ cost g (shift_of g) (prefix (s.act ∷ [])) play) -ℤ regret g (prefix (s.act ∷ [])) marks play) ≤ℤ s.mu
+PlayHolds g s marks play = ((s.rho *ℤ cost g (prefix (s.act ∷ [])) play) -ℤ regret g (prefix (s.act ∷ [])) marks play) ≤ℤ s.mu
 
 -- a game of one type with its numbers, and an action of the type
 pub record IsPlaced (g : Game) (m : Measures) (s : Stated) : Type 0 where

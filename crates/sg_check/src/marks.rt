@@ -44,7 +44,7 @@ pub(crate) fn holds(game: &Game, measures: &Measures, stated: &Stated, marks: &[
     requires unscaled { is_scaled game.now ≡ false }
     requires placed { IsPlaced game.now measures.now stated.now }
     requires size { SizeFits stated.now.rho measures.now.prior measures.now.defender_most (multipliers marks.now) measures.now.attacker_most }
-    ensures { IsTrue result ↔ IsPlaysFact game.now (shift_of game.now) (prefix (stated.now.act ∷ [])) stated.now.rho stated.now.mu marks.now }
+    ensures { IsTrue result ↔ IsPlaysFact game.now (prefix (stated.now.act ∷ [])) stated.now.rho stated.now.mu marks.now }
 {
     if stated.rho < 1 || stated.mu < 0 {
         return false;

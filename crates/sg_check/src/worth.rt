@@ -30,7 +30,7 @@ fn shifted_pay(game: &Game, measures: &Measures, stated: &Stated, code: &[u16]) 
 fn worth(game: &Game, measures: &Measures, stated: &Stated, code: &[u16]) -> i128
     requires legal { IsLegal game.now code.now }
     requires placed { IsPlaced game.now measures.now stated.now }
-    ensures value { result ≡ cost game.now (shift_of game.now) (prefix (stated.now.act ∷ [])) code.now }
+    ensures value { result ≡ cost game.now (prefix (stated.now.act ∷ [])) code.now }
     ensures low { pos 0 ≤ℤ result }
     ensures high { result ≤ℤ (measures.now.prior *ℤ measures.now.defender_most) }
 {
@@ -41,7 +41,7 @@ fn worth(game: &Game, measures: &Measures, stated: &Stated, code: &[u16]) -> i12
 fn gain(game: &Game, measures: &Measures, stated: &Stated, marks: &[Mark], code: &[u16]) -> i128
     requires legal { IsLegal game.now code.now }
     requires summable { IsSummable game.now measures.now stated.now marks.now }
-    ensures value { result ≡ stated.now.rho *ℤ cost game.now (shift_of game.now) (prefix (stated.now.act ∷ [])) code.now }
+    ensures value { result ≡ stated.now.rho *ℤ cost game.now (prefix (stated.now.act ∷ [])) code.now }
     ensures low { pos 0 ≤ℤ result }
     ensures high { result ≤ℤ ((stated.now.rho *ℤ measures.now.prior) *ℤ measures.now.defender_most) }
 {

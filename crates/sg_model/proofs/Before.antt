@@ -1,5 +1,5 @@
 -- The order of lists: the test by comparing, and lists that rise.
-use Rattle.std.proofs.Common.{◌≡◌, ◌≢◌, ◌⊎◌, ℕ, zero, suc, ◌+◌, ◌<◌, Bool, true, false, true≢false, List, [], ◌∷◌, ◌++◌, map, sym, ◌∙◌, ap, refl, arith, slice_index_or, inl, inr}
+use Rattle.std.proofs.Common.{◌≡◌, ◌≢◌, ◌⊎◌, ℕ, zero, suc, ◌+◌, ◌<◌, Bool, true, false, true≢false, List, [], ◌∷◌, ◌++◌, map, sym, ◌∙◌, ap, refl, arith, slice_index_or, flat_map, inl, inr}
 use Rattle.std.specs.List.{All, AllPairs}
 use Rattle.std.specs.Ordering.{nat_cmp, is_lt, ordering_then}
 use Rattle.std.specs.declared.cmp.Ordering.{Ordering}
@@ -9,7 +9,10 @@ use Rattle.std.specs.Cmp.Lexicographic.{slice_cmp}
 use Rattle.std.proofs.lemmas.Bool.{cases_order}
 use Rattle.std.proofs.lemmas.List.Elements.{All-append, All-map}
 use Rattle.std.proofs.lemmas.List.Kept.{AllPairs-cons}
+use Rattle.sg_model.specs.Sums.{numbers_from}
 use Rattle.sg_model.specs.Orders.{IsBefore, TestIsOrder, is_before}
+use Rattle.sg_model.proofs.Lists.{All-flat_map}
+use Rattle.sg_model.proofs.Numbers.{All-numbers_from}
 
 -- ---- the test
 
@@ -85,3 +88,23 @@ pairs-map R S f keeps (x ∷ xs) h =
 
 pub pairs-weaken : {X : Type 0} (R S : X → X → Type 0) → ((x y : X) → R x y → S x y) → (xs : List X) → AllPairs R xs → AllPairs S xs
 pairs-weaken R S keeps xs h i j d before within = keeps (slice_index_or xs i d) (slice_index_or xs j d) (h i j d before within)
+
+-- ---- numbers in a row
+
+abbrev pub Lesser : ℕ → ℕ → Type 0
+Lesser a b = a < b
+
+pub rise-numbers_from : (a n : ℕ) → AllPairs Lesser (numbers_from a n)
+rise-numbers_from a zero = pairs-none Lesser
+rise-numbers_from a (suc n) =
+    AllPairs-cons Lesser a (numbers_from (a + 1) n) (All-numbers_from (Lesser a) (a + 1) n (λ t low high. omega (arith, low))) (rise-numbers_from (a + 1) n)
+
+-- lists laid end to end, one for each number
+pub pairs-flat_map : {X : Type 0} (R : X → X → Type 0) (f : ℕ → List X) → ((a : ℕ) → AllPairs R (f a)) → ((a b : ℕ) → a < b → All (λ x. All (R x) (f b)) (f a))
+    → (a n : ℕ) → AllPairs R (flat_map f (numbers_from a n))
+pairs-flat_map R f inner across a zero = pairs-none R
+pairs-flat_map R f inner across a (suc n) =
+    pairs-append R (f a) (flat_map f (numbers_from (a + 1) n)) (inner a) (pairs-flat_map R f inner across (a + 1) n)
+    (λ i d lt.
+    let x = slice_index_or (f a) i d in
+    All-flat_map (R x) f (numbers_from (a + 1) n) (All-numbers_from (λ b. All (R x) (f b)) (a + 1) n (λ b low high. across a b (omega (arith, low)) i d lt)))

@@ -13,7 +13,7 @@ use Rattle.sg_model.specs.Orders.{IsBefore}
 use Rattle.sg_model.specs.Plays.{IsLegal, IsLegalJoint, IsRow}
 use Rattle.sg_model.specs.PlayLists.{choices_from, choices_of, joint_plays, legal_plays, play_count}
 use Rattle.sg_model.specs.PlayListLaws.{AreAllPlays, LegalPlaysAreAll, LegalPlaysAreCounted, LegalPlaysRise, PlaysAreCounted}
-use Rattle.sg_model.proofs.Before.{before-apart, pairs-append, pairs-map, pairs-none, pairs-weaken}
+use Rattle.sg_model.proofs.Before.{Lesser, before-apart, pairs-flat_map, pairs-map, pairs-none, pairs-weaken, rise-numbers_from}
 use Rattle.sg_model.proofs.Decided.{Decides-any}
 use Rattle.sg_model.proofs.Greatest.{Contains-head}
 use Rattle.sg_model.proofs.Lists.{All-flat_map, length-flat_map-same}
@@ -81,35 +81,14 @@ legal_plays-complete g play legal =
 
 -- ---- in order
 
-abbrev Less : ℕ → ℕ → Type 0
-Less a b = a < b
-
-rise-numbers_from : (a n : ℕ) → AllPairs Less (numbers_from a n)
-rise-numbers_from a zero = pairs-none Less
-rise-numbers_from a (suc n) = AllPairs-cons Less a (numbers_from (a + 1) n) (All-numbers_from (Less a) (a + 1) n (λ t low high. omega (arith, low))) (rise-numbers_from (a + 1) n)
-
--- lists that begin with the numbers from a on
-abbrev BeginsFrom : ℕ → List ℕ → Type 0
-BeginsFrom a play = (c : ℕ) × (cs : List ℕ) × (a ≤ c) × (play ≡ c ∷ cs)
-
+-- each list, behind a choice
 abbrev begun : List (List ℕ) → ℕ → List (List ℕ)
 begun rest c = map (λ cs. c ∷ cs) rest
 
-begin-from : (rest : List (List ℕ)) (a n : ℕ) → All (BeginsFrom a) (flat_map (begun rest) (numbers_from a n))
-begin-from rest a n =
-    All-flat_map (BeginsFrom a) (begun rest) (numbers_from a n)
-    (All-numbers_from (λ c. All (BeginsFrom a) (begun rest c)) a n (λ c low high. All-map (BeginsFrom a) (λ cs. c ∷ cs) rest (λ i d lt. (c, slice_index_or rest i d, low, refl))))
-
 rise-begun : (rest : List (List ℕ)) → AllPairs IsBefore rest → (a n : ℕ) → AllPairs IsBefore (flat_map (begun rest) (numbers_from a n))
-rise-begun rest h a zero = pairs-none IsBefore
-rise-begun rest h a (suc n) =
-    pairs-append IsBefore (begun rest a) (flat_map (begun rest) (numbers_from (a + 1) n))
-    (pairs-map IsBefore IsBefore (λ cs. a ∷ cs) (λ x y before. inr (refl, before)) rest h)
-    (rise-begun rest h (a + 1) n)
-    (All-map (λ x. All (IsBefore x) (flat_map (begun rest) (numbers_from (a + 1) n))) (λ cs. a ∷ cs) rest
-    (λ i d lt j e within.
-    let later = begin-from rest (a + 1) n j e within in
-    subst (IsBefore (a ∷ slice_index_or rest i d)) (sym later.3) (inl (omega (arith, later.2)))))
+rise-begun rest h a n =
+    pairs-flat_map IsBefore (begun rest) (λ b. pairs-map IsBefore IsBefore (λ cs. b ∷ cs) (λ x y before. inr (refl, before)) rest h)
+    (λ b c lt. All-map (λ x. All (IsBefore x) (begun rest c)) (λ cs. b ∷ cs) rest (λ i d in_list. All-map (IsBefore (b ∷ slice_index_or rest i d)) (λ cs. c ∷ cs) rest (λ j e in_rest. inl lt))) a n
 
 rise-joint : (g : Game) (r n : ℕ) → AllPairs IsBefore (joint_plays g r n)
 rise-joint g r zero = AllPairs-cons IsBefore [] [] (All-nil (IsBefore [])) (pairs-none IsBefore)
@@ -118,7 +97,7 @@ rise-joint g r (suc n) = rise-begun (joint_plays g (r + 1) n) (rise-joint g (r +
 pub legal_plays_rise : LegalPlaysRise
 legal_plays_rise g =
     elim (is_matrix g) as (λ (b : Bool). AllPairs IsBefore (cond b (row_plays g) (joint_plays g 1 (resource_count g)))) [
-      | true ↦ pairs-map Less IsBefore (λ row. row ∷ []) (λ x y before. inl before) (numbers (length g.goals)) (rise-numbers_from 1 (length g.goals))
+      | true ↦ pairs-map Lesser IsBefore (λ row. row ∷ []) (λ x y before. inl before) (numbers (length g.goals)) (rise-numbers_from 1 (length g.goals))
       | false ↦ rise-joint g 1 (resource_count g)
     ]
 

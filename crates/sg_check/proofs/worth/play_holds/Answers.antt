@@ -38,5 +38,5 @@ returns c =
     let top_sum = top_from_Fits (x +ℤ y) size.sum in
     let g = c.gain-gain.ensures in
     let r = c.regret_of.ensures in
-    le_z-is ((s.rho *ℤ cost c.args.game.now (shift_of c.args.game.now) (prefix (s.act ∷ [])) c.args.code.now) -ℤ regret c.args.game.now (prefix (s.act ∷ [])) c.args.marks.now c.args.code.now) s.mu _ _
+    le_z-is ((s.rho *ℤ cost c.args.game.now (prefix (s.act ∷ [])) c.args.code.now) -ℤ regret c.args.game.now (prefix (s.act ∷ [])) c.args.marks.now c.args.code.now) s.mu _ _
     (omega (arith, ints, e, f, g.value, r.value, g.low, g.high, r.low, r.high, top_y, top_sum)) h
