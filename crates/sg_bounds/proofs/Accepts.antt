@@ -14,10 +14,11 @@ use Rattle.sg_tree.specs.declared.report.Cap.{Cap}
 use Rattle.sg_tree.specs.declared.report.Report.{Report}
 use Rattle.sg_bounds.specs.Regions.{alone, prefix}
 use Rattle.sg_bounds.specs.Facts.{HoldsFor, no_fact}
-use Rattle.sg_bounds.specs.Caps.{IsAllowedBy, IsWithin, no_cap}
+use Rattle.sg_bounds.specs.Caps.{IsAllowedBy, IsUnderCap, no_cap}
 use Rattle.sg_bounds.specs.Trees.{Node, unproved, closed, split, Parts, end, part, node_of, IsBase, IsRoot, IsTreeOf, ArePartsOf}
 use Rattle.sg_bounds.specs.Sizes.{bound_sums, size_sums, value_sums, weight_sums}
-use Rattle.sg_bounds.specs.Accepted.{Fits, IsAccepted, IsSplitTree, IsWaterTree, base_sums, cap_sums, fact_sums, part_sums, proof_sums, tree_sums}
+use Rattle.sg_num.specs.Exact.{Fits}
+use Rattle.sg_bounds.specs.Accepted.{IsAccepted, IsSplitTree, IsWaterTree, base_sums, cap_sums, fact_sums, part_sums, proof_sums, tree_sums}
 use Rattle.sg_bounds.specs.Checking.{AllPass, IsCapShape, IsWaterRoot, Stop, base_lines, base_stops, bound_stops, cap_stops, cap_within, caps_end, caps_stops, end_stops, fact_lines, fact_stops, leveled, part_stops, proof_lines, proof_stops, root_line, root_stops, stops_of, ticket_stops, tree_lines, tree_stops, value_line, value_stops}
 use Rattle.sg_bounds.proofs.Places.{All-left, All-right, nth-next}
 
@@ -47,11 +48,11 @@ module _ (g : Game) (r : Report) where
       subst (λ (m : ℕ). HoldsFor g (alone l m) (nth fs i no_fact)) same (subst (λ (x : Fact). HoldsFor g (alone l (n + (i + 1) - 1)) x) at next) in
       (All-left Fits sums later fit, (subst (λ (m : ℕ). HoldsFor g (alone l m) f) e (h 1 (omega arith) (omega arith)), proof-passes l (n + 1) (line + fact_lines f) fs rest (All-right Fits sums later fit)))
 
-  within-all : (l : ℕ) (w : ℤ) (fs : List Fact) → ((i : ℕ) → 1 ≤ i → i ≤ length fs → IsWithin g l w (nth fs i no_fact)) → All (IsWithin g l w) fs
-  within-all l w [] h = All-nil (IsWithin g l w)
+  within-all : (l : ℕ) (w : ℤ) (fs : List Fact) → ((i : ℕ) → 1 ≤ i → i ≤ length fs → IsUnderCap g l w (nth fs i no_fact)) → All (IsUnderCap g l w) fs
+  within-all l w [] h = All-nil (IsUnderCap g l w)
   within-all l w (f ∷ fs) h =
-      All-cons (IsWithin g l w) f fs (h 1 (omega arith) (omega arith))
-      (within-all l w fs (λ i low high. let at : nth (f ∷ fs) (i + 1) no_fact ≡ nth fs i no_fact = nth-next f fs (i + 1) i no_fact refl low in subst (IsWithin g l w) at (h (i + 1) (omega arith) (omega arith))))
+      All-cons (IsUnderCap g l w) f fs (h 1 (omega arith) (omega arith))
+      (within-all l w fs (λ i low high. let at : nth (f ∷ fs) (i + 1) no_fact ≡ nth fs i no_fact = nth-next f fs (i + 1) i no_fact refl low in subst (IsUnderCap g l w) at (h (i + 1) (omega arith) (omega arith))))
 
   cap-passes : (l line : ℕ) (c : Cap) → l ≤ length g.types → c.l ≡ l → IsAllowedBy g l c.v c.proof → All Fits (proof_sums g l 1 c.proof) → AllPass g r (cap_stops l line c)
   cap-passes l line c high same allowed fit =
@@ -60,8 +61,8 @@ module _ (g : Game) (r : Report) where
       (p.0, join (proof_stops l 1 (line + 1) c.proof) last p.1 (p.2, tt))
     where
       by_proof : (fs : List Fact) → IsAllowedBy g l c.v fs → All Fits (proof_sums g l 1 fs)
-          → ((l ≤ length g.types) × (c.l ≡ l) × IsCapShape g l c.v fs) × AllPass g r (proof_stops l 1 (line + 1) fs) × All (IsWithin g l c.v) fs
-      by_proof [] allowed fit = ((high, same, allowed), tt, All-nil (IsWithin g l c.v))
+          → ((l ≤ length g.types) × (c.l ≡ l) × IsCapShape g l c.v fs) × AllPass g r (proof_stops l 1 (line + 1) fs) × All (IsUnderCap g l c.v) fs
+      by_proof [] allowed fit = ((high, same, allowed), tt, All-nil (IsUnderCap g l c.v))
       by_proof (f ∷ fs) allowed fit = (
         (high, same, allowed.0),
         proof-passes l 1 (line + 1) (f ∷ fs) (λ i low high. let e : i ≡ 1 + i - 1 = omega arith in subst (λ (m : ℕ). HoldsFor g (alone l m) (nth (f ∷ fs) i no_fact)) e (allowed.1 i low (omega (arith, high, allowed.0))).0) fit,

@@ -6,7 +6,7 @@ use Rattle.sg_model.specs.Games.{Game}
 use Rattle.sg_tree.specs.declared.report.Report.{Report}
 use Rattle.sg_bounds.specs.Trees.{Node, node_of}
 use Rattle.sg_bounds.specs.Accepted.{IsAccepted}
-use Rattle.sg_bounds.specs.Checking.{AllPass, FirstFails, IsFormed, IsRefused, Stop, bound_stops, judged, root_line, root_stops, stops_of, ticket_stops, topped, tree_lines, value_stops}
+use Rattle.sg_bounds.specs.Checking.{AllPass, FirstFails, IsReportValue, IsRefused, Stop, bound_stops, judged, root_line, root_stops, stops_of, ticket_stops, topped, tree_lines, value_stops}
 use Rattle.sg_bounds.specs.CheckLaws.{EachIsAnswered}
 use Rattle.sg_bounds.proofs.Checks.{passed_accepted}
 use Rattle.sg_bounds.proofs.Deciding.{Decides-passes, passes}
@@ -41,7 +41,7 @@ module _ (g : Game) (r : Report) where
       by rest true e = after s ss (answer g r (node_of r.tree) ss) e rest
       by rest false e = inl (not_from_Decides (passes g r (node_of r.tree) s.test) (Decides-passes g r s.test) e, refl, refl)
 
-  pub accepted_by : (t : Node) → node_of r.tree ≡ t → IsFormed r → answer g r t (stops_at g r t) ≡ None → IsAccepted g r
+  pub accepted_by : (t : Node) → node_of r.tree ≡ t → IsReportValue r → answer g r t (stops_at g r t) ≡ None → IsAccepted g r
   accepted_by t same formed e =
       let f : answer g r (node_of r.tree) (stops_of g r) ≡ None = subst (λ (u : Node). answer g r u (stops_at g r u) ≡ None) (sym same) e in
       passed_accepted g r formed (subst (Told g r (stops_of g r)) f (told (stops_of g r)))

@@ -16,11 +16,12 @@ use Rattle.sg_tree.specs.declared.report.Cap.{Cap}
 use Rattle.sg_tree.specs.declared.report.Report.{Report}
 use Rattle.sg_bounds.specs.Regions.{alone, prefix}
 use Rattle.sg_bounds.specs.Facts.{HoldsFor, no_fact}
-use Rattle.sg_bounds.specs.Caps.{IsAllowedBy, IsWithin, no_cap}
+use Rattle.sg_bounds.specs.Caps.{IsAllowedBy, IsUnderCap, no_cap}
 use Rattle.sg_bounds.specs.Trees.{Node, unproved, closed, split, Parts, end, part, node_of, IsBase, IsRoot, IsTreeOf, ArePartsOf}
 use Rattle.sg_bounds.specs.Sizes.{value_sums, weight_sums}
-use Rattle.sg_bounds.specs.Accepted.{Fits, IsAccepted, IsSplitTree, IsWaterTree, base_sums, cap_sums, fact_sums, part_sums, proof_sums, tree_sums}
-use Rattle.sg_bounds.specs.Checking.{AllPass, IsCapShape, IsFormed, IsWaterRoot, Stop, base_lines, base_stops, bound_stops, cap_stops, cap_within, caps_end, caps_stops, end_stops, fact_lines, fact_stops, leveled, part_stops, proof_lines, proof_stops, root_line, root_stops, stops_of, ticket_stops, tree_lines, tree_stops, value_line, value_stops}
+use Rattle.sg_num.specs.Exact.{Fits}
+use Rattle.sg_bounds.specs.Accepted.{IsAccepted, IsSplitTree, IsWaterTree, base_sums, cap_sums, fact_sums, part_sums, proof_sums, tree_sums}
+use Rattle.sg_bounds.specs.Checking.{AllPass, IsCapShape, IsReportValue, IsWaterRoot, Stop, base_lines, base_stops, bound_stops, cap_stops, cap_within, caps_end, caps_stops, end_stops, fact_lines, fact_stops, leveled, part_stops, proof_lines, proof_stops, root_line, root_stops, stops_of, ticket_stops, tree_lines, tree_stops, value_line, value_stops}
 use Rattle.sg_bounds.proofs.Claims.{claim_commits}
 use Rattle.sg_bounds.proofs.Places.{nth-first, nth-next}
 
@@ -52,10 +53,10 @@ module _ (g : Game) (r : Report) where
             rw at (proof-at l (n + 1) (line + fact_lines f) fs h.1.1 m (omega arith) (omega arith) (m - (n + 1) + 1) refl))
       ]
 
-  allowed-by : (l line : ℕ) (w : ℤ) (proof : List Fact) → IsCapShape g l w proof → AllPass g r (proof_stops l 1 (line + 1) proof) → All (IsWithin g l w) proof → IsAllowedBy g l w proof
+  allowed-by : (l line : ℕ) (w : ℤ) (proof : List Fact) → IsCapShape g l w proof → AllPass g r (proof_stops l 1 (line + 1) proof) → All (IsUnderCap g l w) proof → IsAllowedBy g l w proof
   allowed-by l line w [] shape h within = shape
   allowed-by l line w (f ∷ fs) shape h within =
-      (shape, λ m low high. (proof-at l 1 (line + 1) (f ∷ fs) h m low (omega (arith, shape)) m (omega arith), nth-all (IsWithin g l w) (f ∷ fs) no_fact within m low (omega (arith, high, shape))))
+      (shape, λ m low high. (proof-at l 1 (line + 1) (f ∷ fs) h m low (omega (arith, shape)) m (omega arith), nth-all (IsUnderCap g l w) (f ∷ fs) no_fact within m low (omega (arith, high, shape))))
 
   caps-at : (n line : ℕ) (cs : List Cap) → AllPass g r (caps_stops n line cs) → (l : ℕ) → n ≤ l → l < n + length cs → (i : ℕ) → i ≡ l - n + 1
       → ((nth cs i no_cap).l ≡ l) × IsAllowedBy g l (nth cs i no_cap).v (nth cs i no_cap).proof
@@ -135,7 +136,7 @@ module _ (g : Game) (r : Report) where
       by_form true root h = let w : IsWaterTree g t = subst (IsWaterTree g) (sym same) h.0 in (w, water-fits t w)
       by_form false root h = let f = tree-form t line [] h in (record { root = root; tree_of = f.0 }, f.1)
 
-pub passed_accepted : (g : Game) (r : Report) → IsFormed r → AllPass g r (stops_of g r) → IsAccepted g r
+pub passed_accepted : (g : Game) (r : Report) → IsReportValue r → AllPass g r (stops_of g r) → IsAccepted g r
 passed_accepted g r formed h =
     let k = r.tickets.tickets in
     let first : List Stop = ticket_stops 3 k in

@@ -13,7 +13,7 @@ use Rattle.sg_model.specs.declared.ticket.Ticket.{Ticket}
 use Rattle.sg_model.specs.Games.{Game}
 use Rattle.sg_model.specs.Plays.{IsLegal}
 use Rattle.sg_model.specs.Commitments.{IsCommitment}
-use Rattle.sg_tree.specs.Claims.{are_positive, comes_before, is_claim, is_rising}
+use Rattle.sg_tree.specs.Claims.{are_positive, comes_before, is_claim, is_claim_rising}
 
 pub both : (a b : Bool) → (a && b) ≡ true → (a ≡ true) × (b ≡ true)
 both true b e = (refl, e)
@@ -42,17 +42,17 @@ apart p q e same = turn (slice_cmp nat_cmp p q) e (subst (λ (x : List ℕ). sli
 abbrev Later : Ticket → Ticket → Type 0
 Later x y = IsBefore x.play.code y.play.code
 
-all_later : (x y : Ticket) (ys : List Ticket) → Later x y → is_rising (y ∷ ys) ≡ true → All (Later x) (y ∷ ys)
+all_later : (x y : Ticket) (ys : List Ticket) → Later x y → is_claim_rising (y ∷ ys) ≡ true → All (Later x) (y ∷ ys)
 all_later x y [] h r = All-cons (Later x) y [] h (All-nil (Later x))
 all_later x y (z ∷ zs) h r =
-    let k = both (comes_before y.play.code z.play.code) (is_rising (z ∷ zs)) r in
+    let k = both (comes_before y.play.code z.play.code) (is_claim_rising (z ∷ zs)) r in
     All-cons (Later x) y (z ∷ zs) h (all_later x z zs (nat_list_cmp_total.trans x.play.code y.play.code z.play.code h (before y.play.code z.play.code k.0)) k.1)
 
-distinct : (k : List Ticket) → is_rising k ≡ true → AllPairs (λ (x y : Ticket). x.play.code ≢ y.play.code) k
+distinct : (k : List Ticket) → is_claim_rising k ≡ true → AllPairs (λ (x y : Ticket). x.play.code ≢ y.play.code) k
 distinct [] r = λ i j d low high. absurd (omega (arith, high))
 distinct (x ∷ []) r = AllPairs-cons (λ (x y : Ticket). x.play.code ≢ y.play.code) x [] (All-nil (λ (y : Ticket). x.play.code ≢ y.play.code)) (distinct [] refl)
 distinct (x ∷ y ∷ ys) r =
-    let k = both (comes_before x.play.code y.play.code) (is_rising (y ∷ ys)) r in
+    let k = both (comes_before x.play.code y.play.code) (is_claim_rising (y ∷ ys)) r in
     let later = all_later x y ys (before x.play.code y.play.code k.0) k.1 in
     AllPairs-cons (λ (x y : Ticket). x.play.code ≢ y.play.code) x (y ∷ ys)
     (All-weaker (Later x) (λ (y : Ticket). x.play.code ≢ y.play.code) (λ z h. apart x.play.code z.play.code h) (y ∷ ys) later)
@@ -65,8 +65,8 @@ some (x ∷ xs) e = λ f. cc
 -- the tickets of a claim are a commitment where their plays are legal
 pub claim_commits : (g : Game) (k : List Ticket) → is_claim k ≡ true → All (λ (x : Ticket). IsLegal g x.play.code) k → IsCommitment g k
 claim_commits g k e legal =
-    let a = both (not (length k == 0)) (are_positive k && is_rising k) e in
-    let b = both (are_positive k) (is_rising k) a.1 in
+    let a = both (not (length k == 0)) (are_positive k && is_claim_rising k) e in
+    let b = both (are_positive k) (is_claim_rising k) a.1 in
     let positive = AllPass-from_list_all (λ (t : Ticket). int_le (pos 1) t.weight) k b.0 in
     record {
       some = some k a.0;

@@ -14,7 +14,7 @@ use Rattle.sg_tree.specs.declared.fix.Fix.{Fix}
 use Rattle.sg_tree.specs.declared.fact.Mark.{Mark}
 use Rattle.sg_bounds.specs.Regions.{fixed, act_of}
 use Rattle.sg_bounds.specs.Facts.{cost, regret, IsMarkOf, IsPlaysFact}
-use Rattle.sg_bounds.specs.Coverage.{Column, always, chooses, covering, Row, whole, spends, held, within, gains, IsColumn, others, rows, choice_holds, where_same, entry, column_cost, row_of}
+use Rattle.sg_bounds.specs.Coverage.{Column, always, chooses, covering, Row, whole, spends, held, within, gains, IsColumn, others, table_rows, choice_holds, where_same, entry, column_cost, row_of}
 use Rattle.sg_tree.specs.declared.fact.Line.{Line}
 use Rattle.sg_bounds.specs.Facts.{IsLineOf, IsCoverFact}
 use Rattle.sg_bounds.specs.Regions.{IsFix}
@@ -198,7 +198,7 @@ IsRowOf g fix (held s) = (1 ≤ s) × (s ≤ length g.goals)
 IsRowOf g fix (within s) = (1 ≤ s) × (s ≤ length g.goals)
 IsRowOf g fix (gains l b) = (fix.first ≤ l) × (l < fix.first + length fix.acts) × (1 ≤ b) × (b ≤ length g.goals) × (b ≢ act_of fix l) × (1 ≤ act_of fix l) × (act_of fix l ≤ length g.goals)
 
-rows_are : (g : Game) → is_matrix g ≡ false → (fix : Fix) → IsFix g fix → All (IsRowOf g fix) (rows g fix)
+rows_are : (g : Game) → is_matrix g ≡ false → (fix : Fix) → IsFix g fix → All (IsRowOf g fix) (table_rows g fix)
 rows_are g security fix is_fix =
     let t : ℕ = length g.goals in
     let P : Row → Type 0 = IsRowOf g fix in
@@ -231,7 +231,7 @@ rows_are g security fix is_fix =
 pub at_row : (g : Game) → is_matrix g ≡ false → (fix : Fix) → IsFix g fix → (line : Line) → IsLineOf g fix line → IsRowOf g fix (row_of g fix line)
 at_row g security fix is_fix line is_line = at line.row is_line.from_one is_line.in_range
   where
-    at : (k : ℕ) → 1 ≤ k → k ≤ length (rows g fix) → IsRowOf g fix (nth (rows g fix) k whole)
+    at : (k : ℕ) → 1 ≤ k → k ≤ length (table_rows g fix) → IsRowOf g fix (nth (table_rows g fix) k whole)
     at zero low high = absurd (omega arith)
     at (suc k) low high = rows_are g security fix is_fix k whole (omega arith)
 

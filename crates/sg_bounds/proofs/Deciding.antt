@@ -8,7 +8,7 @@ use Rattle.std.proofs.lemmas.Bool.Decides.{Decides-and, Decides-eqb, Decides-int
 use Rattle.std.proofs.lemmas.List.Elements.{All-nil, All-cons, All-head, All-tail}
 use Rattle.std.proofs.lemmas.Nat.Gcd.{dvd-zero, dvd_antisymm, dvd_of_mod-eq-zero, le_of_dvd, mod-eq-zero_of_dvd}
 use Rattle.sg_frac.specs.Fractions.{Fraction}
-use Rattle.sg_num.specs.Exact.{fits}
+use Rattle.sg_num.specs.Exact.{fits, Fits}
 use Rattle.sg_model.specs.declared.kind.Kind.{Kind}
 use Rattle.sg_model.specs.declared.kind.Kind.TheVariants.{Security, Matrix}
 use Rattle.sg_model.specs.declared.level.Level.{Level}
@@ -19,8 +19,8 @@ use Rattle.sg_model.specs.Games.{Game, action_count, attacker, is_kind_matrix, i
 use Rattle.sg_model.specs.Plays.{IsLegal, IsLegalJoint, IsRow}
 use Rattle.sg_model.specs.Payoffs.{greatest_of, shift_of}
 use Rattle.sg_model.specs.Limits.{is_scaled}
-use Rattle.sg_model.specs.Commitments.{IsValue, weight_total, worth}
-use Rattle.sg_model.specs.Origami.{IsFloor, IsLevelFor, IsWater, SpendsAll, at_level, share}
+use Rattle.sg_model.specs.Commitments.{IsValue, weight_total, worth, AreLowest}
+use Rattle.sg_model.specs.Origami.{IsFullyCovered, IsLevelFor, IsWater, SpendsAll, at_level, share}
 use Rattle.sg_tree.specs.declared.fact.Fact.{Fact}
 use Rattle.sg_tree.specs.declared.fact.Fact.TheVariants.{Plays, Cover, Water}
 use Rattle.sg_tree.specs.declared.fact.Mark.{Mark}
@@ -29,13 +29,13 @@ use Rattle.sg_tree.specs.declared.fix.Fix.{Fix}
 use Rattle.sg_tree.specs.declared.report.Cap.{Cap}
 use Rattle.sg_tree.specs.declared.report.Report.{Report}
 use Rattle.sg_bounds.specs.Regions.{act_of}
-use Rattle.sg_bounds.specs.Coverage.{Column, IsColumn, column_cost, entry, row_of, rows, whole, columns}
+use Rattle.sg_bounds.specs.Coverage.{Column, IsColumn, column_cost, entry, row_of, table_rows, whole, columns}
 use Rattle.sg_bounds.specs.Facts.{HoldsFor, IsCoverFact, IsLineOf, IsMarkOf, IsPlaysFact, cost, mu_of, regret, rho_of}
-use Rattle.sg_bounds.specs.Caps.{IsWithin}
+use Rattle.sg_bounds.specs.Caps.{IsUnderCap}
 use Rattle.sg_bounds.specs.Trees.{Node, unproved, closed, split, IsRoot, node_of}
 use Rattle.sg_bounds.specs.Leaves.{tree_bounds_of}
 use Rattle.sg_bounds.specs.Sizes.{bound_sums, size_sums, value_sums, weight_sums}
-use Rattle.sg_bounds.specs.Accepted.{AreLowest, Fits, IsBelow, IsGreatest, IsSame, IsWaterTree, is_optimal}
+use Rattle.sg_bounds.specs.Accepted.{IsNotAbove, IsGreatest, IsSame, IsWaterTree, is_optimal}
 use Rattle.sg_bounds.specs.Checking.{IsCapShape, IsWaterRoot, Passes, Test, legal, weights_fit, totalled, lowest, value_fits, valued, capped, cap_within, caps_end, rooted, leveled, forks, sized, holds, bounded, topped, judged}
 use Rattle.sg_model.proofs.Decided.{Decides-all, Decides-any, Decides-if, Decides-iff, Decides-le, Decides-le_z, Decides-listed, Decides-none, Decides-numbers}
 use Rattle.sg_bounds.proofs.Listed.{columns-are, columns-inside}
@@ -118,15 +118,15 @@ Decides-plays g fix rho mu marks =
     (Decides-listed (IsLegal g) (legal_plays g) (legal_plays-legal g) (legal_plays-complete g) low Low (λ play. Decides-le_z ((rho *ℤ cost g fix play) -ℤ regret g fix marks play) mu))))
 
 abbrev line_test : Game → Fix → Line → Bool
-line_test g fix line = nat_le 1 line.row && (nat_le line.row (length (rows g fix)) && int_le (pos 1) line.v)
+line_test g fix line = nat_le 1 line.row && (nat_le line.row (length (table_rows g fix)) && int_le (pos 1) line.v)
 
 Decides-line : (g : Game) (fix : Fix) (line : Line) → Decides (line_test g fix line) (IsLineOf g fix line)
 Decides-line g fix line =
-    let a = nat_le 1 line.row in let b = nat_le line.row (length (rows g fix)) in let d = int_le (pos 1) line.v in
+    let a = nat_le 1 line.row in let b = nat_le line.row (length (table_rows g fix)) in let d = int_le (pos 1) line.v in
     Decides-like (line_test g fix line)
     (λ k. record { from_one = k.0; in_range = k.1.0; positive = k.1.1 })
     (λ (is : IsLineOf g fix line). (is.from_one, (is.in_range, is.positive)))
-    (Decides-and a (b && d) (Decides-le 1 line.row) (Decides-and b d (Decides-le line.row (length (rows g fix))) (Decides-le_z (pos 1) line.v)))
+    (Decides-and a (b && d) (Decides-le 1 line.row) (Decides-and b d (Decides-le line.row (length (table_rows g fix))) (Decides-le_z (pos 1) line.v)))
 
 Decides-security : (k : Kind) → Decides (not (is_kind_matrix k)) (k ≡ Security)
 Decides-security Security = (λ _. refl, λ _. refl)
@@ -183,7 +183,7 @@ Decides-reason g patrols num den Resources =
     (Decides-and a b (Decides-some (at_level g num den)) (Decides-int_eq (total (share g num den) (at_level g num den)) ((pos patrols *ℤ den) *ℤ g.scale)))
 Decides-reason g patrols num den (Target j) =
     let a = nat_le 1 j in let b = nat_le j (length g.goals) in let d = int_eq ((payoff g 1 j).ac *ℤ den) num in
-    Decides-like (a && (b && d)) (λ k. record { from_one = k.0; in_range = k.1.0; pays = k.1.1 }) (λ (is : IsFloor g num den j). (is.from_one, (is.in_range, is.pays)))
+    Decides-like (a && (b && d)) (λ k. record { from_one = k.0; in_range = k.1.0; pays = k.1.1 }) (λ (is : IsFullyCovered g num den j). (is.from_one, (is.in_range, is.pays)))
     (Decides-and a (b && d) (Decides-le 1 j) (Decides-and b d (Decides-le j (length g.goals)) (Decides-int_eq ((payoff g 1 j).ac *ℤ den) num)))
 
 abbrev water_test : Game → ℕ → ℤ → ℤ → Level → Bool
@@ -241,7 +241,7 @@ Decides-shape g l v (f ∷ fs) = Decides-eqb (length (f ∷ fs)) (action_count g
 abbrev within_test : Game → ℕ → ℤ → Fact → Bool
 within_test g l v f = int_eq (mu_of f) (pos 0) || int_le (mu_of f) (rho_of f *ℤ ((attacker g l).prior *ℤ (v +ℤ shift_of g)))
 
-Decides-within : (g : Game) (l : ℕ) (v : ℤ) (f : Fact) → Decides (within_test g l v f) (IsWithin g l v f)
+Decides-within : (g : Game) (l : ℕ) (v : ℤ) (f : Fact) → Decides (within_test g l v f) (IsUnderCap g l v f)
 Decides-within g l v f =
     Decides-or (int_eq (mu_of f) (pos 0)) (int_le (mu_of f) (rho_of f *ℤ ((attacker g l).prior *ℤ (v +ℤ shift_of g)))) (Decides-int_eq (mu_of f) (pos 0))
     (Decides-le_z (mu_of f) (rho_of f *ℤ ((attacker g l).prior *ℤ (v +ℤ shift_of g))))
@@ -291,7 +291,7 @@ Decides-greatest : (b : Fraction) (bs : List Fraction) → Decides (greatest_tes
 Decides-greatest b bs =
     let a = list_all (λ x. below_test x b) bs in let d = list_any (λ x. same_test x b) bs in
     Decides-like (a && d) (λ k. record { bounds = k.0; reached = k.1 }) (λ (is : IsGreatest b bs). (is.bounds, is.reached))
-    (Decides-and a d (Decides-all (λ x. below_test x b) (λ x. IsBelow x b) (λ x. Decides-le_z (x.num *ℤ b.den) (b.num *ℤ x.den)) bs) (Decides-any (λ x. same_test x b) (λ x. IsSame x b) (λ x. Decides-same x b) bs))
+    (Decides-and a d (Decides-all (λ x. below_test x b) (λ x. IsNotAbove x b) (λ x. Decides-le_z (x.num *ℤ b.den) (b.num *ℤ x.den)) bs) (Decides-any (λ x. same_test x b) (λ x. IsSame x b) (λ x. Decides-same x b) bs))
 
 -- ---- common divisors
 
@@ -420,7 +420,7 @@ Decides-passes g r lowest = Decides-lowest r.tickets.tickets
 Decides-passes g r value_fits = Decides-fits (value_sums g r.tickets.tickets)
 Decides-passes g r valued = Decides-value g r.tickets.tickets r.value.num r.value.den
 Decides-passes g r (capped l c) = Decides-cap g l c
-Decides-passes g r (cap_within l v fs) = Decides-all (within_test g l v) (IsWithin g l v) (Decides-within g l v) fs
+Decides-passes g r (cap_within l v fs) = Decides-all (within_test g l v) (IsUnderCap g l v) (Decides-within g l v) fs
 Decides-passes g r caps_end = Decides-eqb (length r.caps + 1) (length g.types)
 Decides-passes g r rooted = Decides-if (is_scaled g) (water_root (node_of r.tree)) (split_root (node_of r.tree)) (Decides-water_root (node_of r.tree)) (Decides-split_root (node_of r.tree))
 Decides-passes g r leveled = Decides-level g (node_of r.tree)

@@ -22,13 +22,13 @@ use Rattle.sg_tree.specs.declared.report.Cap.{Cap}
 use Rattle.sg_tree.specs.declared.report.Report.{Report}
 use Rattle.sg_bounds.specs.Trees.{Node, unproved, closed, split, node_of}
 use Rattle.sg_bounds.specs.Leaves.{tree_bounds_of}
-use Rattle.sg_bounds.specs.Accepted.{IsAccepted, IsBelow, IsSame, IsSplitTree, IsWaterTree, is_optimal}
+use Rattle.sg_bounds.specs.Accepted.{IsAccepted, IsNotAbove, IsSame, IsSplitTree, IsWaterTree, is_optimal}
 use Rattle.sg_bounds.specs.ReportLaws.{AcceptedMeans}
 use Rattle.sg_bounds.proofs.Caps.{one_le_product}
 use Rattle.sg_bounds.proofs.Trees.{tree_bounds}
 
 -- an upper bound may be raised
-raised : (g : Game) → IsPeopled g → (a b : Fraction) → IsUpperBound g a.num a.den → pos 1 ≤ℤ b.den → IsBelow a b → IsUpperBound g b.num b.den
+raised : (g : Game) → IsPeopled g → (a b : Fraction) → IsUpperBound g a.num a.den → pos 1 ≤ℤ b.den → IsNotAbove a b → IsUpperBound g b.num b.den
 raised g is_peopled a b bound positive below =
     record {
       positive = positive;
@@ -48,7 +48,7 @@ pub patrols-count : (g : Game) (patrols : ℕ) → g.patrols ≡ Some patrols �
 patrols-count g patrols e = rw e refl
 
 water_upper : (g : Game) → IsPeopled g → (patrols : ℕ) → IsOrigami g patrols → (caps : List Cap) (t : Node) (upper : Fraction) → pos 1 ≤ℤ upper.den
-    → IsWaterTree g t → All (λ (x : Fraction). IsBelow x upper) (tree_bounds_of g caps t) → IsUpperBound g upper.num upper.den
+    → IsWaterTree g t → All (λ (x : Fraction). IsNotAbove x upper) (tree_bounds_of g caps t) → IsUpperBound g upper.num upper.den
 water_upper g is_peopled patrols o caps unproved upper positive h all = absurd h
 water_upper g is_peopled patrols o caps (split l base parts) upper positive h all = absurd h
 water_upper g is_peopled patrols o caps (closed (Plays rho mu marks)) upper positive h all = absurd h
@@ -56,7 +56,7 @@ water_upper g is_peopled patrols o caps (closed (Cover rho mu lines)) upper posi
 water_upper g is_peopled patrols o caps (closed (Water level why)) upper positive h all =
     let b : Fraction = record { num = water_bound g level.num level.den; den = level.den *ℤ g.scale } in
     let w : IsWater g patrols level.num level.den why = subst (λ (p : ℕ). IsWater g p level.num level.den why) (patrols-count g patrols o.identical) h in
-    raised g is_peopled b upper (water_bounds g patrols o level.num level.den why w) positive (All-head (λ (x : Fraction). IsBelow x upper) b [] all)
+    raised g is_peopled b upper (water_bounds g patrols o level.num level.den why w) positive (All-head (λ (x : Fraction). IsNotAbove x upper) b [] all)
 
 upper_bound : (g : Game) → IsGame g → (r : Report) → IsAccepted g r → IsUpperBound g r.upper.num r.upper.den
 upper_bound g is_game r a = by_form (is_scaled g) refl
@@ -67,8 +67,8 @@ upper_bound g is_game r a = by_form (is_scaled g) refl
     positive : pos 1 ≤ℤ r.upper.den
     positive = let q = a.upper_reduced in q.positive
 
-    all : All (λ (x : Fraction). IsBelow x r.upper) (tree_bounds_of g r.caps (node_of r.tree))
-    all = let q = a.upper in All-tail (λ (x : Fraction). IsBelow x r.upper) r.value (tree_bounds_of g r.caps (node_of r.tree)) q.bounds
+    all : All (λ (x : Fraction). IsNotAbove x r.upper) (tree_bounds_of g r.caps (node_of r.tree))
+    all = let q = a.upper in All-tail (λ (x : Fraction). IsNotAbove x r.upper) r.value (tree_bounds_of g r.caps (node_of r.tree)) q.bounds
 
     by_form : (b : Bool) → is_scaled g ≡ b → IsUpperBound g r.upper.num r.upper.den
     by_form true e = let o = origami g is_game e in water_upper g (peopled g is_game) o.0 o.1 r.caps (node_of r.tree) r.upper positive (when_true (IsWaterTree g (node_of r.tree)) (IsSplitTree g (node_of r.tree)) e a.tree) all
@@ -93,7 +93,7 @@ accepted_means g is_game r a =
     let q = a.value in
     let k = r.tickets.tickets in
     let top = a.upper in
-    let below : IsBelow r.value r.upper = All-head (λ (x : Fraction). IsBelow x r.upper) r.value (tree_bounds_of g r.caps (node_of r.tree)) top.bounds in
+    let below : IsNotAbove r.value r.upper = All-head (λ (x : Fraction). IsNotAbove x r.upper) r.value (tree_bounds_of g r.caps (node_of r.tree)) top.bounds in
     let ending = a.ending in
     record {
       tickets = a.tickets;

@@ -13,7 +13,7 @@ use Rattle.sg_model.specs.Games.{Game, action_count, resource_count}
 use Rattle.sg_model.proofs.Forms.{no_matrix}
 use Rattle.sg_model.proofs.Numbers.{length-numbers_from, nth-map, nth-numbers_from}
 use Rattle.sg_bounds.specs.Regions.{fixed}
-use Rattle.sg_bounds.specs.Coverage.{Row, gains, held, others, rows, spends, whole, within}
+use Rattle.sg_bounds.specs.Coverage.{Row, gains, held, others, table_rows, spends, whole, within}
 use Rattle.sg_bounds.specs.PlayRows.{other_actions}
 use Rattle.sg_bounds.specs.RowLaws.{PlayRowsAreCounted, RowsInOrder, other_than}
 
@@ -179,14 +179,14 @@ rows_in_order g security fix is_fix =
       targets = λ i low high. nth-right first (second ++ (third ++ moves)) i m whole c1 low ∙ (nth-left second (third ++ moves) i whole low (omega (arith, high, c2)) ∙ nth-first held t i whole low high);
       targets_again = λ i low high.
           let place : m + t + i ≡ m + (t + i) = omega arith in
-          ap (λ (k : ℕ). nth (rows g fix) k whole) place
+          ap (λ (k : ℕ). nth (table_rows g fix) k whole) place
           ∙ (nth-right first (second ++ (third ++ moves)) (t + i) m whole c1 (omega (arith, low))
           ∙ (nth-right second (third ++ moves) i t whole c2 low ∙ (nth-left third moves i whole low (omega (arith, high, c3)) ∙ nth-first within t i whole low high)));
       actions = λ i j lt low high.
           let p : ℕ = i * (t - 1) + j in
           let some : 1 ≤ p = omega (arith, low) in
           let place : m + t + t + p ≡ m + (t + (t + p)) = omega arith in
-          ap (λ (k : ℕ). nth (rows g fix) k whole) place
+          ap (λ (k : ℕ). nth (table_rows g fix) k whole) place
           ∙ (nth-right first (second ++ (third ++ moves)) (t + (t + p)) m whole c1 (omega (arith, some))
           ∙ (nth-right second (third ++ moves) (t + p) t whole c2 (omega (arith, some))
           ∙ (nth-right third moves p t whole c3 some ∙ moves-at g security fix.first fix.acts is_fix.acts i j lt low high)));
@@ -199,7 +199,7 @@ compared-count g [] all = refl
 compared-count g (p ∷ ps) all =
     let here = All-head (IsAct g) p ps all in
     let later = compared-count g ps (All-tail (IsAct g) p ps all) in
-    let one = length-map (filter (apart p.1) (numbers (action_count g p.0))) (λ (a : ℕ). (p.0, a)) ∙ apart-count p.1 (action_count g p.0) here.0 here.1 in
+    let one = length-map {B = ℕ × ℕ} (filter (apart p.1) (numbers (action_count g p.0))) (λ (a : ℕ). (p.0, a)) ∙ apart-count p.1 (action_count g p.0) here.0 here.1 in
     omega (arith, length-append (other_actions g p) (flat_map (other_actions g) ps), one, later)
 
 pub play_rows_are_counted : PlayRowsAreCounted

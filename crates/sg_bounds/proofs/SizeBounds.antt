@@ -20,7 +20,8 @@ use Rattle.sg_bounds.specs.Regions.{IsFix, act_of, fixed}
 use Rattle.sg_bounds.specs.Coverage.{Column, IsColumn, Row, always, choice_holds, chooses, column_cost, covering, entry, gains, held, row_of, spends, where_same, whole, within}
 use Rattle.sg_bounds.specs.Facts.{IsLineOf, IsMarkOf, cost, regret}
 use Rattle.sg_bounds.specs.Sizes.{attacker_most, defender_most, fixed_priors, size_sum}
-use Rattle.sg_bounds.specs.SizeLaws.{AreSmall, ColumnSumsAreSmall, IsAtMost, PlaySumsAreSmall}
+use Rattle.sg_bounds.specs.SizeLaws.{AreSmall, ColumnSumsAreSmall, PlaySumsAreSmall}
+use Rattle.sg_num.specs.Exact.{IsAtMost}
 use Rattle.sg_bounds.proofs.Cover.{IsRowOf, at_row, fixed_pairs, total-map}
 use Rattle.sg_bounds.proofs.Small.{add-times, at_most-add, at_most-more, scaled-small}
 use Rattle.sg_bounds.proofs.Spans.{covered-listed, difference-small, guarded-listed, defender-between, of-type, one-at-most, open-listed, play-between, play-of-type, uncovered-listed}

@@ -16,9 +16,8 @@ use Rattle.sg_model.proofs.Covers.{weight_total-nonneg, weight_total-positive}
 use Rattle.sg_model.proofs.Promises.{pay_a-in_range, pay_d-in_range, peopled}
 use Rattle.sg_model.proofs.Values.{prior_total-positive}
 use Rattle.sg_bounds.specs.Sizes.{pay_sums, running, take_sums, value_sums, weight_sums, worth_sums}
-use Rattle.sg_bounds.specs.Accepted.{Fits}
+use Rattle.sg_num.specs.Exact.{Fits, IsAtMost}
 use Rattle.sg_bounds.specs.ReportLaws.{SmallTotalsFit}
-use Rattle.sg_bounds.specs.SizeLaws.{IsAtMost}
 use Rattle.sg_model.proofs.Lists.{All-flat_map}
 use Rattle.sg_bounds.proofs.Places.{nth-next}
 

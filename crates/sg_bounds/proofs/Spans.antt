@@ -13,7 +13,7 @@ use Rattle.sg_model.proofs.Forms.{no_matrix}
 use Rattle.sg_model.proofs.Greatest.{Contains-head, Contains-tail}
 use Rattle.sg_model.proofs.Payoffs.{Contains-flat_map, Contains-map, Contains-numbers, least-bounds, listed, listed_in}
 use Rattle.sg_bounds.specs.Sizes.{attacker_most, attacker_payoffs_at, attacker_payoffs_of, attacker_span, defender_most}
-use Rattle.sg_bounds.specs.SizeLaws.{IsAtMost}
+use Rattle.sg_num.specs.Exact.{IsAtMost}
 
 -- ---- the attacker
 

@@ -17,7 +17,7 @@ use Rattle.sg_bounds.specs.Caps.{no_cap, AreCaps}
 use Rattle.sg_bounds.specs.Trees.{Node, unproved, closed, split, Parts, end, part, part_count, IsBase, IsTreeOf, ArePartsOf, IsRoot}
 use Rattle.sg_bounds.specs.Regions.{prefix}
 use Rattle.sg_frac.specs.Fractions.{Fraction}
-use Rattle.sg_bounds.specs.Accepted.{IsBelow, IsSplitTree}
+use Rattle.sg_bounds.specs.Accepted.{IsNotAbove, IsSplitTree}
 use Rattle.sg_bounds.specs.ReportLaws.{LeafIsMet, TreeBounds}
 use Rattle.sg_bounds.specs.Leaves.{rest_of, fact_bound, base_bound, listed, leaf_bounds, part_bounds, root_bound, tree_bounds_of}
 use Rattle.sg_model.proofs.Ints.{v, n, plus, less, times, same_by, le_by, le_from, mul-le, cancel-le}
@@ -216,13 +216,13 @@ module _ (g : Game) (peopled : IsPeopled g) (caps : List Cap) (are_caps : AreCap
       let count : part_count parts ≡ action_count g (0 + 1) = is_tree.3 ∙ ap (action_count g) is_tree.0 in
       part-met parts 1 t.0 [] (Some (root_bound g)) some tt t1 t1.from_one (omega (arith, t1.in_range, count)) root-meets is_tree.4
 
-  tree-below : (tree : Node) → IsSplitTree g tree → (bound : Fraction) → pos 1 ≤ℤ bound.den → All (λ leaf. IsBelow leaf bound) (tree_bounds_of g caps tree) → (worth g k *ℤ bound.den) ≤ℤ ((bound.num *ℤ weight_total k) *ℤ prior_total g)
+  tree-below : (tree : Node) → IsSplitTree g tree → (bound : Fraction) → pos 1 ≤ℤ bound.den → All (λ leaf. IsNotAbove leaf bound) (tree_bounds_of g caps tree) → (worth g k *ℤ bound.den) ≤ℤ ((bound.num *ℤ weight_total k) *ℤ prior_total g)
   tree-below tree is_split bound positive above_all =
       let r = root-met tree is_split.root is_split.tree_of in
       let b : Fraction = r.0 in
       let num : ℤ = bound.num in let den : ℤ = bound.den in
       let meets = r.2 in
-      let above : (b.num *ℤ den) ≤ℤ (num *ℤ b.den) = All-contains (λ (leaf : Fraction). IsBelow leaf bound) (tree_bounds_of g caps tree) b above_all r.1 in
+      let above : (b.num *ℤ den) ≤ℤ (num *ℤ b.den) = All-contains (λ (leaf : Fraction). IsNotAbove leaf bound) (tree_bounds_of g caps tree) b above_all r.1 in
       let w : ℤ = worth g k in let d : ℤ = weight_total k in let p : ℤ = prior_total g in
       let d_positive = weight_total-positive k is_k.some is_k.positive in
       let p_positive = prior_total-positive g peopled in

@@ -17,7 +17,8 @@ use Rattle.sg_tree.specs.declared.tree.Tree.TheVariants.{Closed}
 use Rattle.sg_bounds.specs.Trees.{Node, closed, node_of}
 use Rattle.sg_bounds.specs.Leaves.{tree_bounds_of}
 use Rattle.sg_bounds.specs.Sizes.{value_sums, weight_sums}
-use Rattle.sg_bounds.specs.Accepted.{Fits, IsBelow, IsGreatest, IsSplitTree, IsWaterTree, tree_sums}
+use Rattle.sg_num.specs.Exact.{Fits}
+use Rattle.sg_bounds.specs.Accepted.{IsNotAbove, IsGreatest, IsSplitTree, IsWaterTree, tree_sums}
 use Rattle.sg_bounds.specs.ReportLaws.{LevelReportIsAccepted}
 use Rattle.sg_bounds.proofs.Nodes.{node_of-Closed}
 use Rattle.sg_bounds.proofs.Reports.{patrols-count}
@@ -32,8 +33,8 @@ level_accepted g is_game scaled k is_k lowest value is_value reduced level why w
     let best = tickets-optimal g p is_o level.num level.den w.positive k is_k shares why w in
     let same : node_of (Closed (Water level why)) ≡ closed (Water level why) = node_of-Closed (Water level why) in
     let one = is_o.one_type in
-    let low : IsBelow value bound = bound_above g (peopled g is_game) bound.num bound.den (water_bounds g p is_o level.num level.den why w) k is_k value.num value.den is_value in
-    let high : IsBelow bound value =
+    let low : IsNotAbove value bound = bound_above g (peopled g is_game) bound.num bound.den (water_bounds g p is_o level.num level.den why w) k is_k value.num value.den is_value in
+    let high : IsNotAbove bound value =
     bound_above g (peopled g is_game) value.num value.den (optimal-bound g k is_k best value.num value.den is_value) k is_k bound.num bound.den
     (tickets-value g p is_o level.num level.den w.positive k is_k shares why w) in
     record {
@@ -46,7 +47,7 @@ level_accepted g is_game scaled k is_k lowest value is_value reduced level why w
       tree = subst (λ (t : Node). MatchBool (is_scaled g) (IsWaterTree g t) (IsSplitTree g t)) (sym same) (subst (λ (b : Bool). MatchBool b (IsWaterTree g (closed (Water level why))) (IsSplitTree g (closed (Water level why)))) (sym scaled) water);
       upper = subst (λ (t : Node). IsGreatest value (value ∷ tree_bounds_of g [] t)) (sym same)
           (record {
-            bounds = All-cons (λ x. IsBelow x value) value (bound ∷ []) (omega (arith, ints)) (All-cons (λ x. IsBelow x value) bound [] high (All-nil (λ x. IsBelow x value)));
+            bounds = All-cons (λ x. IsNotAbove x value) value (bound ∷ []) (omega (arith, ints)) (All-cons (λ x. IsNotAbove x value) bound [] high (All-nil (λ x. IsNotAbove x value)));
             reached = (value, Contains-head value (bound ∷ []), refl);
           });
       upper_reduced = reduced;

@@ -1,12 +1,12 @@
 -- When a report is accepted for a game: whatever order it is tested in.
 use Rattle.std.specs.Prelude.{◌≡◌, ◌↔◌, ℕ, ◌+◌, Bool, true, false, List, [], ◌∷◌, ◌++◌, length, ℤ, ◌*ℤ◌, ◌≤ℤ◌, All, Contains, MatchBool, Option, Some, None, unsigned_abs}
 use Rattle.std.specs.Int.{◌∣◌}
-use Rattle.sg_num.specs.Exact.{fits}
+use Rattle.sg_num.specs.Exact.{fits, Fits}
 use Rattle.sg_frac.specs.Fractions.{Fraction, IsReduced}
 use Rattle.sg_model.specs.declared.ticket.Ticket.{Ticket}
 use Rattle.sg_model.specs.Games.{Game, resource_count}
 use Rattle.sg_model.specs.Limits.{is_scaled}
-use Rattle.sg_model.specs.Commitments.{IsCommitment, IsValue, weight_total}
+use Rattle.sg_model.specs.Commitments.{IsCommitment, IsValue, weight_total, AreLowest}
 use Rattle.sg_model.specs.Origami.{IsWater}
 use Rattle.sg_tree.specs.declared.fact.Fact.{Fact}
 use Rattle.sg_tree.specs.declared.fact.Fact.TheVariants.{Water}
@@ -21,13 +21,9 @@ use Rattle.sg_bounds.specs.Trees.{Node, unproved, closed, split, Parts, end, par
 use Rattle.sg_bounds.specs.Leaves.{tree_bounds_of}
 use Rattle.sg_bounds.specs.Sizes.{weight_sums, value_sums, size_sums, bound_sums}
 
--- no number above 1 divides all the weights
-abbrev pub AreLowest : List Ticket → Type 0
-AreLowest k = (d : ℕ) → All (λ (x : Ticket). d ∣ unsigned_abs x.weight) k → d ≡ 1
-
 -- a is at most b, where both denominators are at least 1
-abbrev pub IsBelow : Fraction → Fraction → Type 0
-IsBelow a b = (a.num *ℤ b.den) ≤ℤ (b.num *ℤ a.den)
+abbrev pub IsNotAbove : Fraction → Fraction → Type 0
+IsNotAbove a b = (a.num *ℤ b.den) ≤ℤ (b.num *ℤ a.den)
 
 -- both have the same value
 abbrev pub IsSame : Fraction → Fraction → Type 0
@@ -35,7 +31,7 @@ IsSame a b = a.num *ℤ b.den ≡ b.num *ℤ a.den
 
 -- none of the list is above b, and one of it is b
 pub record IsGreatest (b : Fraction) (bs : List Fraction) : Type 0 where
-  pub bounds : All (λ x. IsBelow x b) bs
+  pub bounds : All (λ x. IsNotAbove x b) bs
   pub reached : (x : Fraction) × Contains bs x × IsSame x b
 
 -- one water level that holds, and nothing else
@@ -47,10 +43,6 @@ IsWaterTree g t = ⊥
 pub record IsSplitTree (g : Game) (t : Node) : Type 0 where
   pub root : IsRoot t
   pub tree_of : IsTreeOf g (HoldsFor g) [] t
-
--- a number that fits 128 bits
-abbrev pub Fits : ℤ → Type 0
-Fits z = fits z ≡ true
 
 -- the size sums of the facts of a cap, one for each action from a on
 abbrev pub proof_sums : Game → ℕ → ℕ → List Fact → List ℤ

@@ -9,14 +9,14 @@ use Rattle.sg_bounds.specs.Regions.{alone}
 use Rattle.sg_bounds.specs.Facts.{HoldsFor, mu_of, no_fact, rho_of}
 
 -- the fact's region is empty, or its bound, mu / (rho * prior) less the shift, is at most v
-abbrev pub IsWithin : Game → ℕ → ℤ → Fact → Type 0
-IsWithin g l v f = (mu_of f ≡ pos 0) ⊎ (mu_of f ≤ℤ (rho_of f *ℤ ((attacker g l).prior *ℤ (v +ℤ shift_of g))))
+abbrev pub IsUnderCap : Game → ℕ → ℤ → Fact → Type 0
+IsUnderCap g l v f = (mu_of f ≡ pos 0) ⊎ (mu_of f ≤ℤ (rho_of f *ℤ ((attacker g l).prior *ℤ (v +ℤ shift_of g))))
 
 -- without facts the greatest payoff against type l; else one fact for each action that holds where the type takes it, and is within v
 abbrev pub IsAllowedBy : Game → ℕ → ℤ → List Fact → Type 0
 IsAllowedBy g l v [] = v ≡ greatest_of g l
 IsAllowedBy g l v (f ∷ fs) = (length (f ∷ fs) ≡ action_count g l)
-    × ((a : ℕ) → 1 ≤ a → a ≤ action_count g l → HoldsFor g (alone l a) (nth (f ∷ fs) a no_fact) × IsWithin g l v (nth (f ∷ fs) a no_fact))
+    × ((a : ℕ) → 1 ≤ a → a ≤ action_count g l → HoldsFor g (alone l a) (nth (f ∷ fs) a no_fact) × IsUnderCap g l v (nth (f ∷ fs) a no_fact))
 
 -- what stands where there is no cap of that number
 abbrev pub no_cap : Cap

@@ -6,7 +6,7 @@ use Rattle.sg_model.specs.Games.{Game, action_count}
 use Rattle.sg_model.specs.Plays.{IsLegal}
 use Rattle.sg_model.specs.Payoffs.{greatest_of}
 use Rattle.sg_model.specs.Limits.{is_scaled}
-use Rattle.sg_model.specs.Commitments.{IsValue, weight_total}
+use Rattle.sg_model.specs.Commitments.{IsValue, weight_total, AreLowest}
 use Rattle.sg_tree.specs.declared.fact.Fact.{Fact}
 use Rattle.sg_tree.specs.declared.fact.Fact.TheVariants.{Plays, Cover, Water}
 use Rattle.sg_tree.specs.declared.fix.Fix.{Fix}
@@ -15,11 +15,12 @@ use Rattle.sg_tree.specs.declared.report.Report.{Report}
 use Rattle.sg_tree.specs.Claims.{is_claim}
 use Rattle.sg_bounds.specs.Regions.{alone, prefix}
 use Rattle.sg_bounds.specs.Facts.{HoldsFor}
-use Rattle.sg_bounds.specs.Caps.{IsWithin}
+use Rattle.sg_bounds.specs.Caps.{IsUnderCap}
 use Rattle.sg_bounds.specs.Trees.{Node, unproved, closed, split, Parts, end, part, part_count, node_of, IsRoot}
 use Rattle.sg_bounds.specs.Leaves.{tree_bounds_of}
 use Rattle.sg_bounds.specs.Sizes.{weight_sums, value_sums, size_sums, bound_sums}
-use Rattle.sg_bounds.specs.Accepted.{AreLowest, Fits, IsGreatest, IsSame, IsWaterTree, is_optimal}
+use Rattle.sg_num.specs.Exact.{Fits}
+use Rattle.sg_bounds.specs.Accepted.{IsGreatest, IsSame, IsWaterTree, is_optimal}
 
 -- what a test is about
 pub data Test : Type 0 where
@@ -75,7 +76,7 @@ Passes g r lowest = AreLowest r.tickets.tickets
 Passes g r value_fits = All Fits (value_sums g r.tickets.tickets)
 Passes g r valued = IsValue g r.tickets.tickets r.value.num r.value.den
 Passes g r (capped l c) = (l ≤ length g.types) × (c.l ≡ l) × IsCapShape g l c.v c.proof
-Passes g r (cap_within l v fs) = All (IsWithin g l v) fs
+Passes g r (cap_within l v fs) = All (IsUnderCap g l v) fs
 Passes g r caps_end = length r.caps + 1 ≡ length g.types
 Passes g r rooted = MatchBool (is_scaled g) (IsWaterRoot (node_of r.tree)) (IsRoot (node_of r.tree))
 Passes g r leveled = IsWaterTree g (node_of r.tree)
@@ -218,7 +219,7 @@ FirstFails g r (s ∷ ss) line reason =
     ((Passes g r s.test → ⊥) × (s.line ≡ line) × (s.reason ≡ reason)) ⊎ (Passes g r s.test × FirstFails g r ss line reason)
 
 -- what every value of the type keeps: the rules of its tickets, and fractions in lowest terms
-pub record IsFormed (r : Report) : Type 0 where
+pub record IsReportValue (r : Report) : Type 0 where
   pub tickets : is_claim r.tickets.tickets ≡ true
   pub value : IsReduced r.value
   pub upper : IsReduced r.upper

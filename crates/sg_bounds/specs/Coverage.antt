@@ -40,8 +40,8 @@ abbrev pub others : Game → ℕ → List ℕ
 others g a = filter (λ b. not (nat_eq a b)) (numbers (length g.goals))
 
 -- the rows from row 1, in their order
-abbrev pub rows : Game → Fix → List Row
-rows g fix =
+abbrev pub table_rows : Game → Fix → List Row
+table_rows g fix =
     map spends (numbers (resource_count g)) ++ (map held (numbers (length g.goals)) ++ (map within (numbers (length g.goals))
     ++ flat_map (λ (p : ℕ × ℕ). map (gains p.0) (others g p.1)) (fixed fix)))
 
@@ -81,4 +81,4 @@ column_cost g fix (covering t) =
 
 -- the row that a line names
 abbrev pub row_of : Game → Fix → Line → Row
-row_of g fix line = nth (rows g fix) line.row whole
+row_of g fix line = nth (table_rows g fix) line.row whole

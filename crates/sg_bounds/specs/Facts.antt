@@ -14,7 +14,7 @@ use Rattle.sg_tree.specs.declared.fact.Line.{Line}
 use Rattle.sg_tree.specs.declared.fix.Fix.{Fix}
 use Rattle.sg_bounds.specs.Regions.{fixed, act_of}
 use Rattle.sg_bounds.specs.PlayRows.{gain}
-use Rattle.sg_bounds.specs.Coverage.{Column, IsColumn, whole, rows, entry, column_cost, row_of}
+use Rattle.sg_bounds.specs.Coverage.{Column, IsColumn, whole, table_rows, entry, column_cost, row_of}
 
 -- what a play is worth to the defender: prior times payoff, with the shift, summed over the fixed types
 abbrev pub cost : Game → Fix → List ℕ → ℤ
@@ -47,7 +47,7 @@ pub record IsPlaysFact (g : Game) (fix : Fix) (rho mu : ℤ) (marks : List Mark)
 -- a line: a row from 1, and a multiplier of at least 1
 pub record IsLineOf (g : Game) (fix : Fix) (line : Line) : Type 0 where
   pub from_one : 1 ≤ line.row
-  pub in_range : line.row ≤ length (rows g fix)
+  pub in_range : line.row ≤ length (table_rows g fix)
   pub positive : pos 1 ≤ℤ line.v
 
 -- rho times the worth of each column is at most mu times its entry in row 0 with the entries of the lines, times their multipliers

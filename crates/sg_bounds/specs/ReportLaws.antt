@@ -6,7 +6,7 @@ use Rattle.sg_model.specs.Games.{Game, prior_total, resource_count}
 use Rattle.sg_model.specs.declared.ticket.Ticket.{Ticket}
 use Rattle.sg_model.specs.Limits.{IsGame, is_scaled}
 use Rattle.sg_model.specs.Payoffs.{IsPeopled}
-use Rattle.sg_model.specs.Commitments.{IsCommitment, IsValue, weight_total, worth}
+use Rattle.sg_model.specs.Commitments.{IsCommitment, IsValue, weight_total, worth, AreLowest}
 use Rattle.sg_model.specs.Origami.{AreLevelTickets, IsWater}
 use Rattle.sg_model.specs.Optimality.{IsOptimal, IsUpperBound}
 use Rattle.sg_tree.specs.declared.report.Cap.{Cap}
@@ -18,7 +18,8 @@ use Rattle.sg_bounds.specs.Caps.{AreCaps}
 use Rattle.sg_bounds.specs.Trees.{Node}
 use Rattle.sg_bounds.specs.Leaves.{tree_bounds_of}
 use Rattle.sg_bounds.specs.Sizes.{value_sums, weight_sums}
-use Rattle.sg_bounds.specs.Accepted.{AreLowest, Fits, IsAccepted, IsBelow, IsSplitTree, is_optimal}
+use Rattle.sg_num.specs.Exact.{Fits}
+use Rattle.sg_bounds.specs.Accepted.{IsAccepted, IsNotAbove, IsSplitTree, is_optimal}
 
 -- where the caps are allowed and the facts of a split hold, each commitment has a leaf whose bound its value is at most
 abbrev pub LeafIsMet : Type 0
@@ -28,7 +29,7 @@ LeafIsMet = (g : Game) → IsPeopled g → (caps : List Cap) → AreCaps g caps 
 -- so what no leaf's bound is above is an upper bound
 abbrev pub TreeBounds : Type 0
 TreeBounds = (g : Game) → IsPeopled g → (caps : List Cap) → AreCaps g caps → (t : Node) → IsSplitTree g t
-    → (b : Fraction) → pos 1 ≤ℤ b.den → All (λ leaf. IsBelow leaf b) (tree_bounds_of g caps t) → IsUpperBound g b.num b.den
+    → (b : Fraction) → pos 1 ≤ℤ b.den → All (λ leaf. IsNotAbove leaf b) (tree_bounds_of g caps t) → IsUpperBound g b.num b.den
 
 -- what an accepted report shows
 pub record Means (g : Game) (r : Report) : Type 0 where

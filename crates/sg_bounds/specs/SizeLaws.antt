@@ -5,6 +5,7 @@ use Rattle.sg_model.specs.Sums.{total}
 use Rattle.sg_model.specs.Games.{Game}
 use Rattle.sg_model.specs.Plays.{IsLegal}
 use Rattle.sg_model.specs.Payoffs.{IsPeopled}
+use Rattle.sg_num.specs.Exact.{IsAtMost}
 use Rattle.sg_tree.specs.declared.fact.Fact.TheVariants.{Plays, Cover}
 use Rattle.sg_tree.specs.declared.fact.Mark.{Mark}
 use Rattle.sg_tree.specs.declared.fact.Line.{Line}
@@ -13,10 +14,6 @@ use Rattle.sg_bounds.specs.Regions.{IsFix}
 use Rattle.sg_bounds.specs.Coverage.{Column, IsColumn, column_cost, entry, row_of}
 use Rattle.sg_bounds.specs.Facts.{IsLineOf, IsMarkOf, cost, regret}
 use Rattle.sg_bounds.specs.Sizes.{attacker_most, defender_most, fixed_priors, size_sum}
-
--- from -b to b
-abbrev pub IsAtMost : ℤ → ℤ → Type 0
-IsAtMost b z = ((pos 0 -ℤ b) ≤ℤ z) × (z ≤ℤ b)
 
 -- rho times a cost, a sum of multipliers times entries, and their difference, within the two products of the size sum and the size sum itself
 pub record AreSmall (g : Game) (fix : Fix) (rho size multipliers worth entries : ℤ) : Type 0 where

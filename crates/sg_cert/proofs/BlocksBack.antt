@@ -8,11 +8,11 @@ use Rattle.std.proofs.lemmas.List.{append-nil}
 use Rattle.sg_model.specs.declared.ticket.Ticket.{Ticket}
 use Rattle.sg_tree.specs.Claims.{Claimed, is_claim}
 use Rattle.sg_cert.specs.Place.{Place}
-use Rattle.sg_cert.specs.Fields.{fields, ◌>>=◌}
+use Rattle.sg_model.specs.Steps.{◌>>=◌}
 use Rattle.sg_cert.specs.Lines.{line_at, at_line}
 use Rattle.sg_cert.specs.LineReading.{counts_of, ticket_of}
 use Rattle.sg_cert.specs.Reading.{Read, repeat, last_play, ticket_at, claim_at}
-use Rattle.sg_cert.specs.Text.{Row, spell, text_of, ticket_row, claim_rows}
+use Rattle.sg_cert.specs.Text.{FieldRow, spell, text_of, ticket_row, claim_rows}
 use Rattle.sg_cert.specs.Ranges.{IsTicket, IsClaim}
 use Rattle.sg_cert.proofs.Rows.{text_then}
 use Rattle.std.specs.Prelude.{position, take, get_or}
@@ -21,7 +21,7 @@ use Rattle.std.proofs.lemmas.Bool.{eqb-true}
 use Rattle.std.proofs.lemmas.List.{drop_more}
 use Rattle.std.proofs.lemmas.List.Quantifiers.{position-Some}
 use Rattle.std.proofs.lemmas.List.Splits.{join_with_byte-slice_split}
-use Rattle.sg_cert.specs.Fields.{split_once}
+use Rattle.sg_cert.specs.Fields.{split_once, fields}
 use Rattle.sg_cert.specs.Lines.{line_cut}
 use Rattle.sg_cert.specs.LineReading.{MayStand}
 use Rattle.sg_cert.proofs.Numbers.{bound}
@@ -56,7 +56,7 @@ pub line_forth : (p : Place) (l : List ℕ × Place) → line_at p ≡ Ok l → 
 unfolding line_at
 line_forth p l h = line_rest (split_once 10 p.rest) (p.line + 1) p.rest l refl h
 
-pub row_forth : (p : Place) (l : List ℕ × Place) (w : List ℕ) (fs : Row) → line_at p ≡ Ok l → fields l.0 ≡ w ∷ fs → p.rest ≡ spell (w ∷ fs) ++ l.1.rest
+pub row_forth : (p : Place) (l : List ℕ × Place) (w : List ℕ) (fs : FieldRow) → line_at p ≡ Ok l → fields l.0 ≡ w ∷ fs → p.rest ≡ spell (w ∷ fs) ++ l.1.rest
 row_forth p l w fs h e =
     let joined : l.0 ≡ join_with_byte 32 (w ∷ fs) = sym (join_with_byte-slice_split 32 l.0) ∙ ap (join_with_byte 32) e in
     line_forth p l h ∙ ap (λ (t : List ℕ). t ++ 10 ∷ l.1.rest) joined ∙ sym (append_assoc (join_with_byte 32 (w ∷ fs)) (10 ∷ []) l.1.rest) ∙ ap (λ (t : List ℕ). t ++ l.1.rest) (sym (spell_join w fs))
@@ -66,16 +66,16 @@ at_line_back p (Ok y) x h = ap Ok (ok_is y x h)
 at_line_back p (Err e) x h = absurd (never _ x h)
 
 -- what a reading that succeeded took: a fact of the value, and the text of its rows
-abbrev pub Took : Type 0 → List ℕ → List Row → List ℕ → Type 0
+abbrev pub Took : Type 0 → List ℕ → List FieldRow → List ℕ → Type 0
 Took P before rows after = P × (before ≡ text_of rows ++ after)
 
-pub behind_row : (p : Place) (l : List ℕ × Place) (w : List ℕ) (fs : Row) (rows : List Row) (after : List ℕ) → line_at p ≡ Ok l → fields l.0 ≡ w ∷ fs → l.1.rest ≡ text_of rows ++ after → p.rest ≡ text_of ((w ∷ fs) ∷ rows) ++ after
+pub behind_row : (p : Place) (l : List ℕ × Place) (w : List ℕ) (fs : FieldRow) (rows : List FieldRow) (after : List ℕ) → line_at p ≡ Ok l → fields l.0 ≡ w ∷ fs → l.1.rest ≡ text_of rows ++ after → p.rest ≡ text_of ((w ∷ fs) ∷ rows) ++ after
 behind_row p l w fs rows after h e k = row_forth p l w fs h e ∙ ap (λ (t : List ℕ). spell (w ∷ fs) ++ t) k ∙ sym (append_assoc (spell (w ∷ fs)) (text_of rows) after)
 
 -- a reader of one line
-pub one_forth : {A : Type 0} (parse : Row → Result A ℕ) (p : Place) (x : A × Place) (P : Type 0) (w : List ℕ) (fs : Row)
+pub one_forth : {A : Type 0} (parse : FieldRow → Result A ℕ) (p : Place) (x : A × Place) (P : Type 0) (w : List ℕ) (fs : FieldRow)
     → (line_at p >>= λ l. at_line l.1 (parse (fields l.0)) >>= λ y. Ok (y, l.1)) ≡ Ok x
-    → ((gs : Row) → parse gs ≡ Ok x.0 → P × (gs ≡ w ∷ fs)) → Took P p.rest ((w ∷ fs) ∷ []) x.1.rest
+    → ((gs : FieldRow) → parse gs ≡ Ok x.0 → P × (gs ≡ w ∷ fs)) → Took P p.rest ((w ∷ fs) ∷ []) x.1.rest
 one_forth parse p x P w fs h back =
     let a = bound (line_at p) (λ l. at_line l.1 (parse (fields l.0)) >>= λ y. Ok (y, l.1)) x h in
     let b = bound (at_line a.0.1 (parse (fields a.0.0))) (λ y. Ok (y, a.0.1)) x a.1.1 in
@@ -90,14 +90,14 @@ abbrev pub Chain : {A : Type 0} → (List A → A → Type 0) → List A → Lis
 Chain P done [] = Unit {0}
 Chain P done (x ∷ xs) = P done x × Chain P (done ++ x ∷ []) xs
 
-pub record Items {A : Type 0} (P : List A → A → Type 0) (rows : A → List Row) (done xs : List A) (n : ℕ) (before after : List ℕ) : Type 0 where
+pub record Items {A : Type 0} (P : List A → A → Type 0) (rows : A → List FieldRow) (done xs : List A) (n : ℕ) (before after : List ℕ) : Type 0 where
   pub more : List A
   pub all : done ++ more ≡ xs
   pub count : length more ≡ n
   pub chain : Chain P done more
   pub text : before ≡ text_of (flat_map rows more) ++ after
 
-pub repeat_forth : {A : Type 0} (item : List A → Place → Read A) (P : List A → A → Type 0) (rows : A → List Row)
+pub repeat_forth : {A : Type 0} (item : List A → Place → Read A) (P : List A → A → Type 0) (rows : A → List FieldRow)
     → ((done : List A) (p : Place) (x : A × Place) → item done p ≡ Ok x → Took (P done x.0) p.rest (rows x.0) x.1.rest)
     → (done : List A) (n : ℕ) (p : Place) (xs : List A × Place) → repeat item done n p ≡ Ok xs → Items P rows done xs.0 n p.rest xs.1.rest
 unfolding repeat
@@ -117,9 +117,9 @@ repeat_forth item P rows forth done (suc n) p xs h =
           ∙ ap (λ (t : List ℕ). t ++ xs.1.rest) (sym (text_then (rows a.0.0) (flat_map rows ih.more)));
     }
 
-pub single_rows : {A : Type 0} (row : A → Row) (xs : List A) → flat_map (λ (x : A). row x ∷ []) xs ≡ map row xs
+pub single_rows : {A : Type 0} (row : A → FieldRow) (xs : List A) → flat_map (λ (x : A). row x ∷ []) xs ≡ map row xs
 single_rows row [] = refl
-single_rows row (x ∷ xs) = ap (λ (rs : List Row). row x ∷ rs) (single_rows row xs)
+single_rows row (x ∷ xs) = ap (λ (rs : List FieldRow). row x ∷ rs) (single_rows row xs)
 
 -- ---- tickets
 
@@ -155,6 +155,6 @@ claim_forth p x h =
       total = n.0.1;
     } in
     let head : fields a.0.0 ≡ codes "tickets" ∷ decimal (length c.0.0) ∷ signed_decimal b.0.1 ∷ [] = n.1 ∙ ap (λ (k : ℕ). codes "tickets" ∷ decimal k ∷ signed_decimal b.0.1 ∷ []) (sym count) in
-    let text : a.0.1.rest ≡ text_of (map ticket_row c.0.0) ++ c.0.1.rest = i.text ∙ ap (λ (rows : List Row). text_of rows ++ c.0.1.rest) (single_rows ticket_row i.more ∙ ap (map ticket_row) i.all) in
+    let text : a.0.1.rest ≡ text_of (map ticket_row c.0.0) ++ c.0.1.rest = i.text ∙ ap (λ (rows : List FieldRow). text_of rows ++ c.0.1.rest) (single_rows ticket_row i.more ∙ ap (map ticket_row) i.all) in
     subst (λ (y : Claimed × Place). Took (IsClaim y.0) p.rest (claim_rows y.0) y.1.rest) e
     (claim, behind_row p a.0 (codes "tickets") (decimal (length c.0.0) ∷ signed_decimal b.0.1 ∷ []) (map ticket_row c.0.0) c.0.1.rest a.1.0 head text)

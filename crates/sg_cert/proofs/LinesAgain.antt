@@ -8,7 +8,7 @@ use Rattle.std.proofs.lemmas.Bool.Decides.{nat_tests}
 use Rattle.std.proofs.lemmas.Int.{ints}
 use Rattle.sg_model.specs.declared.level.Level.TheVariants.{Resources, Target}
 use Rattle.sg_model.specs.declared.ticket.Ticket.{Ticket}
-use Rattle.sg_num.specs.Exact.{fits}
+use Rattle.sg_num.specs.Exact.{fits, Fits}
 use Rattle.sg_frac.specs.Fractions.{Fraction}
 use Rattle.sg_num.specs.declared.step.Op.{Op}
 use Rattle.sg_num.specs.declared.step.Op.TheVariants.{Sum, Less, Times}
@@ -22,9 +22,9 @@ use Rattle.sg_tree.specs.declared.report.Cause.TheVariants as causes
 use Rattle.sg_tree.specs.declared.report.Ending.{Ending}
 use Rattle.sg_tree.specs.declared.report.Ending.TheVariants.{Optimal, Gap}
 use Rattle.sg_cert.specs.Fields.{fields, is_natural, is_number_text, words_of, spelled_of, shaped_if, shaped_as, shaped_to, count_follows}
-use Rattle.sg_cert.specs.LineReading.{lowest, highest, fraction_next, fraction_of, counts_of, follows, ticket_of, mark_of, row_of, header_of, spent_of, target_of, water_of, plain_of, proved_of, cap_of, split_of, fix_of, nodes_of, pivots_of, looks_head_of, looks_of, wide_head_of, wide_as, wide_of, cause_of, optimal_of, gap_of, verdict_of}
-use Rattle.sg_cert.specs.Text.{Row, fraction_row, ticket_row, mark_row, line_row, split_row, fix_fields, op_word, cause_fields, verdict_row}
-use Rattle.sg_cert.specs.Ranges.{IsFrom, Fits, IsFraction, IsTicket, IsMark, IsRow, IsHeader, IsFix, IsCause, IsEnding}
+use Rattle.sg_cert.specs.LineReading.{lowest, highest, fraction_next, fraction_of, counts_of, follows, ticket_of, mark_of, multiplier_of, header_of, spent_of, target_of, water_of, plain_of, proved_of, cap_head_of, split_of, fix_of, nodes_of, pivots_of, looks_head_of, looks_of, wide_head_of, wide_as, wide_of, cause_of, optimal_of, gap_of, verdict_of}
+use Rattle.sg_cert.specs.Text.{FieldRow, fraction_row, ticket_row, mark_row, line_row, split_row, fix_fields, op_word, cause_fields, verdict_row}
+use Rattle.sg_cert.specs.Ranges.{IsFrom, IsFraction, IsTicket, IsMark, IsRangedLine, IsHeader, IsRangedFix, IsCause, IsEnding}
 use Rattle.sg_cert.proofs.Cut.{both}
 use Rattle.sg_cert.proofs.Common.{shares_from_reduced}
 use Rattle.sg_cert.proofs.Numbers.{natural_spelled, whole_spelled, natural_next_again, whole_next_again, numbers_again, numbers_spelled, decimal_spells, spells_natural}
@@ -43,7 +43,7 @@ decimals_length (x ∷ xs) = ap (λ (n : ℕ). suc n) (decimals_length xs)
 
 -- ---- shapes
 
-pub spelled_all : (fs : Row) → list_all is_number_text fs ≡ true → spelled_of [] fs ≡ true
+pub spelled_all : (fs : FieldRow) → list_all is_number_text fs ≡ true → spelled_of [] fs ≡ true
 unfolding spelled_of
 spelled_all [] h = refl
 spelled_all (f ∷ fs) h = let t = both (is_number_text f) (list_all is_number_text fs) h in rw (t.0) (spelled_all fs t.1)
@@ -55,7 +55,7 @@ pub record IsWord (w : List ℕ) : Type 0 where
   pub no_place : bytes_eq w (codes "#") ≡ false
 
 -- one fixed word and then numbers
-pub shaped_again : (word : List ℕ) (low high : ℕ) (fs : Row) → IsWord word → list_all is_number_text fs ≡ true → low ≤ length fs + 1 → length fs + 1 ≤ high → shaped_as word low high (word ∷ fs) ≡ Ok tt
+pub shaped_again : (word : List ℕ) (low high : ℕ) (fs : FieldRow) → IsWord word → list_all is_number_text fs ≡ true → low ≤ length fs + 1 → length fs + 1 ≤ high → shaped_as word low high (word ∷ fs) ≡ Ok tt
 unfolding shaped_if words_of spelled_of
 shaped_again word low high fs w numbers from to =
     let a : nat_le low (suc (length fs)) ≡ true = grind (arith, nat_tests) in
@@ -64,7 +64,7 @@ shaped_again word low high fs w numbers from to =
 
 -- ---- fractions and numbers
 
-pub fraction_next_again : (f : Fraction) (fs : Row) → IsFraction f → fraction_next (signed_decimal f.num ∷ signed_decimal f.den ∷ fs) ≡ Ok (f, fs)
+pub fraction_next_again : (f : Fraction) (fs : FieldRow) → IsFraction f → fraction_next (signed_decimal f.num ∷ signed_decimal f.den ∷ fs) ≡ Ok (f, fs)
 unfolding fraction_next
 fraction_next_again f fs h = rw (
   whole_next_again lowest highest f.num (signed_decimal f.den ∷ fs) h.num (fits_low f.num h.num) (fits_high f.num h.num),
@@ -135,8 +135,8 @@ mark_again before m h =
 word_c : IsWord (codes "c")
 word_c = record { one = refl; same = refl; no_place = refl }
 
-pub row_again : (before : Option Line) (c : Line) → IsRow before c → row_of before (line_row c) ≡ Ok c
-unfolding row_of
+pub row_again : (before : Option Line) (c : Line) → IsRangedLine before c → multiplier_of before (line_row c) ≡ Ok c
+unfolding multiplier_of
 row_again before c h =
     let numbers : list_all is_number_text (decimal c.row ∷ signed_decimal c.v ∷ []) ≡ true = rw (natural_spelled c.row (omega (arith, h.row)), whole_spelled c.v h.v.1) refl in
     rw (
@@ -189,7 +189,7 @@ plain_shape : (x y : List ℕ) → is_number_text x ≡ true → is_number_text 
 unfolding shaped_if words_of spelled_of
 plain_shape x y h k = rw (h, k) refl
 
-pub plain_again : (l : ℕ) (v : ℤ) → IsFrom 1 8 l → (negsuc (2 ^ 63 - 1) ≤ℤ v) × (v ≤ℤ pos (2 ^ 63 - 1)) → cap_of (codes "cap" ∷ decimal l ∷ codes "plain" ∷ signed_decimal v ∷ []) ≡ Ok (l, v, 0)
+pub plain_again : (l : ℕ) (v : ℤ) → IsFrom 1 8 l → (negsuc (2 ^ 63 - 1) ≤ℤ v) × (v ≤ℤ pos (2 ^ 63 - 1)) → cap_head_of (codes "cap" ∷ decimal l ∷ codes "plain" ∷ signed_decimal v ∷ []) ≡ Ok (l, v, 0)
 unfolding plain_of
 plain_again l v h k =
     let f = bound_fits v k in
@@ -203,7 +203,7 @@ proved_shape : (x y z : List ℕ) → is_number_text x ≡ true → is_number_te
 unfolding shaped_if words_of spelled_of
 proved_shape x y z h k l = rw (h, k, l) refl
 
-pub proved_again : (l n : ℕ) (v : ℤ) → IsFrom 1 8 l → (negsuc (2 ^ 63 - 1) ≤ℤ v) × (v ≤ℤ pos (2 ^ 63 - 1)) → IsFrom 1 65535 n → cap_of (codes "cap" ∷ decimal l ∷ codes "proved" ∷ signed_decimal v ∷ decimal n ∷ []) ≡ Ok (l, v, n)
+pub proved_again : (l n : ℕ) (v : ℤ) → IsFrom 1 8 l → (negsuc (2 ^ 63 - 1) ≤ℤ v) × (v ≤ℤ pos (2 ^ 63 - 1)) → IsFrom 1 65535 n → cap_head_of (codes "cap" ∷ decimal l ∷ codes "proved" ∷ signed_decimal v ∷ decimal n ∷ []) ≡ Ok (l, v, n)
 unfolding proved_of
 proved_again l n v h k c =
     let f = bound_fits v k in
@@ -233,7 +233,7 @@ pub acts_from : (xs : List ℕ) → AllByRecursion (λ a. IsFrom 1 65535 a) xs �
 acts_from [] h = tt
 acts_from (x ∷ xs) h = (h.0.1, acts_from xs h.1)
 
-pub fix_again : (f : Fix) → IsFix f → fix_of (fix_fields f) ≡ Ok f
+pub fix_again : (f : Fix) → IsRangedFix f → fix_of (fix_fields f) ≡ Ok f
 unfolding fix_of
 fix_again f h = rw (
   natural_next_again 1 8 f.first (decimal (length f.acts) ∷ map decimal f.acts) (omega (arith, h.first)) h.first.0 h.first.1,
@@ -253,17 +253,17 @@ nodes_shape : (x : List ℕ) → is_number_text x ≡ true → shaped_as (codes 
 unfolding shaped_if words_of spelled_of
 nodes_shape x h = rw h refl
 
-tail_numbers : (f : Fix) → IsFix f → list_all is_number_text (fix_fields f) ≡ true
+tail_numbers : (f : Fix) → IsRangedFix f → list_all is_number_text (fix_fields f) ≡ true
 tail_numbers f h = rw (natural_spelled f.first (omega (arith, h.first)), natural_spelled (length f.acts) (omega (arith, h.count))) (numbers_spelled f.acts (acts_from f.acts h.acts))
 
-pivots_shape : (x : List ℕ) (f : Fix) → is_number_text x ≡ true → IsFix f → shaped_to (codes "verdict gap pivots") 5 (codes "verdict" ∷ codes "gap" ∷ codes "pivots" ∷ x ∷ fix_fields f) ≡ Ok tt
+pivots_shape : (x : List ℕ) (f : Fix) → is_number_text x ≡ true → IsRangedFix f → shaped_to (codes "verdict gap pivots") 5 (codes "verdict" ∷ codes "gap" ∷ codes "pivots" ∷ x ∷ fix_fields f) ≡ Ok tt
 unfolding shaped_if words_of spelled_of
 pivots_shape x f h k =
     let c : count_follows 5 (length (codes "verdict" ∷ codes "gap" ∷ codes "pivots" ∷ x ∷ fix_fields f)) (Some (decimal (length f.acts))) ≡ true =
     counted 5 _ (length f.acts) (omega (arith, k.count)) (omega (arith, decimals_length f.acts)) in
     rw (c, h, spelled_all (fix_fields f) (tail_numbers f k)) refl
 
-looks_shape : (x y : List ℕ) (f : Fix) → is_number_text x ≡ true → is_number_text y ≡ true → IsFix f → shaped_to (codes "verdict gap looks") 6 (codes "verdict" ∷ codes "gap" ∷ codes "looks" ∷ x ∷ y ∷ fix_fields f) ≡ Ok tt
+looks_shape : (x y : List ℕ) (f : Fix) → is_number_text x ≡ true → is_number_text y ≡ true → IsRangedFix f → shaped_to (codes "verdict gap looks") 6 (codes "verdict" ∷ codes "gap" ∷ codes "looks" ∷ x ∷ y ∷ fix_fields f) ≡ Ok tt
 unfolding shaped_if words_of spelled_of
 looks_shape x y f h l k =
     let c : count_follows 6 (length (codes "verdict" ∷ codes "gap" ∷ codes "looks" ∷ x ∷ y ∷ fix_fields f)) (Some (decimal (length f.acts))) ≡ true =
@@ -274,11 +274,11 @@ nodes_again : (n : ℕ) → IsFrom 1 (2 ^ 64 - 1) n → nodes_of (codes "verdict
 unfolding nodes_of
 nodes_again n h = rw (nodes_shape (decimal n) (natural_spelled n (omega (arith, h))), natural_next_again 1 (2 ^ 64 - 1) n [] (omega (arith, h)) h.0 h.1) refl
 
-pivots_again : (n : ℕ) (fix : Fix) → IsFrom 1 (2 ^ 64 - 1) n → IsFix fix → pivots_of (codes "verdict" ∷ codes "gap" ∷ codes "pivots" ∷ decimal n ∷ fix_fields fix) ≡ Ok (causes.Pivots n fix)
+pivots_again : (n : ℕ) (fix : Fix) → IsFrom 1 (2 ^ 64 - 1) n → IsRangedFix fix → pivots_of (codes "verdict" ∷ codes "gap" ∷ codes "pivots" ∷ decimal n ∷ fix_fields fix) ≡ Ok (causes.Pivots n fix)
 unfolding pivots_of
 pivots_again n fix h k = rw (pivots_shape (decimal n) fix (natural_spelled n (omega (arith, h))) k, natural_next_again 1 (2 ^ 64 - 1) n (fix_fields fix) (omega (arith, h)) h.0 h.1, fix_again fix k) refl
 
-looks_again : (n step : ℕ) (fix : Fix) → IsFrom 1 (2 ^ 64 - 1) n → IsFrom 0 (2 ^ 64 - 1) step → IsFix fix → looks_of (codes "verdict" ∷ codes "gap" ∷ codes "looks" ∷ decimal n ∷ decimal step ∷ fix_fields fix) ≡ Ok (causes.Looks n step fix)
+looks_again : (n step : ℕ) (fix : Fix) → IsFrom 1 (2 ^ 64 - 1) n → IsFrom 0 (2 ^ 64 - 1) step → IsRangedFix fix → looks_of (codes "verdict" ∷ codes "gap" ∷ codes "looks" ∷ decimal n ∷ decimal step ∷ fix_fields fix) ≡ Ok (causes.Looks n step fix)
 unfolding looks_of looks_head_of
 looks_again n step fix h l k = rw (
   looks_shape (decimal n) (decimal step) fix (natural_spelled n (omega (arith, h))) (natural_spelled step (omega (arith, l))) k,
@@ -287,10 +287,10 @@ looks_again n step fix h l k = rw (
   fix_again fix k,
 ) refl
 
-abbrev wide_fields : ℕ → Wide → ℕ → Fix → Row
+abbrev wide_fields : ℕ → Wide → ℕ → Fix → FieldRow
 wide_fields name wide step fix = codes "verdict" ∷ codes "gap" ∷ codes "wide" ∷ decimal name ∷ op_word wide.op ∷ signed_decimal wide.left ∷ signed_decimal wide.right ∷ decimal step ∷ fix_fields fix
 
-sum_shape : (name x y step : List ℕ) (f : Fix) → is_number_text name ≡ true → is_number_text x ≡ true → is_number_text y ≡ true → is_number_text step ≡ true → IsFix f
+sum_shape : (name x y step : List ℕ) (f : Fix) → is_number_text name ≡ true → is_number_text x ≡ true → is_number_text y ≡ true → is_number_text step ≡ true → IsRangedFix f
     → shaped_to (codes "verdict gap wide # sum") 9 (codes "verdict" ∷ codes "gap" ∷ codes "wide" ∷ name ∷ codes "sum" ∷ x ∷ y ∷ step ∷ fix_fields f) ≡ Ok tt
 unfolding shaped_if words_of spelled_of
 sum_shape name x y step f a b d e k =
@@ -298,7 +298,7 @@ sum_shape name x y step f a b d e k =
     counted 9 _ (length f.acts) (omega (arith, k.count)) (omega (arith, decimals_length f.acts)) in
     rw (c, a, b, d, e, spelled_all (fix_fields f) (tail_numbers f k)) refl
 
-less_shape : (name x y step : List ℕ) (f : Fix) → is_number_text name ≡ true → is_number_text x ≡ true → is_number_text y ≡ true → is_number_text step ≡ true → IsFix f
+less_shape : (name x y step : List ℕ) (f : Fix) → is_number_text name ≡ true → is_number_text x ≡ true → is_number_text y ≡ true → is_number_text step ≡ true → IsRangedFix f
     → shaped_to (codes "verdict gap wide # less") 9 (codes "verdict" ∷ codes "gap" ∷ codes "wide" ∷ name ∷ codes "less" ∷ x ∷ y ∷ step ∷ fix_fields f) ≡ Ok tt
 unfolding shaped_if words_of spelled_of
 less_shape name x y step f a b d e k =
@@ -306,7 +306,7 @@ less_shape name x y step f a b d e k =
     counted 9 _ (length f.acts) (omega (arith, k.count)) (omega (arith, decimals_length f.acts)) in
     rw (c, a, b, d, e, spelled_all (fix_fields f) (tail_numbers f k)) refl
 
-times_shape : (name x y step : List ℕ) (f : Fix) → is_number_text name ≡ true → is_number_text x ≡ true → is_number_text y ≡ true → is_number_text step ≡ true → IsFix f
+times_shape : (name x y step : List ℕ) (f : Fix) → is_number_text name ≡ true → is_number_text x ≡ true → is_number_text y ≡ true → is_number_text step ≡ true → IsRangedFix f
     → shaped_to (codes "verdict gap wide # times") 9 (codes "verdict" ∷ codes "gap" ∷ codes "wide" ∷ name ∷ codes "times" ∷ x ∷ y ∷ step ∷ fix_fields f) ≡ Ok tt
 unfolding shaped_if words_of spelled_of
 times_shape name x y step f a b d e k =
@@ -314,7 +314,7 @@ times_shape name x y step f a b d e k =
     counted 9 _ (length f.acts) (omega (arith, k.count)) (omega (arith, decimals_length f.acts)) in
     rw (c, a, b, d, e, spelled_all (fix_fields f) (tail_numbers f k)) refl
 
-wide_as_again : (op : Op) (words : List ℕ) (name step : ℕ) (left right : ℤ) (fix : Fix) → IsFrom 1 7 name → Fits left → Fits right → IsFrom 0 (2 ^ 64 - 1) step → IsFix fix
+wide_as_again : (op : Op) (words : List ℕ) (name step : ℕ) (left right : ℤ) (fix : Fix) → IsFrom 1 7 name → Fits left → Fits right → IsFrom 0 (2 ^ 64 - 1) step → IsRangedFix fix
     → shaped_to words 9 (wide_fields name (record { op = op; left = left; right = right }) step fix) ≡ Ok tt
     → wide_as op words (wide_fields name (record { op = op; left = left; right = right }) step fix) ≡ Ok (causes.Wide name (record { op = op; left = left; right = right }) step fix)
 unfolding wide_as wide_head_of
@@ -327,7 +327,7 @@ wide_as_again op words name step left right fix a b c d k shape = rw (
   fix_again fix k,
 ) refl
 
-wide_again : (op : Op) (name step : ℕ) (left right : ℤ) (fix : Fix) → IsFrom 1 7 name → Fits left → Fits right → IsFrom 0 (2 ^ 64 - 1) step → IsFix fix
+wide_again : (op : Op) (name step : ℕ) (left right : ℤ) (fix : Fix) → IsFrom 1 7 name → Fits left → Fits right → IsFrom 0 (2 ^ 64 - 1) step → IsRangedFix fix
     → wide_of (wide_fields name (record { op = op; left = left; right = right }) step fix) ≡ Ok (causes.Wide name (record { op = op; left = left; right = right }) step fix)
 wide_again Sum name step left right fix a b c d k =
     wide_as_again Sum (codes "verdict gap wide # sum") name step left right fix a b c d k

@@ -14,7 +14,8 @@ use Rattle.std.proofs.lemmas.Int.Digits.{digits_value_push}
 use Rattle.std.proofs.lemmas.List.{append-nil, length-append, take_more, take_all, length-take, get_or-take}
 use Rattle.std.proofs.lemmas.Str.{digit_value_digit}
 use Rattle.sg_num.specs.Exact.{fits}
-use Rattle.sg_cert.specs.Fields.{is_digit, is_natural, is_number_text, value_of, fitting, natural_of, natural_next, whole_of, whole_next, numbers_of, ◌>>=◌}
+use Rattle.sg_cert.specs.Fields.{is_digit, is_natural, is_number_text, value_of, fitting, natural_of, natural_next, whole_of, whole_next, numbers_of}
+use Rattle.sg_model.specs.Steps.{◌>>=◌}
 use Rattle.sg_cert.proofs.Cut.{both, is_digit_byte, natural_digits}
 
 -- the digits of a number

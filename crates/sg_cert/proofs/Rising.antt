@@ -5,14 +5,14 @@ use Rattle.std.specs.Option.{option_map}
 use Rattle.std.specs.Prelude.{slice_get}
 use Rattle.std.proofs.lemmas.Bool.Decides.{nat_tests}
 use Rattle.sg_model.specs.declared.ticket.Ticket.{Ticket}
-use Rattle.sg_tree.specs.Claims.{comes_before, is_rising, are_positive, is_claim}
+use Rattle.sg_tree.specs.Claims.{comes_before, is_claim_rising, are_positive, is_claim}
 use Rattle.sg_cert.specs.LineReading.{follows}
 use Rattle.sg_cert.specs.Reading.{last, last_play}
 use Rattle.sg_cert.proofs.Cut.{both}
 
 -- positive and rising, also where there is none yet
 abbrev pub rises : List Ticket → Bool
-rises ts = are_positive ts && is_rising ts
+rises ts = are_positive ts && is_claim_rising ts
 
 some_items : {A : Type 0} (xs : List A) → (suc (length xs) == 0) ≡ false
 some_items xs = grind (arith, nat_tests)
@@ -36,11 +36,11 @@ positive_push : (ts : List Ticket) (t : Ticket) → are_positive ts ≡ true →
 positive_push [] t h e = rw e refl
 positive_push (u ∷ us) t h e = let k = both (int_le (pos 1) u.weight) (are_positive us) h in rw (k.0) (positive_push us t k.1 e)
 
-rising_push : (ts : List Ticket) (t : Ticket) → is_rising ts ≡ true → follows (last_play ts) t.play.code ≡ true → is_rising (ts ++ t ∷ []) ≡ true
+rising_push : (ts : List Ticket) (t : Ticket) → is_claim_rising ts ≡ true → follows (last_play ts) t.play.code ≡ true → is_claim_rising (ts ++ t ∷ []) ≡ true
 rising_push [] t h e = refl
 rising_push (u ∷ []) t h e = rw e refl
 rising_push (u ∷ v ∷ vs) t h e =
-    let k = both (comes_before u.play.code v.play.code) (is_rising (v ∷ vs)) h in
+    let k = both (comes_before u.play.code v.play.code) (is_claim_rising (v ∷ vs)) h in
     let f : follows (last_play (v ∷ vs)) t.play.code ≡ true = ap (λ (l : Option Ticket). follows (option_map (λ (w : Ticket). w.play.code) l) t.play.code) (sym (last_more u v vs)) ∙ e in
     rw (k.0) (rising_push (v ∷ vs) t k.1 f)
 
@@ -49,8 +49,8 @@ both_true a b e f = rw (e, f) refl
 
 pub rises_push : (ts : List Ticket) (t : Ticket) → rises ts ≡ true → int_le (pos 1) t.weight ≡ true → follows (last_play ts) t.play.code ≡ true → rises (ts ++ t ∷ []) ≡ true
 rises_push ts t h e f =
-    let k = both (are_positive ts) (is_rising ts) h in
-    both_true (are_positive (ts ++ t ∷ [])) (is_rising (ts ++ t ∷ [])) (positive_push ts t k.0 e) (rising_push ts t k.1 f)
+    let k = both (are_positive ts) (is_claim_rising ts) h in
+    both_true (are_positive (ts ++ t ∷ [])) (is_claim_rising (ts ++ t ∷ [])) (positive_push ts t k.0 e) (rising_push ts t k.1 f)
 
 pub rises_push_at : (slice ts : List Ticket) (t : Ticket) → slice ≡ ts → rises ts ≡ true → (int_le (pos 1) t.weight ≡ true) × (follows (last_play slice) t.play.code ≡ true) → rises (ts ++ t ∷ []) ≡ true
 rises_push_at slice ts t e h k = rises_push ts t h k.0 (rw e at k.1)

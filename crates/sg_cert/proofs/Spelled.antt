@@ -14,7 +14,7 @@ use Rattle.sg_num.specs.Exact.{fits}
 use Rattle.sg_cert.specs.Place.{Place}
 use Rattle.sg_cert.specs.Fields.{fields, split_once, is_digit}
 use Rattle.sg_cert.specs.Lines.{line_at, line_cut, next_line}
-use Rattle.sg_cert.specs.Text.{Row, spell, spaced}
+use Rattle.sg_cert.specs.Text.{FieldRow, spell, spaced}
 use Rattle.sg_cert.proofs.Cut.{both, is_digit_byte}
 use Rattle.sg_cert.proofs.Numbers.{decimal_spells}
 
@@ -65,20 +65,20 @@ decimals_plain (x ∷ xs) h = rw (decimal_plain x (omega (arith, h.0))) (decimal
 
 -- ---- fields
 
-pub fields_again : (f : List ℕ) (fs : Row) → list_all is_plain (f ∷ fs) ≡ true → fields (join_with_byte 32 (f ∷ fs)) ≡ f ∷ fs
+pub fields_again : (f : List ℕ) (fs : FieldRow) → list_all is_plain (f ∷ fs) ≡ true → fields (join_with_byte 32 (f ∷ fs)) ≡ f ∷ fs
 fields_again f [] h = slice_split_none (λ b. b == 32) f (lacks_all 32 f (both (lacks 32 f) (lacks 10 f) (both (is_plain f) true h).0).0)
 fields_again f (g ∷ fs) h =
     let t = both (is_plain f) (list_all is_plain (g ∷ fs)) h in
     slice_split_at (λ b. b == 32) f 32 (join_with_byte 32 (g ∷ fs)) (lacks_all 32 f (both (lacks 32 f) (lacks 10 f) t.0).0) refl
-    ∙ ap (λ (r : Row). f ∷ r) (fields_again g fs t.1)
+    ∙ ap (λ (r : FieldRow). f ∷ r) (fields_again g fs t.1)
 
-join_lacks : (f : List ℕ) (fs : Row) → list_all is_plain (f ∷ fs) ≡ true → lacks 10 (join_with_byte 32 (f ∷ fs)) ≡ true
+join_lacks : (f : List ℕ) (fs : FieldRow) → list_all is_plain (f ∷ fs) ≡ true → lacks 10 (join_with_byte 32 (f ∷ fs)) ≡ true
 join_lacks f [] h = (both (lacks 32 f) (lacks 10 f) (both (is_plain f) true h).0).1
 join_lacks f (g ∷ fs) h =
     let t = both (is_plain f) (list_all is_plain (g ∷ fs)) h in
     lacks_append 10 f (32 ∷ join_with_byte 32 (g ∷ fs)) (both (lacks 32 f) (lacks 10 f) t.0).1 (join_lacks g fs t.1)
 
-pub spell_join : (f : List ℕ) (fs : Row) → spell (f ∷ fs) ≡ join_with_byte 32 (f ∷ fs) ++ 10 ∷ []
+pub spell_join : (f : List ℕ) (fs : FieldRow) → spell (f ∷ fs) ≡ join_with_byte 32 (f ∷ fs) ++ 10 ∷ []
 spell_join f [] = refl
 spell_join f (g ∷ fs) =
     ap (λ (t : List ℕ). f ++ t) (ap (λ (t : List ℕ). 32 ∷ t) (append_assoc g (spaced fs) (10 ∷ []) ∙ spell_join g fs))
@@ -100,16 +100,16 @@ cut_again b xs ys h =
 abbrev pub place : List ℕ → ℕ → Place
 place rest line = record { rest = rest; line = line }
 
-row_cut : (f : List ℕ) (fs : Row) (more : List ℕ) → list_all is_plain (f ∷ fs) ≡ true → split_once 10 (spell (f ∷ fs) ++ more) ≡ Some (join_with_byte 32 (f ∷ fs), more)
+row_cut : (f : List ℕ) (fs : FieldRow) (more : List ℕ) → list_all is_plain (f ∷ fs) ≡ true → split_once 10 (spell (f ∷ fs) ++ more) ≡ Some (join_with_byte 32 (f ∷ fs), more)
 row_cut f fs more h =
     ap (λ (t : List ℕ). split_once 10 (t ++ more)) (spell_join f fs) ∙ ap (split_once 10) (append_assoc (join_with_byte 32 (f ∷ fs)) (10 ∷ []) more)
     ∙ cut_again 10 (join_with_byte 32 (f ∷ fs)) more (lacks_all 10 (join_with_byte 32 (f ∷ fs)) (join_lacks f fs h))
 
 -- a line that was spelled is read again
-pub line_again : (f : List ℕ) (fs : Row) (more : List ℕ) (line : ℕ) → list_all is_plain (f ∷ fs) ≡ true
+pub line_again : (f : List ℕ) (fs : FieldRow) (more : List ℕ) (line : ℕ) → list_all is_plain (f ∷ fs) ≡ true
     → line_at (place (spell (f ∷ fs) ++ more) line) ≡ Ok (join_with_byte 32 (f ∷ fs), place more (line + 1))
 unfolding line_at
 line_again f fs more line h = ap (line_cut (line + 1)) (row_cut f fs more h)
 
-pub next_again : (f : List ℕ) (fs : Row) (more : List ℕ) (line : ℕ) → list_all is_plain (f ∷ fs) ≡ true → next_line (place (spell (f ∷ fs) ++ more) line) ≡ Some (join_with_byte 32 (f ∷ fs))
+pub next_again : (f : List ℕ) (fs : FieldRow) (more : List ℕ) (line : ℕ) → list_all is_plain (f ∷ fs) ≡ true → next_line (place (spell (f ∷ fs) ++ more) line) ≡ Some (join_with_byte 32 (f ∷ fs))
 next_again f fs more line h = rw (row_cut f fs more h) refl

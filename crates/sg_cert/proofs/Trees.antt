@@ -8,21 +8,21 @@ use Rattle.sg_tree.specs.declared.tree.Tree.TheVariants.{Unproved, Closed, Split
 use Rattle.sg_tree.specs.declared.tree.Tree.TheOpen.{Tree-F}
 use Rattle.sg_tree.specs.declared.tree.Tree.TheViews.{out-Tree, roll-Tree, the_lemmas}
 use Rattle.sg_tree.specs.declared.tree.Tree.TheFolds.{fold-roll-Tree, ind-Tree}
-use Rattle.sg_cert.specs.Text.{Row, fact_rows, base_rows, node_step, node_rows, split_row}
+use Rattle.sg_cert.specs.Text.{FieldRow, fact_rows, base_rows, rows_of_node, node_rows, split_row}
 
-flat_rows : (ts : List Tree) → flat_map (λ (rows : List Row). rows) (map node_rows ts) ≡ flat_map node_rows ts
+flat_rows : (ts : List Tree) → flat_map (λ (rows : List FieldRow). rows) (map node_rows ts) ≡ flat_map node_rows ts
 flat_rows [] = refl
-flat_rows (t ∷ ts) = ap (λ (rows : List Row). node_rows t ++ rows) (flat_rows ts)
+flat_rows (t ∷ ts) = ap (λ (rows : List FieldRow). node_rows t ++ rows) (flat_rows ts)
 
 -- the equations of node_rows
 pub rows_split : (l : ℕ) (base : Option Fact) (parts : List Tree) → node_rows (Split l base parts) ≡ (split_row l (length parts) ∷ base_rows base) ++ flat_map node_rows parts
-rows_split l base parts = ap node_rows (sym (rolls-Split l base parts)) ∙ fold-roll-Tree (List Row) node_step (Tree-F.Split l base parts) ∙ rw length-map (ap (λ (rows : List Row). (split_row l (length parts) ∷ base_rows base) ++ rows) (flat_rows parts))
+rows_split l base parts = ap node_rows (sym (rolls-Split l base parts)) ∙ fold-roll-Tree (List FieldRow) rows_of_node (Tree-F.Split l base parts) ∙ rw length-map (ap (λ (rows : List FieldRow). (split_row l (length parts) ∷ base_rows base) ++ rows) (flat_rows parts))
 
 pub rows_open : node_rows Unproved ≡ base_rows None
-rows_open = ap node_rows (sym rolls-Unproved) ∙ fold-roll-Tree (List Row) node_step Tree-F.Unproved
+rows_open = ap node_rows (sym rolls-Unproved) ∙ fold-roll-Tree (List FieldRow) rows_of_node Tree-F.Unproved
 
 pub rows_closed : (f : Fact) → node_rows (Closed f) ≡ fact_rows f
-rows_closed f = ap node_rows (sym (rolls-Closed f)) ∙ fold-roll-Tree (List Row) node_step (Tree-F.Closed f)
+rows_closed f = ap node_rows (sym (rolls-Closed f)) ∙ fold-roll-Tree (List FieldRow) rows_of_node (Tree-F.Closed f)
 
 -- a tree is one of the three
 pub tree_cases : (P : Tree → Type 0) → P Unproved → ((f : Fact) → P (Closed f)) → ((l : ℕ) (base : Option Fact) (parts : List Tree) → P (Split l base parts)) → (t : Tree) → P t

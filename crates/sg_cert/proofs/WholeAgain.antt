@@ -17,12 +17,13 @@ use Rattle.sg_tree.specs.declared.report.Cause.{Cause}
 use Rattle.sg_tree.specs.declared.report.Cause.TheVariants as causes
 use Rattle.sg_tree.specs.declared.report.Ending.TheVariants.{Optimal, Gap}
 use Rattle.sg_cert.specs.Place.{Place}
-use Rattle.sg_cert.specs.Fields.{fields, has_word, words_of, spelled_of, shaped_if, ◌>>=◌}
+use Rattle.sg_cert.specs.Fields.{fields, has_word, words_of, spelled_of, shaped_if}
+use Rattle.sg_model.specs.Steps.{◌>>=◌}
 use Rattle.sg_cert.specs.Lines.{at_line, next_line}
 use Rattle.sg_cert.specs.LineReading.{fraction_of, verdict_of}
 use Rattle.sg_cert.specs.Reading.{Read, fact_from, line_begins, open_from, closed_from, base_from, base_at, leaf_of, leaf_from, split_from, node_at, fraction_at, verdict_at, word_line_at, first_at, head_at, proof_at, end_of, tail_of, report_of}
-use Rattle.sg_cert.specs.Text.{Row, spell, text_of, fraction_row, claim_rows, cap_rows, base_rows, split_row, node_rows, fix_fields, op_word, cause_fields, verdict_row, head_rows, tail_rows, report_text}
-use Rattle.sg_cert.specs.Ranges.{IsFrom, IsFraction, IsBase, IsLayer, IsNode, IsFix, IsCause, IsEnding, IsReport}
+use Rattle.sg_cert.specs.Text.{FieldRow, spell, text_of, fraction_row, claim_rows, cap_rows, base_rows, split_row, node_rows, fix_fields, op_word, cause_fields, verdict_row, head_rows, tail_rows, report_text}
+use Rattle.sg_cert.specs.Ranges.{IsFrom, IsFraction, IsRangedBase, IsLayer, IsRangedNode, IsRangedFix, IsCause, IsEnding, IsReport}
 use Rattle.sg_cert.proofs.Rows.{text_then}
 use Rattle.sg_cert.proofs.LinesAgain.{acts_from, IsWord, fraction_again, split_line_again, verdict_again}
 use Rattle.sg_cert.proofs.Spelled.{is_plain, decimal_plain, signed_plain, decimals_plain, fields_again, place, line_again}
@@ -36,55 +37,55 @@ open_back : BackFrom base_from (codes "open" ∷ []) [] None
 unfolding open_from shaped_if words_of spelled_of
 open_back more line = ap (λ (n : ℕ). Ok (None, place more n)) (sym (add-zero line))
 
-closed_back : (f : Fact) (w : List ℕ) (fs : Row) (rows : List Row) → has_word 0 (codes "open") (w ∷ fs) ≡ false → BackFrom fact_from (w ∷ fs) rows f → BackFrom base_from (w ∷ fs) rows (Some f)
+closed_back : (f : Fact) (w : List ℕ) (fs : FieldRow) (rows : List FieldRow) → has_word 0 (codes "open") (w ∷ fs) ≡ false → BackFrom fact_from (w ∷ fs) rows f → BackFrom base_from (w ∷ fs) rows (Some f)
 unfolding closed_from
 closed_back f w fs rows other back more line = rw (other, back more line) refl
 
 -- a base by cases
 record BaseBack (b : Option Fact) : Type 0 where
   word : List ℕ
-  fs : Row
-  rows : List Row
+  fs : FieldRow
+  rows : List FieldRow
   all : base_rows b ≡ (word ∷ fs) ∷ rows
   plain : list_all is_plain (word ∷ fs) ≡ true
   not_split : has_word 0 (codes "split") (word ∷ fs) ≡ false
   not_cap : has_word 0 (codes "cap") (word ∷ fs) ≡ false
   back : BackFrom base_from (word ∷ fs) rows b
 
-base_back : (b : Option Fact) → IsBase b → BaseBack b
+base_back : (b : Option Fact) → IsRangedBase b → BaseBack b
 base_back None h = record { word = codes "open"; fs = []; rows = []; all = refl; plain = refl; not_split = refl; not_cap = refl; back = open_back }
 base_back (Some f) h =
     let b = fact_back f h in
     record { word = b.word; fs = b.fs; rows = b.rows; all = b.all; plain = b.plain; not_split = b.not_split; not_cap = b.not_cap; back = closed_back f b.word b.fs b.rows b.not_open b.back }
 
-base_again : (b : Option Fact) → IsBase b → Back base_at (base_rows b) b
+base_again : (b : Option Fact) → IsRangedBase b → Back base_at (base_rows b) b
 unfolding base_at
 base_again b h =
     let k = base_back b h in
-    subst (λ (rows : List Row). Back base_at rows b) (sym k.all) (at_from base_at base_from k.word k.fs k.rows b (λ p. refl) k.plain k.back)
+    subst (λ (rows : List FieldRow). Back base_at rows b) (sym k.all) (at_from base_at base_from k.word k.fs k.rows b (λ p. refl) k.plain k.back)
 
-leaf_back : (b : Option Fact) (w : List ℕ) (fs : Row) (rows : List Row) → BackFrom base_from (w ∷ fs) rows b → BackFrom leaf_from (w ∷ fs) rows (leaf_of b)
+leaf_back : (b : Option Fact) (w : List ℕ) (fs : FieldRow) (rows : List FieldRow) → BackFrom base_from (w ∷ fs) rows b → BackFrom leaf_from (w ∷ fs) rows (leaf_of b)
 unfolding leaf_from
 leaf_back b w fs rows back more line = rw (back more line) refl
 
-text_front : (w : List ℕ) (fs : Row) (rows : List Row) (more : List ℕ) → text_of ((w ∷ fs) ∷ rows) ++ more ≡ spell (w ∷ fs) ++ (text_of rows ++ more)
+text_front : (w : List ℕ) (fs : FieldRow) (rows : List FieldRow) (more : List ℕ) → text_of ((w ∷ fs) ∷ rows) ++ more ≡ spell (w ∷ fs) ++ (text_of rows ++ more)
 text_front w fs rows more = append_assoc (spell (w ∷ fs)) (text_of rows) more
 
-leaf_rows : (left : ℕ) (b : Option Fact) (w : List ℕ) (fs : Row) (rows : List Row) → list_all is_plain (w ∷ fs) ≡ true → has_word 0 (codes "split") (w ∷ fs) ≡ false → BackFrom base_from (w ∷ fs) rows b
+leaf_rows : (left : ℕ) (b : Option Fact) (w : List ℕ) (fs : FieldRow) (rows : List FieldRow) → list_all is_plain (w ∷ fs) ≡ true → has_word 0 (codes "split") (w ∷ fs) ≡ false → BackFrom base_from (w ∷ fs) rows b
     → Back (node_at left) ((w ∷ fs) ∷ rows) (leaf_of b)
 leaf_rows left b w fs rows plain other back more line =
     let rest = text_of rows ++ more in
     let same : fields (join_with_byte 32 (w ∷ fs)) ≡ w ∷ fs = fields_again w fs plain in
     ap (λ (t : List ℕ). node_at left (place t line)) (text_front w fs rows more)
     ∙ node_leaf left (place (spell (w ∷ fs) ++ rest) line) (place rest (line + 1)) (join_with_byte 32 (w ∷ fs)) (line_again w fs rest line plain) (ap (has_word 0 (codes "split")) same ∙ other)
-    ∙ ap (λ (row : Row). leaf_from row (place rest (line + 1))) same
+    ∙ ap (λ (row : FieldRow). leaf_from row (place rest (line + 1))) same
     ∙ leaf_back b w fs rows back more (line + 1)
     ∙ ap (λ (n : ℕ). Ok (leaf_of b, place more n)) (omega arith)
 
-leaf_again : (left : ℕ) (b : Option Fact) → IsBase b → Back (node_at left) (base_rows b) (leaf_of b)
+leaf_again : (left : ℕ) (b : Option Fact) → IsRangedBase b → Back (node_at left) (base_rows b) (leaf_of b)
 leaf_again left b h =
     let k = base_back b h in
-    subst (λ (rows : List Row). Back (node_at left) rows (leaf_of b)) (sym k.all) (leaf_rows left b k.word k.fs k.rows k.plain k.not_split k.back)
+    subst (λ (rows : List FieldRow). Back (node_at left) rows (leaf_of b)) (sym k.all) (leaf_rows left b k.word k.fs k.rows k.plain k.not_split k.back)
 
 -- ---- splits
 
@@ -101,15 +102,15 @@ given t p = Ok (t, p)
 split_plain : (l n : ℕ) → IsFrom 1 8 l → IsFrom 1 65535 n → list_all is_plain (split_row l n) ≡ true
 split_plain l n h k = rw (decimal_plain l (omega (arith, h)), decimal_plain n (omega (arith, k))) refl
 
-split_again : (left l : ℕ) (base : Option Fact) (parts : List Tree) → IsFrom 1 8 l → IsFrom 1 65535 (length parts) → IsBase base → AllBack left parts → Back (node_at (suc left)) (node_rows (Split l base parts)) (Split l base parts)
+split_again : (left l : ℕ) (base : Option Fact) (parts : List Tree) → IsFrom 1 8 l → IsFrom 1 65535 (length parts) → IsRangedBase base → AllBack left parts → Back (node_at (suc left)) (node_rows (Split l base parts)) (Split l base parts)
 split_again left l base parts range count is_base all more line =
-    let head : Row = split_row l (length parts) in
-    let fs : Row = decimal l ∷ decimal (length parts) ∷ [] in
+    let head : FieldRow = split_row l (length parts) in
+    let fs : FieldRow = decimal l ∷ decimal (length parts) ∷ [] in
     let plain = split_plain l (length parts) range count in
     let rest = flat_map node_rows parts in
     let after : List ℕ = text_of (base_rows base) ++ (text_of rest ++ more) in
     let split : text_of (node_rows (Split l base parts)) ++ more ≡ spell head ++ after =
-    ap (λ (rows : List Row). text_of rows ++ more) (rows_split l base parts) ∙ ap (λ (t : List ℕ). t ++ more) (text_then (head ∷ base_rows base) rest)
+    ap (λ (rows : List FieldRow). text_of rows ++ more) (rows_split l base parts) ∙ ap (λ (t : List ℕ). t ++ more) (text_then (head ∷ base_rows base) rest)
     ∙ append_assoc (text_of (head ∷ base_rows base)) (text_of rest) more ∙ append_assoc (spell head) (text_of (base_rows base)) (text_of rest ++ more) in
     let same : fields (join_with_byte 32 head) ≡ head = fields_again (codes "split") fs plain in
     let k : suc left - 1 ≡ left = omega arith in
@@ -130,36 +131,36 @@ each : (P Q : Tree → Type 0) → ((t : Tree) → P t → Q t) → (ts : List T
 each P Q f [] h = tt
 each P Q f (t ∷ ts) h = (f t h.0, each P Q f ts h.1)
 
-back_rows : (left : ℕ) (rows rows2 : List Row) (t : Tree) → rows ≡ rows2 → Back (node_at left) rows2 t → Back (node_at left) rows t
-back_rows left rows rows2 t e h = subst (λ (rs : List Row). Back (node_at left) rs t) (sym e) h
+back_rows : (left : ℕ) (rows rows2 : List FieldRow) (t : Tree) → rows ≡ rows2 → Back (node_at left) rows2 t → Back (node_at left) rows t
+back_rows left rows rows2 t e h = subst (λ (rs : List FieldRow). Back (node_at left) rs t) (sym e) h
 
-node_again : (left : ℕ) (t : Tree) → IsNode left t → Back (node_at left) (node_rows t) t
-node_again zero = tree_cases (λ t. IsNode zero t → Back (node_at zero) (node_rows t) t)
+node_again : (left : ℕ) (t : Tree) → IsRangedNode left t → Back (node_at left) (node_rows t) t
+node_again zero = tree_cases (λ t. IsRangedNode zero t → Back (node_at zero) (node_rows t) t)
     (λ h. back_rows zero _ _ Unproved rows_open (leaf_again zero None tt))
     (λ f h. back_rows zero _ _ (Closed f) (rows_closed f) (leaf_again zero (Some f) (subst (IsLayer (λ _. ⊥)) (out_closed f) h)))
     (λ l base parts h. absurd (none_below parts (subst (IsLayer (λ _. ⊥)) (out_is l base parts) h).1 (subst (IsLayer (λ _. ⊥)) (out_is l base parts) h).3))
-node_again (suc left) = tree_cases (λ t. IsNode (suc left) t → Back (node_at (suc left)) (node_rows t) t)
+node_again (suc left) = tree_cases (λ t. IsRangedNode (suc left) t → Back (node_at (suc left)) (node_rows t) t)
     (λ h. back_rows (suc left) _ _ Unproved rows_open (leaf_again (suc left) None tt))
-    (λ f h. back_rows (suc left) _ _ (Closed f) (rows_closed f) (leaf_again (suc left) (Some f) (subst (IsLayer (IsNode left)) (out_closed f) h)))
+    (λ f h. back_rows (suc left) _ _ (Closed f) (rows_closed f) (leaf_again (suc left) (Some f) (subst (IsLayer (IsRangedNode left)) (out_closed f) h)))
     (λ l base parts h.
-    let k = subst (IsLayer (IsNode left)) (out_is l base parts) h in
-    split_again left l base parts k.0 k.1 k.2 (each (IsNode left) (λ t. Back (node_at left) (node_rows t) t) (node_again left) parts k.3))
+    let k = subst (IsLayer (IsRangedNode left)) (out_is l base parts) h in
+    split_again left l base parts k.0 k.1 k.2 (each (IsRangedNode left) (λ t. Back (node_at left) (node_rows t) t) (node_again left) parts k.3))
 
 -- the first line of a node, which is no cap
 record NodeFront (t : Tree) : Type 0 where
   word : List ℕ
-  fs : Row
-  rows : List Row
+  fs : FieldRow
+  rows : List FieldRow
   all : node_rows t ≡ (word ∷ fs) ∷ rows
   plain : list_all is_plain (word ∷ fs) ≡ true
   not_cap : has_word 0 (codes "cap") (word ∷ fs) ≡ false
 
-node_front : (left : ℕ) (t : Tree) → IsNode (suc left) t → NodeFront t
-node_front left = tree_cases (λ t. IsNode (suc left) t → NodeFront t)
+node_front : (left : ℕ) (t : Tree) → IsRangedNode (suc left) t → NodeFront t
+node_front left = tree_cases (λ t. IsRangedNode (suc left) t → NodeFront t)
     (λ h. record { word = codes "open"; fs = []; rows = []; all = rows_open; plain = refl; not_cap = refl })
-    (λ f h. let b = fact_back f (subst (IsLayer (IsNode left)) (out_closed f) h) in record { word = b.word; fs = b.fs; rows = b.rows; all = rows_closed f ∙ b.all; plain = b.plain; not_cap = b.not_cap })
+    (λ f h. let b = fact_back f (subst (IsLayer (IsRangedNode left)) (out_closed f) h) in record { word = b.word; fs = b.fs; rows = b.rows; all = rows_closed f ∙ b.all; plain = b.plain; not_cap = b.not_cap })
     (λ l base parts h.
-    let k = subst (IsLayer (IsNode left)) (out_is l base parts) h in
+    let k = subst (IsLayer (IsRangedNode left)) (out_is l base parts) h in
     record { word = codes "split"; fs = decimal l ∷ decimal (length parts) ∷ []; rows = base_rows base ++ flat_map node_rows parts; all = rows_split l base parts; plain = split_plain l (length parts) k.0 k.1; not_cap = refl })
 
 -- ---- the head
@@ -183,7 +184,7 @@ fraction_back word f w visible h =
     (plain_front word (signed_decimal f.num ∷ signed_decimal f.den ∷ []) visible (rw (signed_plain f.num h.num, signed_plain f.den h.den) refl))
     (one_from (λ fs p. at_line p (fraction_of word fs) >>= λ y. Ok (y, p)) (fraction_of word) (fraction_row word f) f (λ p. refl) (fraction_again word f w h))
 
-text_three : (a b c : List Row) (more : List ℕ) → text_of (a ++ (b ++ c)) ++ more ≡ text_of a ++ (text_of b ++ (text_of c ++ more))
+text_three : (a b c : List FieldRow) (more : List ℕ) → text_of (a ++ (b ++ c)) ++ more ≡ text_of a ++ (text_of b ++ (text_of c ++ more))
 text_three a b c more =
     ap (λ (t : List ℕ). t ++ more) (text_then a (b ++ c)) ∙ append_assoc (text_of a) (text_of (b ++ c)) more
     ∙ ap (λ (t : List ℕ). text_of a ++ t) (ap (λ (t : List ℕ). t ++ more) (text_then b c) ∙ append_assoc (text_of b) (text_of c) more)
@@ -208,7 +209,7 @@ proof_lines r line = line + length (flat_map cap_rows r.caps) + length (node_row
 
 no_cap : (t : Tree) (more : List ℕ) (line : ℕ) → NodeFront t → line_begins (codes "cap") (next_line (place (text_of (node_rows t) ++ more) line)) ≡ false
 no_cap t more line f =
-    subst (λ (rows : List Row). line_begins (codes "cap") (next_line (place (text_of rows ++ more) line)) ≡ false) (sym f.all) (begins_row f.word f.fs f.rows more line (codes "cap") f.plain ∙ f.not_cap)
+    subst (λ (rows : List FieldRow). line_begins (codes "cap") (next_line (place (text_of rows ++ more) line)) ≡ false) (sym f.all) (begins_row f.word f.fs f.rows more line (codes "cap") f.plain ∙ f.not_cap)
 
 proof_again : (r : Report) → IsReport r → (more : List ℕ) (line : ℕ)
     → proof_at (place (text_of (flat_map cap_rows r.caps) ++ (text_of (node_rows r.tree) ++ more)) line) ≡ Ok ((r.caps, r.tree), place more (proof_lines r line))
@@ -222,7 +223,7 @@ proof_again r h more line =
 
 -- ---- the tail
 
-fix_plain : (f : Fix) → IsFix f → list_all is_plain (fix_fields f) ≡ true
+fix_plain : (f : Fix) → IsRangedFix f → list_all is_plain (fix_fields f) ≡ true
 fix_plain f h = rw (decimal_plain f.first (omega (arith, h.first)), decimal_plain (length f.acts) (omega (arith, h.count))) (decimals_plain f.acts (acts_from f.acts h.acts))
 
 op_plain : (op : Op) → is_plain (op_word op) ≡ true

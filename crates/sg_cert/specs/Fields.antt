@@ -5,6 +5,7 @@ use Rattle.std.specs.Option.{option_map}
 use Rattle.std.specs.Int.Signed.{le_z}
 use Rattle.sg_num.specs.Exact.{fits}
 use Rattle.std.specs.Str.Parse.{digits_value}
+use Rattle.sg_model.specs.Steps.{◌>>=◌}
 
 -- what stands between the spaces of a line
 abbrev pub fields : List ℕ → List (List ℕ)
@@ -38,11 +39,6 @@ abbrev pub split_once : ℕ → List ℕ → Option (List ℕ × List ℕ)
 split_once b bs = option_map (λ i. (take i bs, drop (i + 1) bs)) (position (λ x. x == b) bs)
 
 -- ---- tests within a line; an error is a reason
-
-infixl 10 ◌>>=◌
-abbrev pub ◌>>=◌ : {A B E : Type 0} → Result A E → (A → Result B E) → Result B E
-(Ok x) >>= f = f x
-(Err e) >>= f = Err e
 
 -- a whole number from low to high
 abbrev pub natural_of : ℕ → ℕ → Option ℤ → Result ℕ ℕ

@@ -1,13 +1,13 @@
 -- Laws about reading and writing.
 use Rattle.std.specs.Prelude.{◌≡◌, ℕ, List, [], Ok, IsOk, ◌↔◌}
 use Rattle.sg_model.specs.Commitments.{weight_total}
-use Rattle.sg_model.specs.ReportText as water
 use Rattle.sg_tree.specs.declared.fact.Fact.TheVariants.{Water}
 use Rattle.sg_tree.specs.declared.tree.Tree.TheVariants.{Closed}
 use Rattle.sg_tree.specs.declared.report.Ending.TheVariants.{Optimal}
 use Rattle.sg_tree.specs.declared.report.Report.{Report}
 use Rattle.sg_cert.specs.Reading.{report_of}
 use Rattle.sg_cert.specs.Text.{report_text}
+use Rattle.sg_cert.specs.WaterText.{WaterReport, water_report_text}
 use Rattle.sg_cert.specs.Ranges.{IsReport, IsReportText}
 
 -- the text of a report in its ranges reads back to that report
@@ -23,7 +23,7 @@ abbrev pub ReportTextsRead : Type 0
 ReportTextsRead = (bytes : List ℕ) → IsReportText bytes ↔ IsOk (report_of bytes)
 
 -- a report of one water-level fact, as a report
-abbrev pub report_of_water : water.WaterReport → Report
+abbrev pub report_of_water : WaterReport → Report
 report_of_water r = record {
   tickets = record { tickets = r.tickets; total = weight_total r.tickets };
   value = record { num = r.value_num; den = r.value_den };
@@ -35,4 +35,4 @@ report_of_water r = record {
 
 -- its text is the one that is defined for such reports alone
 abbrev pub WaterTextAgrees : Type 0
-WaterTextAgrees = (r : water.WaterReport) → report_text (report_of_water r) ≡ water.report_text r
+WaterTextAgrees = (r : WaterReport) → report_text (report_of_water r) ≡ water_report_text r

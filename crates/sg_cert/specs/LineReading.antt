@@ -17,7 +17,8 @@ use Rattle.sg_tree.specs.declared.report.Cause.{Cause}
 use Rattle.sg_tree.specs.declared.report.Cause.TheVariants as causes
 use Rattle.sg_tree.specs.declared.report.Ending.{Ending}
 use Rattle.sg_tree.specs.declared.report.Ending.TheVariants.{Optimal, Gap}
-use Rattle.sg_cert.specs.Fields.{natural_next, whole_next, numbers_of, has_word, shaped_as, shaped_to, ◌>>=◌}
+use Rattle.sg_cert.specs.Fields.{natural_next, whole_next, numbers_of, has_word, shaped_as, shaped_to}
+use Rattle.sg_model.specs.Steps.{◌>>=◌}
 
 -- reason 7 where the order is broken
 abbrev pub in_order : Bool → Result (Unit {0}) ℕ
@@ -116,8 +117,8 @@ row_follows None row = true
 row_follows (Some c) row = nat_lt c.row row
 
 -- c row v
-unfoldable pub row_of : Option Line → List (List ℕ) → Result Line ℕ
-row_of before fs = do
+unfoldable pub multiplier_of : Option Line → List (List ℕ) → Result Line ℕ
+multiplier_of before fs = do
   shape ← shaped_as (codes "c") 3 3 fs
   row ← natural_next 1 1535 (drop 1 fs)
   v ← whole_next (pos 1) highest row.1
@@ -175,8 +176,8 @@ proved_of fs = do
   Ok (l.0, v.0, n.0)
 
 -- the type, the bound and the number of facts
-abbrev pub cap_of : List (List ℕ) → Result (ℕ × ℤ × ℕ) ℕ
-cap_of fs = if has_word 2 (codes "plain") fs then plain_of fs else proved_of fs
+abbrev pub cap_head_of : List (List ℕ) → Result (ℕ × ℤ × ℕ) ℕ
+cap_head_of fs = if has_word 2 (codes "plain") fs then plain_of fs else proved_of fs
 
 -- split l n
 unfoldable pub split_of : List (List ℕ) → Result (ℕ × ℕ) ℕ

@@ -5,7 +5,7 @@ use Rattle.std.specs.List.{AllByRecursion}
 use Rattle.sg_model.specs.declared.level.Level.{Level}
 use Rattle.sg_model.specs.declared.level.Level.TheVariants.{Resources, Target}
 use Rattle.sg_model.specs.declared.ticket.Ticket.{Ticket}
-use Rattle.sg_num.specs.Exact.{fits}
+use Rattle.sg_num.specs.Exact.{fits, Fits}
 use Rattle.sg_frac.specs.Fractions.{Fraction, IsReduced}
 use Rattle.sg_tree.specs.Claims.{Claimed, is_claim}
 use Rattle.sg_tree.specs.declared.fact.Mark.{Mark}
@@ -28,10 +28,6 @@ use Rattle.sg_cert.specs.Text.{report_text}
 -- a number from one to another
 abbrev pub IsFrom : ℕ → ℕ → ℕ → Type 0
 IsFrom low high n = (low ≤ n) × (n ≤ high)
-
--- a number of i128, and one from a number on
-abbrev pub Fits : ℤ → Type 0
-Fits z = fits z ≡ true
 
 abbrev pub FitsFrom : ℤ → ℤ → Type 0
 FitsFrom low z = (low ≤ℤ z) × Fits z
@@ -65,7 +61,7 @@ pub record IsMark (before : Option Mark) (m : Mark) : Type 0 where
   pub order : mark_follows before m.l m.a ≡ true
 
 -- a row's multiplier in its ranges, behind the one before
-pub record IsRow (before : Option Line) (c : Line) : Type 0 where
+pub record IsRangedLine (before : Option Line) (c : Line) : Type 0 where
   pub row : IsFrom 1 1535 c.row
   pub v : FitsFrom (pos 1) c.v
   pub order : row_follows before c.row ≡ true
@@ -82,7 +78,7 @@ pub record IsHeader (rho mu : ℤ) (k : ℕ) : Type 0 where
 
 abbrev pub IsFact : Fact → Type 0
 IsFact (Plays rho mu marks) = IsHeader rho mu (length marks) × Rises IsMark None marks
-IsFact (Cover rho mu lines) = IsHeader rho mu (length lines) × Rises IsRow None lines
+IsFact (Cover rho mu lines) = IsHeader rho mu (length lines) × Rises IsRangedLine None lines
 IsFact (Water level reason) = IsFraction level × IsLevel reason
 
 pub record IsCap (c : Cap) : Type 0 where
@@ -91,31 +87,31 @@ pub record IsCap (c : Cap) : Type 0 where
   pub count : length c.proof ≤ 65535
   pub proof : AllByRecursion IsFact c.proof
 
-abbrev pub IsBase : Option Fact → Type 0
-IsBase None = Unit {0}
-IsBase (Some f) = IsFact f
+abbrev pub IsRangedBase : Option Fact → Type 0
+IsRangedBase None = Unit {0}
+IsRangedBase (Some f) = IsFact f
 
 -- one node, whose parts are as given
 abbrev pub IsLayer : (Tree → Type 0) → Tree-F Tree → Type 0
 IsLayer P Tree-F.Unproved = Unit {0}
 IsLayer P (Tree-F.Closed f) = IsFact f
-IsLayer P (Tree-F.Split l base parts) = IsFrom 1 8 l × IsFrom 1 65535 (length parts) × IsBase base × AllByRecursion P parts
+IsLayer P (Tree-F.Split l base parts) = IsFrom 1 8 l × IsFrom 1 65535 (length parts) × IsRangedBase base × AllByRecursion P parts
 
 -- a node with at most so many splits below one another
-abbrev pub IsNode : ℕ → Tree → Type 0
-IsNode zero t = IsLayer (λ _. ⊥) (out-Tree t)
-IsNode (suc left) t = IsLayer (IsNode left) (out-Tree t)
+abbrev pub IsRangedNode : ℕ → Tree → Type 0
+IsRangedNode zero t = IsLayer (λ _. ⊥) (out-Tree t)
+IsRangedNode (suc left) t = IsLayer (IsRangedNode left) (out-Tree t)
 
-pub record IsFix (f : Fix) : Type 0 where
+pub record IsRangedFix (f : Fix) : Type 0 where
   pub first : IsFrom 1 8 f.first
   pub count : IsFrom 1 8 (length f.acts)
   pub acts : AllByRecursion (λ a. IsFrom 1 65535 a) f.acts
 
 abbrev pub IsCause : Cause → Type 0
 IsCause (causes.Nodes n) = IsFrom 1 (2 ^ 64 - 1) n
-IsCause (causes.Pivots n fix) = IsFrom 1 (2 ^ 64 - 1) n × IsFix fix
-IsCause (causes.Looks n step fix) = IsFrom 1 (2 ^ 64 - 1) n × IsFrom 0 (2 ^ 64 - 1) step × IsFix fix
-IsCause (causes.Wide name wide step fix) = IsFrom 1 7 name × Fits wide.left × Fits wide.right × IsFrom 0 (2 ^ 64 - 1) step × IsFix fix
+IsCause (causes.Pivots n fix) = IsFrom 1 (2 ^ 64 - 1) n × IsRangedFix fix
+IsCause (causes.Looks n step fix) = IsFrom 1 (2 ^ 64 - 1) n × IsFrom 0 (2 ^ 64 - 1) step × IsRangedFix fix
+IsCause (causes.Wide name wide step fix) = IsFrom 1 7 name × Fits wide.left × Fits wide.right × IsFrom 0 (2 ^ 64 - 1) step × IsRangedFix fix
 
 abbrev pub IsEnding : Ending → Type 0
 IsEnding Optimal = Unit {0}
@@ -126,7 +122,7 @@ pub record IsReport (r : Report) : Type 0 where
   pub tickets : IsClaim r.tickets
   pub value : IsFraction r.value
   pub caps : AllByRecursion IsCap r.caps
-  pub tree : IsNode 8 r.tree
+  pub tree : IsRangedNode 8 r.tree
   pub upper : IsFraction r.upper
   pub ending : IsEnding r.ending
 

@@ -15,9 +15,10 @@ use Rattle.sg_tree.specs.declared.report.Ending.{Ending}
 use Rattle.sg_tree.specs.declared.report.Report.{Report}
 use Rattle.sg_cert.specs.declared.fault.ReportFault.{ReportFault}
 use Rattle.sg_cert.specs.Place.{Place}
-use Rattle.sg_cert.specs.Fields.{fields, has_word, shaped_as, ◌>>=◌}
+use Rattle.sg_cert.specs.Fields.{fields, has_word, shaped_as}
+use Rattle.sg_model.specs.Steps.{◌>>=◌}
 use Rattle.sg_cert.specs.Lines.{line_at, next_line, at_line, start, ended}
-use Rattle.sg_cert.specs.LineReading.{fraction_of, counts_of, ticket_of, mark_of, row_of, header_of, water_of, cap_of, split_of, verdict_of}
+use Rattle.sg_cert.specs.LineReading.{fraction_of, counts_of, ticket_of, mark_of, multiplier_of, header_of, water_of, cap_head_of, split_of, verdict_of}
 
 -- what is read from a place on, and the place after it
 abbrev pub Read : Type 0 → Type 0
@@ -64,7 +65,7 @@ mark_at done p = do
 unfoldable pub row_at : List Line → Place → Read Line
 row_at done p = do
   l ← line_at p
-  c ← at_line l.1 (row_of (last done) (fields l.0))
+  c ← at_line l.1 (multiplier_of (last done) (fields l.0))
   Ok (c, l.1)
 
 -- a fact of plays, whose first line was read
@@ -105,7 +106,7 @@ fact_at p = do
 -- a cap, whose line was read, with the facts that follow
 unfoldable pub cap_from : List (List ℕ) → Place → Read Cap
 cap_from fs p = do
-  c ← at_line p (cap_of fs)
+  c ← at_line p (cap_head_of fs)
   proof ← repeat (λ done q. fact_at q) [] c.2 p
   Ok (record { l = c.0; v = c.1; proof = proof.0 }, proof.1)
 

@@ -1,6 +1,7 @@
 //! Laws about the definitions, each as the contract of a function that does nothing.
 
 ghost use Rattle.sg_cert.specs.Laws.{TextReadsBack, ReadIsText, ReportTextsRead, WaterTextAgrees};
+ghost use Rattle.sg_cert.specs.TextExamples.{AreTexts};
 
 /// The text of a report in its ranges reads back to that report.
 pub fn text_reads_back()
@@ -20,4 +21,9 @@ pub fn report_texts_read()
 /// The text of a report with one water-level fact is the one that is defined for such reports alone.
 pub fn water_text_agrees()
     ensures { WaterTextAgrees }
+{}
+
+/// Texts of reports, written out by hand.
+pub fn worked_texts()
+    ensures { AreTexts }
 {}

@@ -7,7 +7,8 @@
 //! The laws (`specs/Laws.antt`) are contracts of functions that do nothing: [`text_reads_back`], the text of a report
 //! in its ranges reads back to it; [`read_is_text`], what reads as a report is exactly the text of that report and of
 //! no other; [`report_texts_read`], bytes read as a report exactly where they are a report text;
-//! [`water_text_agrees`], the text of a report with one water-level fact is the one that `sg_model` defines for those.
+//! [`water_text_agrees`], the text of a report with one water-level fact is the one that `specs/WaterText.antt` defines for
+//! those; [`worked_texts`], texts written out by hand.
 //!
 //! `sg_cert_reader` reads and `sg_cert_writer` writes. Neither stands on the other: these definitions join them. A
 //! short report text:
@@ -28,4 +29,4 @@ mod fault;
 mod laws;
 
 pub use fault::ReportFault;
-pub use laws::{read_is_text, report_texts_read, text_reads_back, water_text_agrees};
+pub use laws::{read_is_text, report_texts_read, text_reads_back, water_text_agrees, worked_texts};

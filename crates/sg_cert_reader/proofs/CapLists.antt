@@ -7,7 +7,7 @@ use Rattle.sg_cert_reader.specs.declared.error.ReportError.{ReportError}
 use Rattle.sg_cert_reader.specs.declared.error.ReportError.TheVariants as errors
 use Rattle.sg_cert.specs.Place.{Place}
 use Rattle.sg_cert.specs.Lines.{next_line}
-use Rattle.sg_cert_reader.specs.Steps.{Fails}
+use Rattle.sg_cert_reader.specs.Steps.{FailsReport}
 use Rattle.sg_cert.specs.Reading.{Read, line_begins, cap_at, caps_at}
 
 pub caps_more : (done : List Cap) (n i : ℕ) (p q : Place) (x : Cap) (whole : Read (List Cap))
@@ -42,6 +42,6 @@ fails done n i p f whole lt b h so_far =
     sym so_far ∙ one
 
 pub caps_fail : (done : List Cap) (n i : ℕ) (p : Place) (e : ReportError) (whole : Read (List Cap))
-    → i < n → line_begins (codes "cap") (next_line p) ≡ true → Fails e (cap_at p) → caps_at done (n - i) p ≡ whole → Fails e whole
+    → i < n → line_begins (codes "cap") (next_line p) ≡ true → FailsReport e (cap_at p) → caps_at done (n - i) p ≡ whole → FailsReport e whole
 caps_fail done n i p errors.Memory whole lt b h so_far = tt
 caps_fail done n i p (errors.Refused f) whole lt b h so_far = fails done n i p f whole lt b h so_far

@@ -6,7 +6,8 @@ use Rattle.std.specs.Char.{digit_value}
 use Rattle.std.proofs.lemmas.Bool.{cases_lt, le-ltb, lt-ltb}
 use Rattle.std.proofs.lemmas.List.Splits.{slice_split_first, slice_split_none}
 use Rattle.std.proofs.lemmas.List.Sums.{fails_before_first}
-use Rattle.sg_cert.specs.Fields.{fields, split_once, is_digit, ◌>>=◌, word_at, words_of, spelled_at, spelled_of}
+use Rattle.sg_cert.specs.Fields.{fields, split_once, is_digit, word_at, words_of, spelled_at, spelled_of}
+use Rattle.sg_model.specs.Steps.{◌>>=◌}
 use Rattle.sg_cert.proofs.Cut.{both, is_digit_byte}
 use Rattle.sg_cert_reader.specs.Steps.{fields_left}
 

@@ -4,7 +4,7 @@ use Rattle.sg_cert.specs.declared.fault.ReportFault.{ReportFault}
 use Rattle.sg_cert_reader.specs.declared.error.ReportError.{ReportError}
 use Rattle.sg_cert_reader.specs.declared.error.ReportError.TheVariants as errors
 use Rattle.sg_cert.specs.Place.{Place}
-use Rattle.sg_cert_reader.specs.Steps.{Fails}
+use Rattle.sg_cert_reader.specs.Steps.{FailsReport}
 use Rattle.sg_cert.specs.Reading.{Read, repeat}
 
 pub repeat_more : {A : Type 0} (item : List A → Place → Read A) (done : List A) (n i : ℕ) (p q : Place) (x : A) (whole : Read (List A))
@@ -32,7 +32,7 @@ repeat_fail item done n i p e whole lt h so_far =
     sym so_far ∙ one
 
 pub repeat_fails : {A : Type 0} (item : List A → Place → Read A) (done : List A) (n i : ℕ) (p : Place) (e : ReportError) (whole : Read (List A))
-    → i < n → Fails e (item done p) → repeat item done (n - i) p ≡ whole → Fails e whole
+    → i < n → FailsReport e (item done p) → repeat item done (n - i) p ≡ whole → FailsReport e whole
 repeat_fails item done n i p errors.Memory whole lt h so_far = tt
 repeat_fails item done n i p (errors.Refused f) whole lt h so_far = repeat_fail item done n i p f whole lt h so_far
 
@@ -40,5 +40,5 @@ repeat_fails item done n i p (errors.Refused f) whole lt h so_far = repeat_fail 
 pub now : {A : Type 0} (item : List A → Place → Read A) (p : Place) (slice done : List A) (x : Read A) → slice ≡ done → item slice p ≡ x → item done p ≡ x
 now item p slice done x e h = rw e at h
 
-pub now_fails : {A : Type 0} (item : List A → Place → Read A) (p : Place) (slice done : List A) (e : ReportError) → slice ≡ done → Fails e (item slice p) → Fails e (item done p)
+pub now_fails : {A : Type 0} (item : List A → Place → Read A) (p : Place) (slice done : List A) (e : ReportError) → slice ≡ done → FailsReport e (item slice p) → FailsReport e (item done p)
 now_fails item p slice done e h f = rw h at f

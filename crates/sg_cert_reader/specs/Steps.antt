@@ -16,20 +16,20 @@ Steps (Ok x) after read = read ≡ Ok (x, after)
 Steps (Err e) after read = read ≡ Err e
 
 -- what a call that moves on by lines returned, and where it then stands, is what reading gives
-abbrev pub Reads : {X Y : Type 0} → (X → Y) → Result X ReportFault → Place → Result (Y × Place) ReportFault → Type 0
-Reads view (Ok x) after read = read ≡ Ok (view x, after)
-Reads view (Err e) after read = read ≡ Err e
+abbrev pub ReadsLines : {X Y : Type 0} → (X → Y) → Result X ReportFault → Place → Result (Y × Place) ReportFault → Type 0
+ReadsLines view (Ok x) after read = read ≡ Ok (view x, after)
+ReadsLines view (Err e) after read = read ≡ Err e
 
 -- the same, unless memory ran out
-abbrev pub Fails : {Y : Type 0} → ReportError → Result Y ReportFault → Type 0
-Fails errors.Memory read = Unit {0}
-Fails (errors.Refused f) read = read ≡ Err f
+abbrev pub FailsReport : {Y : Type 0} → ReportError → Result Y ReportFault → Type 0
+FailsReport errors.Memory read = Unit {0}
+FailsReport (errors.Refused f) read = read ≡ Err f
 
-abbrev pub Gives : {X Y : Type 0} → (X → Y) → Result X ReportError → Place → Result (Y × Place) ReportFault → Type 0
-Gives view (Ok x) after read = read ≡ Ok (view x, after)
-Gives view (Err e) after read = Fails e read
+abbrev pub GivesLines : {X Y : Type 0} → (X → Y) → Result X ReportError → Place → Result (Y × Place) ReportFault → Type 0
+GivesLines view (Ok x) after read = read ≡ Ok (view x, after)
+GivesLines view (Err e) after read = FailsReport e read
 
 -- what a function over all of the bytes returned is what reading gives, unless memory ran out
-abbrev pub Tells : {X Y : Type 0} → (X → Y) → Result X ReportError → Result Y ReportFault → Type 0
-Tells view (Ok x) read = read ≡ Ok (view x)
-Tells view (Err e) read = Fails e read
+abbrev pub GivesReport : {X Y : Type 0} → (X → Y) → Result X ReportError → Result Y ReportFault → Type 0
+GivesReport view (Ok x) read = read ≡ Ok (view x)
+GivesReport view (Err e) read = FailsReport e read

@@ -2,8 +2,8 @@
 
 ghost use Rattle.std.specs.Prelude.{◌≡◌, ◌-◌, ◌^◌, ◌≤◌, [], Ok, Err, codes};
 ghost use Rattle.sg_cert.specs.Fields.{fields};
-ghost use Rattle.sg_cert_reader.specs.Steps.{Reads, Gives};
-ghost use Rattle.sg_cert.specs.LineReading.{mark_follows, mark_of, row_follows, row_of, header_of, spent_of, target_of, water_of};
+ghost use Rattle.sg_cert_reader.specs.Steps.{ReadsLines, GivesLines};
+ghost use Rattle.sg_cert.specs.LineReading.{mark_follows, mark_of, row_follows, multiplier_of, header_of, spent_of, target_of, water_of};
 ghost use Rattle.sg_cert.specs.Reading.{repeat, last, mark_at, row_at, plays_from, cover_from, water_from, fact_from, fact_at};
 
 use crate::error::ReportError;
@@ -52,14 +52,14 @@ fn last_item<T: Copy>(items: &[T]) -> Option<T>
 
 #[tactic(auto, unfolding(sg_cert::specs::Reading::mark_at))]
 fn next_mark(lines: &mut Lines, done: &[Mark]) -> Result<Mark, ReportFault>
-    ensures { Reads (λ m. m) result lines.new (mark_at done.now lines.old) }
+    ensures { ReadsLines (λ m. m) result lines.new (mark_at done.now lines.old) }
 {
     let line = lines.next()?;
     lines.within(mark_in(line, last_item(done)))
 }
 
 fn marks(alloc: Global, lines: &mut Lines, k: u128) -> Result<Items<Mark>, ReportError>
-    ensures { Gives (λ ms. ms) result lines.new (repeat mark_at [] k lines.old) }
+    ensures { GivesLines (λ ms. ms) result lines.new (repeat mark_at [] k lines.old) }
 {
     let mut marks = Items::new(alloc);
     for _ in 0..k {
@@ -80,9 +80,9 @@ fn row_may_follow(before: Option<Line>, row: u32) -> bool
     }
 }
 
-#[tactic(auto, unfolding(sg_cert::specs::LineReading::row_of))]
+#[tactic(auto, unfolding(sg_cert::specs::LineReading::multiplier_of))]
 fn row_in(line: &[u8], before: Option<Line>) -> Result<Line, u8>
-    ensures { result ≡ row_of before (fields line.now) }
+    ensures { result ≡ multiplier_of before (fields line.now) }
 {
     shaped(b"c", 3, 3, line)?;
     let mut left = Fields::after(1, line);
@@ -94,14 +94,14 @@ fn row_in(line: &[u8], before: Option<Line>) -> Result<Line, u8>
 
 #[tactic(auto, unfolding(sg_cert::specs::Reading::row_at))]
 fn next_row(lines: &mut Lines, done: &[Line]) -> Result<Line, ReportFault>
-    ensures { Reads (λ c. c) result lines.new (row_at done.now lines.old) }
+    ensures { ReadsLines (λ c. c) result lines.new (row_at done.now lines.old) }
 {
     let line = lines.next()?;
     lines.within(row_in(line, last_item(done)))
 }
 
 fn rows(alloc: Global, lines: &mut Lines, k: u128) -> Result<Items<Line>, ReportError>
-    ensures { Gives (λ cs. cs) result lines.new (repeat row_at [] k lines.old) }
+    ensures { GivesLines (λ cs. cs) result lines.new (repeat row_at [] k lines.old) }
 {
     let mut rows = Items::new(alloc);
     for _ in 0..k {
@@ -165,7 +165,7 @@ fn water_in(line: &[u8]) -> Result<Fact, u8>
 
 #[tactic(auto, unfolding(sg_cert::specs::Reading::plays_from))]
 fn plays_after(alloc: Global, lines: &mut Lines, line: &[u8]) -> Result<Fact, ReportError>
-    ensures { Gives (λ f. f) result lines.new (plays_from (fields line.now) lines.old) }
+    ensures { GivesLines (λ f. f) result lines.new (plays_from (fields line.now) lines.old) }
 {
     let (rho, mu, k) = lines.within(header_in(b"plays", line))?;
     let marks = marks(alloc, lines, k)?;
@@ -174,7 +174,7 @@ fn plays_after(alloc: Global, lines: &mut Lines, line: &[u8]) -> Result<Fact, Re
 
 #[tactic(auto, unfolding(sg_cert::specs::Reading::cover_from))]
 fn cover_after(alloc: Global, lines: &mut Lines, line: &[u8]) -> Result<Fact, ReportError>
-    ensures { Gives (λ f. f) result lines.new (cover_from (fields line.now) lines.old) }
+    ensures { GivesLines (λ f. f) result lines.new (cover_from (fields line.now) lines.old) }
 {
     let (rho, mu, k) = lines.within(header_in(b"cover", line))?;
     let rows = rows(alloc, lines, k)?;
@@ -187,14 +187,14 @@ fn cover_after(alloc: Global, lines: &mut Lines, line: &[u8]) -> Result<Fact, Re
 
 #[tactic(auto, unfolding(sg_cert::specs::Reading::water_from))]
 fn water_after(lines: &Lines, line: &[u8]) -> Result<Fact, ReportFault>
-    ensures { Reads (λ f. f) result lines.now (water_from (fields line.now) lines.now) }
+    ensures { ReadsLines (λ f. f) result lines.now (water_from (fields line.now) lines.now) }
 {
     lines.within(water_in(line))
 }
 
 /// A fact, whose first line was read.
 pub fn fact_after(alloc: Global, lines: &mut Lines, line: &[u8]) -> Result<Fact, ReportError>
-    ensures { Gives (λ f. f) result lines.new (fact_from (fields line.now) lines.old) }
+    ensures { GivesLines (λ f. f) result lines.new (fact_from (fields line.now) lines.old) }
 {
     if has_word_at(0, b"plays", line) {
         plays_after(alloc, lines, line)
@@ -213,7 +213,7 @@ pub fn fact_after(alloc: Global, lines: &mut Lines, line: &[u8]) -> Result<Fact,
 /// The fact on the next lines.
 #[tactic(auto, unfolding(sg_cert::specs::Reading::fact_at))]
 pub fn fact(alloc: Global, lines: &mut Lines) -> Result<Fact, ReportError>
-    ensures { Gives (λ f. f) result lines.new (fact_at lines.old) }
+    ensures { GivesLines (λ f. f) result lines.new (fact_at lines.old) }
 {
     let line = lines.next()?;
     fact_after(alloc, lines, line)

@@ -3,7 +3,7 @@
 ghost use Rattle.std.specs.Prelude.{◌≡◌, ◌-◌, ◌^◌, ◌≤◌, ◌≤ℤ◌, pos, unsigned_abs, Ok, Err};
 ghost use Rattle.sg_frac.specs.Fractions.{IsReduced};
 ghost use Rattle.sg_cert.specs.Fields.{fields};
-ghost use Rattle.sg_cert_reader.specs.Steps.{Steps, Reads};
+ghost use Rattle.sg_cert_reader.specs.Steps.{Steps, ReadsLines};
 ghost use Rattle.sg_cert.specs.LineReading.{reduced_of, shares, fraction_next, fraction_of};
 ghost use Rattle.sg_cert.specs.Reading.{fraction_at};
 
@@ -58,7 +58,7 @@ fn fraction_in(word: &[u8], line: &[u8]) -> Result<Frac, u8>
 /// The fraction on the next line, behind the word.
 #[tactic(auto, unfolding(sg_cert::specs::Reading::fraction_at))]
 pub fn fraction(lines: &mut Lines, word: &[u8]) -> Result<Frac, ReportFault>
-    ensures { Reads (λ f. f) result lines.new (fraction_at word.now lines.old) }
+    ensures { ReadsLines (λ f. f) result lines.new (fraction_at word.now lines.old) }
 {
     let line = lines.next()?;
     lines.within(fraction_in(word, line))

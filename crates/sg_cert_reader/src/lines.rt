@@ -3,7 +3,7 @@
 ghost use Rattle.std.specs.Prelude.{◌≡◌, ◌+◌, ◌<◌, ◌^◌, length, IfSome, IfOk, codes};
 ghost use Rattle.std.specs.Option.{option_copied};
 ghost use Rattle.sg_cert.specs.Lines.{next_line, line_at, at_line, start, ended};
-ghost use Rattle.sg_cert_reader.specs.Steps.{Reads};
+ghost use Rattle.sg_cert_reader.specs.Steps.{ReadsLines};
 
 use crate::field::split_at_byte;
 use sg_cert::ReportFault;
@@ -47,7 +47,7 @@ impl<'a> Lines<'a> {
 
     /// The next line without its newline; it is there and ended, or the fault is 2.
     pub fn next(&mut self) -> Result<&'a [u8], ReportFault>
-        ensures { Reads (λ l. l.now) result self.new (line_at self.old) }
+        ensures { ReadsLines (λ l. l.now) result self.new (line_at self.old) }
     {
         match split_at_byte(self.rest, b'\n') {
             None => Err(ReportFault {

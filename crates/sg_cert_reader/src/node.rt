@@ -3,8 +3,8 @@
 ghost use Rattle.std.specs.Prelude.{◌≡◌, ◌-◌, ◌^◌, ◌≤◌, ◌≤ℤ◌, [], IfOk, Ok, Err, codes, length, negsuc, pos};
 ghost use Rattle.sg_cert.specs.Fields.{fields};
 ghost use Rattle.sg_cert.specs.Lines.{at_line, next_line};
-ghost use Rattle.sg_cert_reader.specs.Steps.{Steps, Reads, Gives};
-ghost use Rattle.sg_cert.specs.LineReading.{bound_next, plain_of, proved_of, cap_of, split_of};
+ghost use Rattle.sg_cert_reader.specs.Steps.{Steps, ReadsLines, GivesLines};
+ghost use Rattle.sg_cert.specs.LineReading.{bound_next, plain_of, proved_of, cap_head_of, split_of};
 ghost use Rattle.sg_cert.specs.Reading.{repeat, fact_at, cap_from, cap_at, caps_at, line_begins, open_from, closed_from, base_from, base_at, leaf_of, leaf_from, split_from, deep_from, node_at};
 
 use crate::error::ReportError;
@@ -55,7 +55,7 @@ fn proved_in(line: &[u8]) -> Result<(u8, i64, u16), u8>
 
 /// The type, the bound and the number of facts.
 fn cap_in(line: &[u8]) -> Result<(u8, i64, u16), u8>
-    ensures { result ≡ cap_of (fields line.now) }
+    ensures { result ≡ cap_head_of (fields line.now) }
 {
     if has_word_at(2, b"plain", line) {
         plain_in(line)
@@ -65,7 +65,7 @@ fn cap_in(line: &[u8]) -> Result<(u8, i64, u16), u8>
 }
 
 fn facts(alloc: Global, lines: &mut Lines, n: u16) -> Result<Items<Fact>, ReportError>
-    ensures { Gives (λ fs. fs) result lines.new (repeat (λ done q. fact_at q) [] n lines.old) }
+    ensures { GivesLines (λ fs. fs) result lines.new (repeat (λ done q. fact_at q) [] n lines.old) }
 {
     let mut facts = Items::new(alloc);
     for _ in 0..n {
@@ -79,7 +79,7 @@ fn facts(alloc: Global, lines: &mut Lines, n: u16) -> Result<Items<Fact>, Report
 
 #[tactic(auto, unfolding(sg_cert::specs::Reading::cap_from))]
 fn cap_after(alloc: Global, lines: &mut Lines, line: &[u8]) -> Result<Cap, ReportError>
-    ensures { Gives (λ c. c) result lines.new (cap_from (fields line.now) lines.old) }
+    ensures { GivesLines (λ c. c) result lines.new (cap_from (fields line.now) lines.old) }
 {
     let (l, v, n) = lines.within(cap_in(line))?;
     let proof = facts(alloc, lines, n)?;
@@ -88,7 +88,7 @@ fn cap_after(alloc: Global, lines: &mut Lines, line: &[u8]) -> Result<Cap, Repor
 
 #[tactic(auto, unfolding(sg_cert::specs::Reading::cap_at))]
 fn cap(alloc: Global, lines: &mut Lines) -> Result<Cap, ReportError>
-    ensures { Gives (λ c. c) result lines.new (cap_at lines.old) }
+    ensures { GivesLines (λ c. c) result lines.new (cap_at lines.old) }
 {
     let line = lines.next()?;
     cap_after(alloc, lines, line)
@@ -106,7 +106,7 @@ fn next_begins(lines: &Lines, word: &[u8]) -> bool
 
 /// The caps as long as lines begin with their word, and at most so many.
 pub fn caps(alloc: Global, lines: &mut Lines, most: usize) -> Result<Items<Cap>, ReportError>
-    ensures { Gives (λ cs. cs) result lines.new (caps_at [] most lines.old) }
+    ensures { GivesLines (λ cs. cs) result lines.new (caps_at [] most lines.old) }
 {
     let mut caps = Items::new(alloc);
     for _ in 0..most {
@@ -123,7 +123,7 @@ pub fn caps(alloc: Global, lines: &mut Lines, most: usize) -> Result<Items<Cap>,
 
 #[tactic(auto, unfolding(sg_cert::specs::Reading::open_from))]
 fn open_after(lines: &Lines, line: &[u8]) -> Result<Option<Fact>, ReportFault>
-    ensures { Reads (λ f. f) result lines.now (open_from (fields line.now) lines.now) }
+    ensures { ReadsLines (λ f. f) result lines.now (open_from (fields line.now) lines.now) }
 {
     lines.within(shaped(b"open", 1, 1, line))?;
     Ok(None)
@@ -131,7 +131,7 @@ fn open_after(lines: &Lines, line: &[u8]) -> Result<Option<Fact>, ReportFault>
 
 #[tactic(auto, unfolding(sg_cert::specs::Reading::closed_from))]
 fn closed_after(alloc: Global, lines: &mut Lines, line: &[u8]) -> Result<Option<Fact>, ReportError>
-    ensures { Gives (λ f. f) result lines.new (closed_from (fields line.now) lines.old) }
+    ensures { GivesLines (λ f. f) result lines.new (closed_from (fields line.now) lines.old) }
 {
     let fact = fact_after(alloc, lines, line)?;
     Ok(Some(fact))
@@ -139,7 +139,7 @@ fn closed_after(alloc: Global, lines: &mut Lines, line: &[u8]) -> Result<Option<
 
 /// Open, or a fact, whose first line was read.
 fn base_after(alloc: Global, lines: &mut Lines, line: &[u8]) -> Result<Option<Fact>, ReportError>
-    ensures { Gives (λ f. f) result lines.new (base_from (fields line.now) lines.old) }
+    ensures { GivesLines (λ f. f) result lines.new (base_from (fields line.now) lines.old) }
 {
     if has_word_at(0, b"open", line) {
         match open_after(lines, line) {
@@ -153,7 +153,7 @@ fn base_after(alloc: Global, lines: &mut Lines, line: &[u8]) -> Result<Option<Fa
 
 #[tactic(auto, unfolding(sg_cert::specs::Reading::base_at))]
 fn base(alloc: Global, lines: &mut Lines) -> Result<Option<Fact>, ReportError>
-    ensures { Gives (λ f. f) result lines.new (base_at lines.old) }
+    ensures { GivesLines (λ f. f) result lines.new (base_at lines.old) }
 {
     let line = lines.next()?;
     base_after(alloc, lines, line)
@@ -181,7 +181,7 @@ fn leaf(fact: Option<Fact>) -> Tree
 
 #[tactic(auto, unfolding(sg_cert::specs::Reading::leaf_from))]
 fn leaf_after(alloc: Global, lines: &mut Lines, line: &[u8]) -> Result<Tree, ReportError>
-    ensures { Gives (λ t. t) result lines.new (leaf_from (fields line.now) lines.old) }
+    ensures { GivesLines (λ t. t) result lines.new (leaf_from (fields line.now) lines.old) }
 {
     let fact = base_after(alloc, lines, line)?;
     Ok(leaf(fact))
@@ -207,7 +207,7 @@ fn deep_after(lines: &Lines, line: &[u8]) -> ReportFault
 
 #[cycle(tree)]
 fn parts(alloc: Global, lines: &mut Lines, left: u8, n: u16) -> Result<Items<Tree>, ReportError>
-    ensures { Gives (λ ts. ts) result lines.new (repeat (λ done q. node_at left q) [] n lines.old) }
+    ensures { GivesLines (λ ts. ts) result lines.new (repeat (λ done q. node_at left q) [] n lines.old) }
 {
     let mut parts = Items::new(alloc);
     for _ in 0..n {
@@ -221,7 +221,7 @@ fn parts(alloc: Global, lines: &mut Lines, left: u8, n: u16) -> Result<Items<Tre
 
 #[cycle(tree)]
 fn split_after(alloc: Global, lines: &mut Lines, left: u8, line: &[u8]) -> Result<Tree, ReportError>
-    ensures { Gives (λ t. t) result lines.new (split_from (node_at left) (fields line.now) lines.old) }
+    ensures { GivesLines (λ t. t) result lines.new (split_from (node_at left) (fields line.now) lines.old) }
 {
     let (l, n) = match split_line(lines, line) {
         Ok(split) => split,
@@ -240,7 +240,7 @@ fn split_after(alloc: Global, lines: &mut Lines, left: u8, line: &[u8]) -> Resul
 /// A node with at most so many splits below one another.
 #[cycle(tree)]
 pub fn node(alloc: Global, lines: &mut Lines, left: u8) -> Result<Tree, ReportError>
-    ensures { Gives (λ t. t) result lines.new (node_at left lines.old) }
+    ensures { GivesLines (λ t. t) result lines.new (node_at left lines.old) }
 {
     match lines.next() {
         Err(fault) => Err(ReportError::Refused(fault)),

@@ -3,7 +3,7 @@
 ghost use Rattle.std.specs.Prelude.{◌≡◌, ◌-◌, ◌^◌, [], Ok, Err, codes, length};
 ghost use Rattle.sg_cert.specs.Fields.{fields};
 ghost use Rattle.sg_cert.specs.Lines.{line_at, at_line, start};
-ghost use Rattle.sg_cert_reader.specs.Steps.{Reads, Gives, Tells};
+ghost use Rattle.sg_cert_reader.specs.Steps.{ReadsLines, GivesLines, GivesReport};
 ghost use Rattle.sg_cert.specs.Reading.{word_line_at, first_at, head_at, proof_at, end_of, tail_of, report_of};
 
 use crate::error::ReportError;
@@ -22,7 +22,7 @@ use std::alloc::Global;
 /// A line of this word alone.
 #[tactic(auto, unfolding(sg_cert::specs::Reading::word_line_at))]
 fn word_line(lines: &mut Lines, word: &[u8]) -> Result<(), ReportFault>
-    ensures { Reads (λ x. x) result lines.new (word_line_at word.now lines.old) }
+    ensures { ReadsLines (λ x. x) result lines.new (word_line_at word.now lines.old) }
 {
     let line = lines.next()?;
     lines.within(shaped(word, 1, 1, line))
@@ -31,7 +31,7 @@ fn word_line(lines: &mut Lines, word: &[u8]) -> Result<(), ReportFault>
 /// The first line, which is just so.
 #[tactic(auto, unfolding(sg_cert::specs::Reading::first_at))]
 fn first(lines: &mut Lines, text: &[u8]) -> Result<(), ReportFault>
-    ensures { Reads (λ x. x) result lines.new (first_at text.now lines.old) }
+    ensures { ReadsLines (λ x. x) result lines.new (first_at text.now lines.old) }
 {
     let line = lines.next()?;
     if line == text {
@@ -44,7 +44,7 @@ fn first(lines: &mut Lines, text: &[u8]) -> Result<(), ReportFault>
 /// The first line, the tickets and their value.
 #[tactic(auto, unfolding(sg_cert::specs::Reading::head_at))]
 fn head(alloc: Global, lines: &mut Lines) -> Result<(Claim, Frac), ReportError>
-    ensures { Gives (λ x. x) result lines.new (head_at lines.old) }
+    ensures { GivesLines (λ x. x) result lines.new (head_at lines.old) }
 {
     first(lines, b"patrol-report 1")?;
     let tickets = claim(alloc, lines)?;
@@ -57,7 +57,7 @@ fn head(alloc: Global, lines: &mut Lines) -> Result<(Claim, Frac), ReportError>
 /// The caps and the tree.
 #[tactic(auto, unfolding(sg_cert::specs::Reading::proof_at))]
 fn proof(alloc: Global, lines: &mut Lines) -> Result<(Items<Cap>, Tree), ReportError>
-    ensures { Gives (λ x. x) result lines.new (proof_at lines.old) }
+    ensures { GivesLines (λ x. x) result lines.new (proof_at lines.old) }
 {
     let most = lines.left();
     let caps = caps(alloc, lines, most)?;
@@ -79,7 +79,7 @@ fn close(lines: &mut Lines) -> Result<(), ReportFault>
 /// The upper bound and the verdict, up to the end of the bytes.
 #[tactic(auto, unfolding(sg_cert::specs::Reading::tail_of))]
 fn tail(alloc: Global, lines: &mut Lines) -> Result<(Frac, Ending), ReportError>
-    ensures { Tells (λ x. x) result (tail_of lines.old) }
+    ensures { GivesReport (λ x. x) result (tail_of lines.old) }
 {
     let upper = fraction(lines, b"upper")?;
     let ending = verdict(alloc, lines)?;
@@ -92,7 +92,7 @@ fn tail(alloc: Global, lines: &mut Lines) -> Result<(Frac, Ending), ReportError>
 /// The report that the bytes spell, all of the bytes.
 #[tactic(auto, unfolding(sg_cert::specs::Reading::report_of))]
 pub fn read_report(alloc: Global, bytes: &[u8]) -> Result<Report, ReportError>
-    ensures { Tells (λ r. r) result (report_of bytes.now) }
+    ensures { GivesReport (λ r. r) result (report_of bytes.now) }
 {
     let mut lines = Lines::new(bytes);
     let (tickets, value) = head(alloc, &mut lines)?;

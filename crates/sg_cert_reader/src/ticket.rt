@@ -4,7 +4,7 @@ ghost use Rattle.std.specs.Prelude.{◌≡◌, ◌-◌, ◌^◌, ◌≤◌, [], 
 ghost use Rattle.std.specs.Option.{option_copied};
 ghost use Rattle.sg_tree.specs.Claims.{is_claim};
 ghost use Rattle.sg_cert.specs.Fields.{fields};
-ghost use Rattle.sg_cert_reader.specs.Steps.{Gives};
+ghost use Rattle.sg_cert_reader.specs.Steps.{GivesLines};
 ghost use Rattle.sg_cert.specs.LineReading.{in_order, counts_of, follows, MayStand, ticket_head_of, ticket_end_of, ticket_of};
 ghost use Rattle.sg_cert.specs.Reading.{repeat, last_play, ticket_at, claim_at};
 
@@ -89,7 +89,7 @@ fn last_choices(tickets: &[Ticket]) -> Option<&[u16]>
 
 #[tactic(auto, unfolding(sg_cert::specs::Reading::ticket_at))]
 fn next_ticket(alloc: Global, lines: &mut Lines, done: &[Ticket]) -> Result<Ticket, ReportError>
-    ensures read { Gives (λ t. t) result lines.new (ticket_at done.now lines.old) }
+    ensures read { GivesLines (λ t. t) result lines.new (ticket_at done.now lines.old) }
     ensures rules { IfOk result (λ t. MayStand (last_play done.now) t) }
 {
     let line = match lines.next() {
@@ -105,7 +105,7 @@ fn next_ticket(alloc: Global, lines: &mut Lines, done: &[Ticket]) -> Result<Tick
 
 fn tickets(alloc: Global, lines: &mut Lines, plays: u128) -> Result<Items<Ticket>, ReportError>
     requires { 1 ≤ plays }
-    ensures read { Gives (λ ts. ts) result lines.new (repeat ticket_at [] plays lines.old) }
+    ensures read { GivesLines (λ ts. ts) result lines.new (repeat ticket_at [] plays lines.old) }
     ensures rules { IfOk result (λ ts. is_claim ts ≡ true) }
 {
     let mut tickets = Items::new(alloc);
@@ -133,7 +133,7 @@ fn counts_in(line: &[u8]) -> Result<(u128, i128), u8>
 /// The line of the number and total, and the tickets.
 #[tactic(auto, unfolding(sg_cert::specs::Reading::claim_at))]
 pub fn claim(alloc: Global, lines: &mut Lines) -> Result<Claim, ReportError>
-    ensures { Gives (λ k. k) result lines.new (claim_at lines.old) }
+    ensures { GivesLines (λ k. k) result lines.new (claim_at lines.old) }
 {
     let line = lines.next()?;
     let (plays, total) = lines.within(counts_in(line))?;

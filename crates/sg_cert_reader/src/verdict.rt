@@ -2,7 +2,7 @@
 
 ghost use Rattle.std.specs.Prelude.{◌≡◌, ◌-◌, ◌^◌, ◌≤◌, [], IfOk, Ok, Err, codes};
 ghost use Rattle.sg_cert.specs.Fields.{fields};
-ghost use Rattle.sg_cert_reader.specs.Steps.{Gives};
+ghost use Rattle.sg_cert_reader.specs.Steps.{GivesLines};
 ghost use Rattle.sg_cert.specs.LineReading.{fix_of, nodes_of, pivots_head_of, pivots_of, looks_head_of, looks_of, wide_head_of, wide_as, wide_of, cause_of, optimal_of, gap_of, verdict_of};
 ghost use Rattle.sg_cert.specs.Reading.{verdict_at};
 ghost use Rattle.sg_num.specs.declared.step.Op.TheVariants.{Sum, Less, Times};
@@ -198,7 +198,7 @@ fn verdict_in(alloc: Global, line: &[u8]) -> Result<Result<Ending, u8>, AllocErr
 /// The verdict on the next line.
 #[tactic(auto, unfolding(sg_cert::specs::Reading::verdict_at))]
 pub fn verdict(alloc: Global, lines: &mut Lines) -> Result<Ending, ReportError>
-    ensures { Gives (λ e. e) result lines.new (verdict_at lines.old) }
+    ensures { GivesLines (λ e. e) result lines.new (verdict_at lines.old) }
 {
     let line = match lines.next() {
         Ok(line) => line,

@@ -6,7 +6,7 @@ use Rattle.sg_shelf.specs.declared.sink.SinkError.{SinkError}
 use Rattle.sg_shelf.specs.Taken.{Takes, TakesFront}
 use Rattle.std.proofs.Common.{take-append-drop}
 use Rattle.sg_cert.specs.Text.{spaced}
-use Rattle.sg_cert_writer.specs.Writing.{Shown, Adds, Stops, Writes}
+use Rattle.sg_cert_writer.specs.Writing.{Shown, Adds, StopsInside, Writes}
 
 Takes-none : (a : Option (List ℕ)) → Takes a a []
 Takes-none None = refl
@@ -32,7 +32,7 @@ take_past : (xs ys : List ℕ) (n : ℕ) → take (length xs + n) (xs ++ ys) ≡
 take_past [] ys n = let k : 0 + n ≡ n = omega arith in rw k refl
 take_past (x ∷ xs) ys n = let k : length (x ∷ xs) + n ≡ suc (length xs + n) = omega arith in rw k (ap (λ (zs : List ℕ). x ∷ zs) (take_past xs ys n))
 
-pub Stops-trans : (a b c : Shown) (p q t u : List ℕ) → Adds a p b q t → Stops b q c u → Stops a p c (t ++ u)
+pub Stops-trans : (a b c : Shown) (p q t u : List ℕ) → Adds a p b q t → StopsInside b q c u → StopsInside a p c (t ++ u)
 Stops-trans a b c p q t u x y =
     let all : x.put ++ (q ++ u) ≡ p ++ (t ++ u) = sym (append_assoc x.put q u) ∙ ap (λ (xs : List ℕ). xs ++ u) x.all ∙ append_assoc p t u in
     record {
@@ -56,7 +56,7 @@ take_front [] ys (suc n) = refl
 take_front (x ∷ xs) ys zero = refl
 take_front (x ∷ xs) ys (suc n) = ap (λ (zs : List ℕ). x ∷ zs) (take_front xs ys n)
 
-pub Stops-early : (a c : Shown) (p t u : List ℕ) → Stops a p c t → Stops a p c (t ++ u)
+pub Stops-early : (a c : Shown) (p t u : List ℕ) → StopsInside a p c t → StopsInside a p c (t ++ u)
 Stops-early a c p t u x = record {
   size = least x.size (length (p ++ t));
   taken = subst (λ (xs : List ℕ). Takes a.0 c.0 xs) (sym (take_front (p ++ t) u x.size) ∙ ap (take (least x.size (length (p ++ t)))) (append_assoc p t u)) x.taken;
@@ -102,12 +102,12 @@ folds_more {A = A} F k f xs i x d lt is a b c p q r so_far more =
 
 -- an item that stopped
 pub folds_stop : {A : Type 0} (F : List A → List ℕ) (k : A → List ℕ) → Folds F k → (xs : List A) (i : ℕ) (x d : A) → i < length xs → x ≡ get_or xs i d
-    → (a b c : Shown) (p q : List ℕ) → Adds a p b q (F (take i xs)) → Stops b q c (k x) → Stops a p c (F xs)
+    → (a b c : Shown) (p q : List ℕ) → Adds a p b q (F (take i xs)) → StopsInside b q c (k x) → StopsInside a p c (F xs)
 folds_stop {A = A} F k f xs i x d lt is a b c p q so_far stop =
     let e : (F (take i xs) ++ k x) ++ F (drop (i + 1) xs) ≡ F xs =
     ap (λ (t : List ℕ). t ++ F (drop (i + 1) xs)) (sym (folds_push F k f (take i xs) x)) ∙ sym (folds_append F k f (take i xs ++ x ∷ []) (drop (i + 1) xs))
     ∙ ap F (ap (λ (y : A). (take i xs ++ y ∷ []) ++ drop (i + 1) xs) is ∙ split_here xs i d lt) in
-    subst (λ (t : List ℕ). Stops a p c t) e (Stops-early a c p (F (take i xs) ++ k x) (F (drop (i + 1) xs)) (Stops-trans a b c p q (F (take i xs)) (k x) so_far stop))
+    subst (λ (t : List ℕ). StopsInside a p c t) e (Stops-early a c p (F (take i xs) ++ k x) (F (drop (i + 1) xs)) (Stops-trans a b c p q (F (take i xs)) (k x) so_far stop))
 
 pub folds_end : {A : Type 0} (F : List A → List ℕ) (xs : List A) (i : ℕ) → length xs ≤ i → (a b : Shown) (p q : List ℕ) → Adds a p b q (F (take i xs)) → Adds a p b q (F xs)
 folds_end {A = A} F xs i le a b p q so_far = subst (λ (ys : List A). Adds a p b q (F ys)) (take_all i xs le) so_far
@@ -122,8 +122,8 @@ folds_bytes = record { nil = refl; cons = λ x xs. refl }
 pub folds_spaced : {A : Type 0} (h : A → List ℕ) → Folds (λ (xs : List A). spaced (map h xs)) (λ (x : A). 32 ∷ h x)
 folds_spaced h = record { nil = refl; cons = λ x xs. refl }
 
-pub Stops-as : (a c : Shown) (p t u : List ℕ) → t ≡ u → Stops a p c t → Stops a p c u
-Stops-as a c p t u e w = subst (λ (xs : List ℕ). Stops a p c xs) e w
+pub Stops-as : (a c : Shown) (p t u : List ℕ) → t ≡ u → StopsInside a p c t → StopsInside a p c u
+Stops-as a c p t u e w = subst (λ (xs : List ℕ). StopsInside a p c xs) e w
 
 -- ---- a whole text, from an empty block
 
@@ -136,7 +136,7 @@ whole_put a b c q t x y =
     let e : y.put ≡ q = sym (append-nil y.put) ∙ y.all ∙ append-nil q in
     Takes-as a.0 c.0 (x.put ++ y.put) t (ap (λ (zs : List ℕ). x.put ++ zs) e ∙ x.all) (Takes-both a.0 b.0 c.0 x.put y.put x.taken y.taken)
 
-last_front : (a b c : Shown) (q t : List ℕ) → Adds a [] b q t → Stops b q c [] → TakesFront a.0 c.0 t
+last_front : (a b c : Shown) (q t : List ℕ) → Adds a [] b q t → StopsInside b q c [] → TakesFront a.0 c.0 t
 last_front a b c q t x y =
     let s = Stops-trans a b c [] q t [] x y in
     (s.size, subst (λ (xs : List ℕ). Takes a.0 c.0 (take s.size xs)) (append-nil t) s.taken)

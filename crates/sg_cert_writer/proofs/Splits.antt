@@ -5,7 +5,7 @@ use Rattle.sg_tree.specs.declared.fact.Fact.{Fact}
 use Rattle.sg_tree.specs.declared.tree.Tree.{Tree}
 use Rattle.sg_tree.specs.declared.tree.Tree.TheVariants.{Split}
 use Rattle.sg_cert.specs.Text.{base_rows, node_rows, split_row, text_of}
-use Rattle.sg_cert_writer.specs.Writing.{Shown, Adds, Stops}
+use Rattle.sg_cert_writer.specs.Writing.{Shown, Adds, StopsInside}
 use Rattle.sg_cert_writer.proofs.Adding.{folds_more, folds_stop, folds_end, folds_start, Adds-trans, Stops-trans, Stops-early, Stops-as}
 use Rattle.sg_cert_writer.proofs.LineTexts.{folds_blocks, report_split}
 use Rattle.sg_cert.proofs.Trees.{rows_split}
@@ -51,7 +51,7 @@ split_more t a b c p q r parts i x lt is h more = record {
 }
 
 pub split_stop : (t : Tree) (a b c : Shown) (p q : List ℕ) (parts : List Tree) (i : ℕ) (x : Tree) → i < length parts → x ≡ get_or parts i x
-    → SplitSoFar a p b q t parts i → Stops b q c (text_of (node_rows x)) → Stops a p c (text_of (node_rows t))
+    → SplitSoFar a p b q t parts i → StopsInside b q c (text_of (node_rows x)) → StopsInside a p c (text_of (node_rows t))
 split_stop t a b c p q parts i x lt is h stop =
     Stops-as a c p _ _ h.whole
     (Stops-trans a h.middle c p h.pending h.front (texts parts) h.before
@@ -63,7 +63,7 @@ split_end t a b p q parts i le h =
     subst (λ (u : List ℕ). Adds a p b q u) h.whole
     (Adds-trans a h.middle b p h.pending q h.front (texts parts) h.before (folds_end texts parts i le h.middle b h.pending q h.after))
 
-pub split_early : (t : Tree) (l : ℕ) (base : Option Fact) (a c : Shown) (p : List ℕ) (parts : List Tree) → t ≡ Split l base parts → Stops a p c (front_of l base parts) → Stops a p c (text_of (node_rows t))
+pub split_early : (t : Tree) (l : ℕ) (base : Option Fact) (a c : Shown) (p : List ℕ) (parts : List Tree) → t ≡ Split l base parts → StopsInside a p c (front_of l base parts) → StopsInside a p c (text_of (node_rows t))
 split_early t l base a c p parts e stop = Stops-as a c p _ _ (texts_split t l base parts e) (Stops-early a c p (front_of l base parts) (texts parts) stop)
 
 pub front_count : (l n : ℕ) (base : Option Fact) (parts : List Tree) → n ≡ length parts → text_of (split_row l n ∷ base_rows base) ≡ front_of l base parts

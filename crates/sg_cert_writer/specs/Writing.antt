@@ -16,7 +16,7 @@ pub record Adds (before : Shown) (pending : List ℕ) (after : Shown) (left : Li
   pub count : before.1 ≤ after.1
 
 -- The sink failed: a front of it all was put.
-pub record Stops (before : Shown) (pending : List ℕ) (after : Shown) (text : List ℕ) : Type 0 where
+pub record StopsInside (before : Shown) (pending : List ℕ) (after : Shown) (text : List ℕ) : Type 0 where
   pub size : ℕ
   pub taken : Takes before.0 after.0 (take size (pending ++ text))
   pub count : before.1 ≤ after.1
@@ -26,4 +26,4 @@ pub record Stops (before : Shown) (pending : List ℕ) (after : Shown) (text : L
 -- one of the two, by the answer
 abbrev pub Writes : Result (Unit {0}) SinkError → Shown → List ℕ → Shown → List ℕ → List ℕ → Type 0
 Writes (Ok u) before pending after left text = Adds before pending after left text
-Writes (Err e) before pending after left text = Stops before pending after text
+Writes (Err e) before pending after left text = StopsInside before pending after text

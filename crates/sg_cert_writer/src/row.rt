@@ -2,7 +2,7 @@
 
 ghost use Rattle.std.specs.Prelude.{◌≡◌, ◌++◌, ◌∷◌, [], ◌≤◌, ◌-◌, ◌^◌, length, map, decimal, codes};
 ghost use Rattle.std.specs.Fmt.{signed_decimal};
-ghost use Rattle.sg_model.specs.ReportText.{line};
+ghost use Rattle.sg_model.specs.TextLines.{field_line};
 ghost use Rattle.sg_tree.specs.declared.fact.Fact.TheVariants.{Water};
 ghost use Rattle.sg_tree.specs.declared.report.Cause.TheVariants as causes;
 ghost use Rattle.sg_cert.specs.Text.{spell, spaced, text_of, fraction_row, ticket_row, mark_row, line_row, fact_rows, cap_row, split_row, op_word, fix_fields, cause_fields, verdict_row};
@@ -22,7 +22,7 @@ pub fn put_line<O: Sink>(
     words: &[u8],
     numbers: &[i128],
 ) -> Result<(), SinkError>
-    ensures { Writes result (O.taken out.old, O.faults out.old) block.old (O.taken out.new, O.faults out.new) block.new (line words.now (map signed_decimal numbers.now)) }
+    ensures { Writes result (O.taken out.old, O.faults out.old) block.old (O.taken out.new, O.faults out.new) block.new (field_line words.now (map signed_decimal numbers.now)) }
 {
     match put_part(out, block, words, numbers) {
         Ok(()) => put_bytes(out, block, b"\n"),
@@ -38,7 +38,7 @@ fn put_list_line<O: Sink>(
     numbers: &[i128],
     choices: &[u16],
 ) -> Result<(), SinkError>
-    ensures { Writes result (O.taken out.old, O.faults out.old) block.old (O.taken out.new, O.faults out.new) block.new (line words.now (map signed_decimal numbers.now ++ map decimal choices.now)) }
+    ensures { Writes result (O.taken out.old, O.faults out.old) block.old (O.taken out.new, O.faults out.new) block.new (field_line words.now (map signed_decimal numbers.now ++ map decimal choices.now)) }
 {
     match put_part(out, block, words, numbers) {
         Ok(()) => put_choices_end(out, block, choices),
@@ -112,7 +112,7 @@ fn put_rest<O: Sink>(
     numbers: &[i128],
     choices: &[u16],
 ) -> Result<(), SinkError>
-    ensures { Writes result (O.taken out.old, O.faults out.old) block.old (O.taken out.new, O.faults out.new) block.new (32 ∷ line word.now (map signed_decimal numbers.now ++ map decimal choices.now)) }
+    ensures { Writes result (O.taken out.old, O.faults out.old) block.old (O.taken out.new, O.faults out.new) block.new (32 ∷ field_line word.now (map signed_decimal numbers.now ++ map decimal choices.now)) }
 {
     match put_bytes(out, block, b" ") {
         Ok(()) => put_list_line(out, block, word, numbers, choices),
@@ -136,7 +136,7 @@ fn put_word_line<O: Sink>(
     word: &[u8],
     around: Around,
 ) -> Result<(), SinkError>
-    ensures { Writes result (O.taken out.old, O.faults out.old) block.old (O.taken out.new, O.faults out.new) block.new (line words.now (map signed_decimal around.entry.before.now ++ word.now ∷ (map signed_decimal around.entry.after.now ++ map decimal around.entry.choices.now))) }
+    ensures { Writes result (O.taken out.old, O.faults out.old) block.old (O.taken out.new, O.faults out.new) block.new (field_line words.now (map signed_decimal around.entry.before.now ++ word.now ∷ (map signed_decimal around.entry.after.now ++ map decimal around.entry.choices.now))) }
 {
     match put_part(out, block, words, around.before) {
         Ok(()) => put_rest(out, block, word, around.after, around.choices),
@@ -254,7 +254,7 @@ fn put_number_line<O: Sink>(
     words: &[u8],
     number: u64,
 ) -> Result<(), SinkError>
-    ensures { Writes result (O.taken out.old, O.faults out.old) block.old (O.taken out.new, O.faults out.new) block.new (line words.now (decimal number ∷ [])) }
+    ensures { Writes result (O.taken out.old, O.faults out.old) block.old (O.taken out.new, O.faults out.new) block.new (field_line words.now (decimal number ∷ [])) }
 {
     put_line(out, block, words, &[i128::from(number)])
 }
@@ -267,7 +267,7 @@ fn put_node_line<O: Sink>(
     number: u64,
     fix: &Fix,
 ) -> Result<(), SinkError>
-    ensures { Writes result (O.taken out.old, O.faults out.old) block.old (O.taken out.new, O.faults out.new) block.new (line words.now (decimal number ∷ fix_fields fix.now)) }
+    ensures { Writes result (O.taken out.old, O.faults out.old) block.old (O.taken out.new, O.faults out.new) block.new (field_line words.now (decimal number ∷ fix_fields fix.now)) }
 {
     put_list_line(
         out,
@@ -291,7 +291,7 @@ fn put_step_line<O: Sink>(
     step: u64,
     fix: &Fix,
 ) -> Result<(), SinkError>
-    ensures { Writes result (O.taken out.old, O.faults out.old) block.old (O.taken out.new, O.faults out.new) block.new (line words.now (decimal number ∷ decimal step ∷ fix_fields fix.now)) }
+    ensures { Writes result (O.taken out.old, O.faults out.old) block.old (O.taken out.new, O.faults out.new) block.new (field_line words.now (decimal number ∷ decimal step ∷ fix_fields fix.now)) }
 {
     put_list_line(
         out,
@@ -317,7 +317,7 @@ fn put_value_line<O: Sink>(
     step: u64,
     fix: &Fix,
 ) -> Result<(), SinkError>
-    ensures { Writes result (O.taken out.old, O.faults out.old) block.old (O.taken out.new, O.faults out.new) block.new (line words.now (decimal name ∷ op_word wide.now.op ∷ signed_decimal wide.now.left ∷ signed_decimal wide.now.right ∷ decimal step ∷ fix_fields fix.now)) }
+    ensures { Writes result (O.taken out.old, O.faults out.old) block.old (O.taken out.new, O.faults out.new) block.new (field_line words.now (decimal name ∷ op_word wide.now.op ∷ signed_decimal wide.now.left ∷ signed_decimal wide.now.right ∷ decimal step ∷ fix_fields fix.now)) }
 {
     put_word_line(
         out,

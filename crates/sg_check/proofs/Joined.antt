@@ -5,18 +5,18 @@ use Rattle.sg_model.specs.Games.{Game}
 use Rattle.sg_tree.specs.declared.report.Report.{Report}
 use Rattle.sg_bounds.specs.Checking.{AllPass, Stop, bound_stops, cap_lines, caps_stops, root_line, stops_of, ticket_stops, value_line}
 use Rattle.sg_check.specs.declared.refusal.Refusal.{Refusal}
-use Rattle.sg_check.specs.Answering.{Answers, Refuses}
+use Rattle.sg_check.specs.Answering.{AnswersTests, TellsFirst}
 use Rattle.sg_check.specs.Parts.{closing_stops, opening_stops, total_stops, worth_stops}
 use Rattle.sg_check.proofs.Firsts.{AllPass-append, FirstFails-left, FirstFails-right}
 
-pub answers-then : {X : Type 0} (g : Game) (r : Report) (xs ys : List Stop) (result : Result X Refusal) → AllPass g r xs → Answers g r ys result → Answers g r (xs ++ ys) result
+pub answers-then : {X : Type 0} (g : Game) (r : Report) (xs ys : List Stop) (result : Result X Refusal) → AllPass g r xs → AnswersTests g r ys result → AnswersTests g r (xs ++ ys) result
 answers-then g r xs ys (Ok done) h k = AllPass-append g r xs ys h k
 answers-then g r xs ys (Err f) h k = (k.0, FirstFails-right g r xs ys k.0 f.reason h k.1, k.2)
 
-pub refuses-behind : (g : Game) (r : Report) (xs ys : List Stop) (f : Refusal) → AllPass g r xs → Refuses g r ys f → Refuses g r (xs ++ ys) f
+pub refuses-behind : (g : Game) (r : Report) (xs ys : List Stop) (f : Refusal) → AllPass g r xs → TellsFirst g r ys f → TellsFirst g r (xs ++ ys) f
 refuses-behind g r xs ys f h k = (k.0, FirstFails-right g r xs ys k.0 f.reason h k.1, k.2)
 
-pub refuses-then : (g : Game) (r : Report) (xs ys : List Stop) (f : Refusal) → Refuses g r xs f → Refuses g r (xs ++ ys) f
+pub refuses-then : (g : Game) (r : Report) (xs ys : List Stop) (f : Refusal) → TellsFirst g r xs f → TellsFirst g r (xs ++ ys) f
 refuses-then g r xs ys f k = (k.0, FirstFails-left g r xs ys k.0 f.reason k.1, k.2)
 
 pass-right : (g : Game) (r : Report) (xs ys : List Stop) → AllPass g r (xs ++ ys) → AllPass g r ys
@@ -35,8 +35,8 @@ root-behind_value g r one h =
 whole : (g : Game) (r : Report) → opening_stops r ++ closing_stops g r ≡ stops_of g r
 whole g r = append_assoc (ticket_stops 3 r.tickets.tickets) (total_stops ++ worth_stops r) (closing_stops g r)
 
-pub opened : {X : Type 0} (g : Game) (r : Report) (result : Result X Refusal) → Answers g r (opening_stops r ++ closing_stops g r) result → Answers g r (stops_of g r) result
-opened g r result h = subst (λ (ss : List Stop). Answers g r ss result) (whole g r) h
+pub opened : {X : Type 0} (g : Game) (r : Report) (result : Result X Refusal) → AnswersTests g r (opening_stops r ++ closing_stops g r) result → AnswersTests g r (stops_of g r) result
+opened g r result h = subst (λ (ss : List Stop). AnswersTests g r ss result) (whole g r) h
 
-pub refuses-opened : (g : Game) (r : Report) (f : Refusal) → Refuses g r (opening_stops r ++ closing_stops g r) f → Refuses g r (stops_of g r) f
-refuses-opened g r f h = subst (λ (ss : List Stop). Refuses g r ss f) (whole g r) h
+pub refuses-opened : (g : Game) (r : Report) (f : Refusal) → TellsFirst g r (opening_stops r ++ closing_stops g r) f → TellsFirst g r (stops_of g r) f
+refuses-opened g r f h = subst (λ (ss : List Stop). TellsFirst g r ss f) (whole g r) h

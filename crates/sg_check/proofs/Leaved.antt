@@ -17,7 +17,7 @@ use Rattle.sg_check.specs.declared.measures.Measures.{Measures}
 use Rattle.sg_check.specs.declared.refusal.Refusal.{Refusal}
 use Rattle.sg_check.specs.declared.tree.Leaf.{Leaf}
 use Rattle.sg_check.specs.declared.tree.Top.{Top}
-use Rattle.sg_check.specs.Answering.{BoundAnswers, ForkAnswers, IsTop, LeafAnswers, PartsAnswer, Refuses, RootAnswers, Shows, held}
+use Rattle.sg_check.specs.Answering.{BoundAnswers, ForkAnswers, IsGreatestBound, LeafAnswers, PartsAnswer, TellsFirst, RootAnswers, ShowsOnly, held_line}
 use Rattle.sg_check.specs.Covered.{is_cover, node_has_cover, parts_have_cover}
 use Rattle.sg_check.specs.Spreads.{AreMeasures}
 use Rattle.sg_check.proofs.Firsts.{IsRest, rest-fails, rest-itself, rest-next}
@@ -31,16 +31,16 @@ leaf-open g r m h n act t b is form =
     rw (is, node_of-Unproved) (tt, refl, (root_bound g, refl, den, form))
 
 pub leaf-closed : (g : Game) (r : Report) (n act : ℕ) (t : Tree) (f : Fact) (lines : ℕ) (b : Option Fraction) → t ≡ Closed f
-    → BoundAnswers g r (fact_stops n (act ∷ []) f) (listed (fact_bound g r.caps 1 f)) (Ok b) → lines ≡ held (fact_lines f)
+    → BoundAnswers g r (fact_stops n (act ∷ []) f) (listed (fact_bound g r.caps 1 f)) (Ok b) → lines ≡ held_line (fact_lines f)
     → LeafAnswers g r n act (node_of t) (Ok (record { lines = lines; bound = b }))
 leaf-closed g r n act t f lines b is h e = rw (is, node_of-Closed f) (h.0, e, h.1)
 
 pub leaf-fails : (g : Game) (r : Report) (n act : ℕ) (t : Tree) (f : Fact) (x : Refusal) → t ≡ Closed f
-    → Refuses g r (fact_stops n (act ∷ []) f) x → LeafAnswers g r n act (node_of t) (Err x)
+    → TellsFirst g r (fact_stops n (act ∷ []) f) x → LeafAnswers g r n act (node_of t) (Err x)
 leaf-fails g r n act t f x is h = rw (is, node_of-Closed f) h
 
 pub leaf-split : (g : Game) (r : Report) (n act line : ℕ) (t : Tree) (l : ℕ) (base : Option Fact) (parts : List Tree) → t ≡ Split l base parts → length g.types ≡ 1
-    → line ≡ held n → LeafAnswers g r n act (node_of t) (Err (record { line = line; reason = 5 }))
+    → line ≡ held_line n → LeafAnswers g r n act (node_of t) (Err (record { line = line; reason = 5 }))
 leaf-split g r n act line t l base parts is one e = rw (is, node_of-Split l base parts) (n, inl ((λ p. absurd (omega (arith, p.0, p.1, one))), refl, refl), e)
 
 pub closed-no_cover : (t : Tree) (f : Fact) → t ≡ Closed f → node_has_cover (node_of t) ≡ false → is_cover f ≡ false
@@ -61,12 +61,12 @@ bounds-push g caps n above (y ∷ xs) x =
 -- what a walk over parts from line n has come to, before part i
 pub record HasWalked (g : Game) (r : Report) (n next : ℕ) (best : Fraction) (i : ℕ) (parts : List Tree) : Type 0 where
   pub at : ℕ
-  pub line : next ≡ held at
+  pub line : next ≡ held_line at
   pub rest : IsRest g r (part_stops n [] 1 (nodes parts)) (part_stops at [] (i + 1) (nodes (drop i parts)))
   pub lines : at + part_lines (nodes (drop i parts)) ≡ n + part_lines (nodes parts)
-  pub top : IsTop best (r.value ∷ part_bounds g r.caps 1 (Some (root_bound g)) (nodes (take i parts)))
+  pub top : IsGreatestBound best (r.value ∷ part_bounds g r.caps 1 (Some (root_bound g)) (nodes (take i parts)))
 
-pub walk-start : (g : Game) (r : Report) (n line : ℕ) (best : Fraction) (parts : List Tree) → line ≡ held n → best ≡ r.value → IsReduced best → HasWalked g r n line best 0 parts
+pub walk-start : (g : Game) (r : Report) (n line : ℕ) (best : Fraction) (parts : List Tree) → line ≡ held_line n → best ≡ r.value → IsReduced best → HasWalked g r n line best 0 parts
 walk-start g r n line best parts e same reduced = record {
   at = n;
   line = e;
@@ -82,9 +82,9 @@ part_taken : (parts : List Tree) (i : ℕ) (x : Tree) → i < length parts → x
 part_taken parts i x lt is = take_more parts i x lt ∙ ap (λ (y : Tree). take i parts ++ y ∷ []) (sym is)
 
 pub walk-more : (g : Game) (r : Report) (n next after : ℕ) (best raised : Fraction) (i : ℕ) (x : Tree) (parts : List Tree) (leaf : Leaf) → i < length parts → x ≡ get_or parts i x
-    → (h : HasWalked g r n next best i parts) → ((k : ℕ) → next ≡ held k → LeafAnswers g r k (i + 1) (node_of x) (Ok leaf))
+    → (h : HasWalked g r n next best i parts) → ((k : ℕ) → next ≡ held_line k → LeafAnswers g r k (i + 1) (node_of x) (Ok leaf))
     → after ≡ min (next + leaf.lines) (2 ^ 64 - 1)
-    → ((bounds more : List Fraction) → IsTop best bounds → Shows more leaf.bound → IsTop raised (bounds ++ more))
+    → ((bounds more : List Fraction) → IsGreatestBound best bounds → ShowsOnly more leaf.bound → IsGreatestBound raised (bounds ++ more))
     → HasWalked g r n after raised (i + 1) parts
 walk-more g r n next after best raised i x parts leaf lt is h answers e rises =
     let a = answers h.at h.line in
@@ -100,11 +100,11 @@ walk-more g r n next after best raised i x parts leaf lt is h answers e rises =
       line = omega (arith, e, h.line, a.1);
       rest = rest-next g r (part_stops n [] 1 (nodes parts)) (tree_stops h.at ((i + 1) ∷ []) (node_of x)) (part_stops (h.at + tree_lines (node_of x)) [] (i + 1 + 1) (nodes (drop (i + 1) parts))) rest a.0;
       lines = omega (arith, lines);
-      top = subst (λ (bs : List Fraction). IsTop raised (r.value ∷ bs)) (sym taken) (rises (r.value ∷ bounds) more h.top a.2);
+      top = subst (λ (bs : List Fraction). IsGreatestBound raised (r.value ∷ bs)) (sym taken) (rises (r.value ∷ bounds) more h.top a.2);
     }
 
 pub walk-fails : (g : Game) (r : Report) (n next : ℕ) (best : Fraction) (i : ℕ) (x : Tree) (parts : List Tree) (f : Refusal) → i < length parts → x ≡ get_or parts i x
-    → (h : HasWalked g r n next best i parts) → ((k : ℕ) → next ≡ held k → LeafAnswers g r k (i + 1) (node_of x) (Err f)) → Refuses g r (part_stops n [] 1 (nodes parts)) f
+    → (h : HasWalked g r n next best i parts) → ((k : ℕ) → next ≡ held_line k → LeafAnswers g r k (i + 1) (node_of x) (Err f)) → TellsFirst g r (part_stops n [] 1 (nodes parts)) f
 walk-fails g r n next best i x parts f lt is h answers =
     let a = answers h.at h.line in
     let rest = subst (λ (ts : List Tree). IsRest g r (part_stops n [] 1 (nodes parts)) (part_stops h.at [] (i + 1) (nodes ts))) (part_at parts i x lt is) h.rest in
@@ -117,11 +117,11 @@ walk-end g r n next best i parts le h =
     let lines = subst (λ (ts : List Tree). h.at + part_lines (nodes ts) ≡ n + part_lines (nodes parts)) none h.lines in
     let pass = h.rest.pass (subst (λ (ts : List Tree). AllPass g r (part_stops h.at [] (i + 1) (nodes ts))) (sym none) tt) in
     let same : h.at ≡ n + part_lines (nodes parts) = omega (arith, lines) in
-    (pass, subst (λ (ts : List Tree). IsTop best (r.value ∷ part_bounds g r.caps 1 (Some (root_bound g)) (nodes ts))) (take_all i parts le) h.top, h.line ∙ ap held same)
+    (pass, subst (λ (ts : List Tree). IsGreatestBound best (r.value ∷ part_bounds g r.caps 1 (Some (root_bound g)) (nodes ts))) (take_all i parts le) h.top, h.line ∙ ap held_line same)
 
 -- ---- the split, and the root
 
-pub fork-count : (g : Game) (r : Report) (n line l count : ℕ) (parts : List Tree) → line ≡ held n → l ≡ 1 → count ≡ action_count g 1 → (length parts ≡ count → ⊥)
+pub fork-count : (g : Game) (r : Report) (n line l count : ℕ) (parts : List Tree) → line ≡ held_line n → l ≡ 1 → count ≡ action_count g 1 → (length parts ≡ count → ⊥)
     → ForkAnswers g r n l (nodes parts) (Err (record { line = line; reason = 5 }))
 fork-count g r n line l count parts e is c other = (n, inl ((λ p. other (sym (part_count-length parts) ∙ (p.2 ∙ (ap (action_count g) is ∙ sym c)))), refl, refl), e)
 
@@ -134,14 +134,14 @@ fork-answers g r n l count parts (Ok top) is one c same h =
     let e : n + 2 ≡ n + 1 + 1 = omega arith in
     let k = subst (λ (m : ℕ). AllPass g r (part_stops m [] 1 (nodes parts))) e h.0 in
     let lines : n + 2 + part_lines (nodes parts) ≡ n + (1 + 1 + part_lines (nodes parts)) = omega arith in
-    ((fork-passes g r l count parts is one c same, k), h.1, h.2 ∙ ap held lines)
+    ((fork-passes g r l count parts is one c same, k), h.1, h.2 ∙ ap held_line lines)
 fork-answers g r n l count parts (Err f) is one c same h =
     let e : n + 2 ≡ n + 1 + 1 = omega arith in
     let k = subst (λ (m : ℕ). FirstFails g r (part_stops m [] 1 (nodes parts)) h.0 f.reason) e h.1 in
     (h.0, inr (fork-passes g r l count parts is one c same, k), h.2)
 
 -- a root of another kind
-pub root-fails : (g : Game) (r : Report) (n line : ℕ) (t : Node) → is_scaled g ≡ false → line ≡ held n → (Passes g r rooted → ⊥) → RootAnswers g r n t (Err (record { line = line; reason = 5 }))
+pub root-fails : (g : Game) (r : Report) (n line : ℕ) (t : Node) → is_scaled g ≡ false → line ≡ held_line n → (Passes g r rooted → ⊥) → RootAnswers g r n t (Err (record { line = line; reason = 5 }))
 root-fails g r n line t unscaled e fails = (n, inl (fails, refl, refl), e)
 
 pub not_rooted : (g : Game) (r : Report) (t : Node) → is_scaled g ≡ false → node_of r.tree ≡ t → (IsRoot t → ⊥) → Passes g r rooted → ⊥

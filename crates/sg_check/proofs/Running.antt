@@ -6,7 +6,7 @@ use Rattle.std.proofs.lemmas.Int.{ints}
 use Rattle.std.proofs.lemmas.List.Elements.{All-nil, All-cons, All-head, All-tail}
 use Rattle.sg_model.specs.Sums.{total}
 use Rattle.sg_bounds.specs.Sizes.{running}
-use Rattle.sg_bounds.specs.Accepted.{Fits}
+use Rattle.sg_num.specs.Exact.{Fits}
 
 -- after some of the numbers the sum is z, and the others are left: the sums of all fit where the rest's do, and the totals agree
 pub record IsRunning (all : List ℤ) (z : ℤ) (rest : List ℤ) : Type 0 where

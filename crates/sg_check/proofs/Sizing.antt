@@ -8,7 +8,7 @@ use Rattle.sg_model.specs.Games.{Game, attacker}
 use Rattle.sg_model.specs.Sums.{total}
 use Rattle.sg_tree.specs.declared.fact.Fact.TheVariants.{Plays}
 use Rattle.sg_tree.specs.declared.fact.Mark.{Mark}
-use Rattle.sg_bounds.specs.Accepted.{Fits}
+use Rattle.sg_num.specs.Exact.{Fits}
 use Rattle.sg_bounds.specs.Regions.{prefix}
 use Rattle.sg_bounds.specs.Sizes.{attacker_most, defender_most, running, size_sums}
 use Rattle.sg_check.specs.declared.measures.Measures.{Measures}

@@ -13,9 +13,9 @@ use Rattle.sg_model.proofs.Bound.{sum_d_is}
 use Rattle.sg_model.proofs.Covers.{ArePositive, weight_total-nonneg}
 use Rattle.sg_model.proofs.Levels.{sum_a_is}
 use Rattle.sg_model.proofs.Promises.{pay_a-in_range, pay_d-in_range}
-use Rattle.sg_bounds.specs.Accepted.{Fits}
+use Rattle.sg_num.specs.Exact.{Fits}
 use Rattle.sg_bounds.specs.Sizes.{pay_sums}
-use Rattle.sg_game.specs.Tallies.{IsCount, IsCounted, no_cell}
+use Rattle.sg_game.specs.Tallies.{IsTicketCount, IsCounted, no_cell}
 use Rattle.sg_game.specs.declared.cell.Cell.{Cell}
 use Rattle.sg_model.proofs.Spans.{Spans, Within, fits_span, pay-within, product-within, room}
 use Rattle.sg_game.proofs.Tallied.{action-target, is_count}
@@ -62,7 +62,7 @@ module _ (g : Game) (h : IsGame g) (k : List Ticket) (cells : List Cell) (c : Is
     pub target : (1 ≤ a) × (a ≤ length g.goals)
     target = (known.0, (action-target g k cells 1 a c known.1).0)
 
-    pub count-is : IsCount whole count
+    pub count-is : IsTicketCount whole count
     count-is = rw (total_is, count_is) (is_count g k cells a c known.0 target.1)
 
     counts : count ≡ cover_count g k a

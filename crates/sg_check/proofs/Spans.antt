@@ -6,7 +6,7 @@ use Rattle.std.proofs.lemmas.Int.{ints, to_z-of_z}
 use Rattle.sg_model.specs.Limits.{IsPay, IsWithin}
 use Rattle.sg_model.specs.Sums.{total}
 use Rattle.sg_num.proofs.Signs.{mul-pos}
-use Rattle.sg_game.specs.Tallies.{IsCount}
+use Rattle.sg_game.specs.Tallies.{IsTicketCount}
 use Rattle.sg_model.proofs.Spans.{Spans, fits_span, pay-within, spans_product}
 
 -- a product in the code, of numbers read as they are
@@ -105,7 +105,7 @@ pub record IsMixed (total count outside more : ℤ) : Type 0 where
   pub sum : FitsSigned w128 (to_z w128 (of_z w128 (to_z w128 (of_z w128 outside) *ℤ to_z w128 (of_z w128 total))) +ℤ to_z w128 (of_z w128 (to_z w128 (of_z w128 more) *ℤ to_z w128 (of_z w128 count))))
   pub value : to_z w128 (of_z w128 (to_z w128 (of_z w128 (to_z w128 (of_z w128 outside) *ℤ to_z w128 (of_z w128 total))) +ℤ to_z w128 (of_z w128 (to_z w128 (of_z w128 more) *ℤ to_z w128 (of_z w128 count))))) ≡ (outside *ℤ total) +ℤ (more *ℤ count)
 
-pub mixed_made : (total count outside more : ℤ) → IsCount total count → IsPay outside → Spans (2 ^ 31) more → IsMixed total count outside more
+pub mixed_made : (total count outside more : ℤ) → IsTicketCount total count → IsPay outside → Spans (2 ^ 31) more → IsMixed total count outside more
 mixed_made total count outside more is pay sm =
     let st : Spans (2 ^ 95) total = record { low = omega (arith, ints, is.low, is.high); high = is.few } in
     let sc : Spans (2 ^ 95) count = record { low = omega (arith, ints, is.low); high = omega (arith, ints, is.high, is.few) } in

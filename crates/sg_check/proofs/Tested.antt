@@ -12,7 +12,7 @@ use Rattle.sg_tree.specs.declared.fact.Fact.TheVariants.{Plays}
 use Rattle.sg_tree.specs.declared.fact.Mark.{Mark}
 use Rattle.sg_tree.specs.declared.report.Cap.{Cap}
 use Rattle.sg_tree.specs.declared.report.Report.{Report}
-use Rattle.sg_bounds.specs.Accepted.{Fits}
+use Rattle.sg_num.specs.Exact.{Fits}
 use Rattle.sg_bounds.specs.Checking.{fact_stops}
 use Rattle.sg_bounds.specs.Facts.{IsPlaysFact}
 use Rattle.sg_bounds.specs.Leaves.{fact_bound, listed, rest_of}
@@ -21,7 +21,7 @@ use Rattle.sg_bounds.specs.Sizes.{bound_sums}
 use Rattle.sg_check.specs.declared.quotient.Quotient.{Quotient}
 use Rattle.sg_check.specs.declared.measures.Measures.{Measures}
 use Rattle.sg_check.specs.declared.size.Stated.{Stated}
-use Rattle.sg_check.specs.Answering.{BoundAnswers, Refuses, held}
+use Rattle.sg_check.specs.Answering.{BoundAnswers, TellsFirst, held_line}
 use Rattle.sg_check.specs.Sized.{BoundFits, IsBoundOf, SizeFits, multipliers}
 use Rattle.sg_check.specs.Spreads.{AreMeasures}
 use Rattle.sg_check.proofs.Sizing.{size-one}
@@ -45,22 +45,22 @@ bound-none : (g : Game) (s : Stated) (marks : List Mark) (caps : List Cap) → i
 bound-none g s marks caps none = rw none (All-nil Fits)
 
 -- the size sum doesn't fit
-pub stated-wide : (g : Game) (r : Report) (m : Measures) (s : Stated) (marks : List Mark) (n line : ℕ) → AreMeasures g m → line ≡ held n
+pub stated-wide : (g : Game) (r : Report) (m : Measures) (s : Stated) (marks : List Mark) (n line : ℕ) → AreMeasures g m → line ≡ held_line n
     → (SizeFits s.rho m.prior m.defender_most (multipliers marks) m.attacker_most → ⊥)
-    → Refuses g r (fact_stops n (s.act ∷ []) (Plays s.rho s.mu marks)) (record { line = line; reason = 9 })
+    → TellsFirst g r (fact_stops n (s.act ∷ []) (Plays s.rho s.mu marks)) (record { line = line; reason = 9 })
 stated-wide g r m s marks n line h e wide = (n, inl ((λ p. wide ((size-one g m s.act s.rho s.mu marks h).1 p)), refl, refl), e)
 
 -- it doesn't hold
-pub stated-fails : (g : Game) (r : Report) (m : Measures) (s : Stated) (marks : List Mark) (n line : ℕ) → AreMeasures g m → line ≡ held n
+pub stated-fails : (g : Game) (r : Report) (m : Measures) (s : Stated) (marks : List Mark) (n line : ℕ) → AreMeasures g m → line ≡ held_line n
     → SizeFits s.rho m.prior m.defender_most (multipliers marks) m.attacker_most → (IsPlaysFact g (prefix (s.act ∷ [])) s.rho s.mu marks → ⊥)
-    → Refuses g r (fact_stops n (s.act ∷ []) (Plays s.rho s.mu marks)) (record { line = line; reason = 6 })
+    → TellsFirst g r (fact_stops n (s.act ∷ []) (Plays s.rho s.mu marks)) (record { line = line; reason = 6 })
 stated-fails g r m s marks n line h e size fails = (n, inr ((size-one g m s.act s.rho s.mu marks h).0 size, inl (fails, refl, refl)), e)
 
 -- its bound doesn't fit
-pub stated-unbounded : (g : Game) (r : Report) (m : Measures) (s : Stated) (marks : List Mark) (n line : ℕ) → AreMeasures g m → line ≡ held n
+pub stated-unbounded : (g : Game) (r : Report) (m : Measures) (s : Stated) (marks : List Mark) (n line : ℕ) → AreMeasures g m → line ≡ held_line n
     → SizeFits s.rho m.prior m.defender_most (multipliers marks) m.attacker_most → IsPlaysFact g (prefix (s.act ∷ [])) s.rho s.mu marks
     → int_lt (pos 0) s.mu ≡ true → (BoundFits s.rho s.mu m.rest m.priors → ⊥)
-    → Refuses g r (fact_stops n (s.act ∷ []) (Plays s.rho s.mu marks)) (record { line = line; reason = 9 })
+    → TellsFirst g r (fact_stops n (s.act ∷ []) (Plays s.rho s.mu marks)) (record { line = line; reason = 9 })
 stated-unbounded g r m s marks n line h e size holds some wide =
     (n, inr ((size-one g m s.act s.rho s.mu marks h).0 size, inr (holds, inl ((λ p. wide ((bound-one g m s marks r.caps h some).1 p)), refl, refl))), e)
 

@@ -7,16 +7,16 @@ use Rattle.std.proofs.lemmas.List.Elements.{All-append, All-cons, All-contains, 
 use Rattle.sg_model.proofs.Greatest.{Contains-head}
 use Rattle.sg_model.proofs.Ints.{v, times, le_by, le_from, cancel-le, mul-le}
 use Rattle.sg_frac.specs.Fractions.{Fraction, IsReduced, IsReducedForm}
-use Rattle.sg_frac.specs.Order.{IsBelow as IsStrict}
+use Rattle.sg_frac.specs.Order.{IsNotAbove as IsStrict}
 use Rattle.sg_frac.proofs.Apart.{same_by_cross}
-use Rattle.sg_bounds.specs.Accepted.{IsBelow, IsGreatest, IsSame}
-use Rattle.sg_check.specs.Answering.{IsTop, Shows}
+use Rattle.sg_bounds.specs.Accepted.{IsNotAbove, IsGreatest, IsSame}
+use Rattle.sg_check.specs.Answering.{IsGreatestBound, ShowsOnly}
 
 pub reduced-as : (n d n' d' : ℤ) (f : Fraction) → n' ≡ n → d' ≡ d → IsReducedForm n' d' f → IsReducedForm n d f
 reduced-as n d n' d' f e k h = subst (λ (z : ℤ). IsReducedForm n z f) k (subst (λ (z : ℤ). IsReducedForm z d' f) e h)
 
 -- a ≤ b and b ≤ c give a ≤ c
-below-trans : (a b c : Fraction) → pos 1 ≤ℤ a.den → pos 1 ≤ℤ b.den → pos 1 ≤ℤ c.den → IsBelow a b → IsBelow b c → IsBelow a c
+below-trans : (a b c : Fraction) → pos 1 ≤ℤ a.den → pos 1 ≤ℤ b.den → pos 1 ≤ℤ c.den → IsNotAbove a b → IsNotAbove b c → IsNotAbove a c
 below-trans a b c pa pb pc h k =
     let an = v a.num in let ad = v a.den in let bn = v b.num in let bd = v b.den in let cn = v c.num in let cd = v c.den in
     let p = mul-le (a.num *ℤ b.den) (b.num *ℤ a.den) c.den h (omega (arith, ints, pc)) in
@@ -25,21 +25,21 @@ below-trans a b c pa pb pc h k =
     le_by (times (times an cd) bd) (times (times cn ad) bd) (omega (arith, le_from (times (times an bd) cd) (times (times bn ad) cd) p, le_from (times (times bn cd) ad) (times (times cn bd) ad) q)) in
     cancel-le (a.num *ℤ c.den) (c.num *ℤ a.den) b.den x pb
 
-below-same : (a b : Fraction) → IsSame a b → IsBelow a b
+below-same : (a b : Fraction) → IsSame a b → IsNotAbove a b
 below-same a b e = omega (arith, ints, e)
 
-same-below : (a b : Fraction) → IsSame a b → IsBelow b a
+same-below : (a b : Fraction) → IsSame a b → IsNotAbove b a
 same-below a b e = omega (arith, ints, e)
 
 -- a fraction and its reduced form
 form-same : (x b : Fraction) → IsReducedForm x.num x.den b → IsSame x b
 form-same x b h = sym h.equal
 
-pub top-start : (b : Fraction) → IsReduced b → IsTop b (b ∷ [])
+pub top-start : (b : Fraction) → IsReduced b → IsGreatestBound b (b ∷ [])
 top-start b h = record {
   reduced = h;
   greatest = record {
-    bounds = All-cons (λ (x : Fraction). IsBelow x b) b [] (omega (arith, ints)) (All-nil (λ (x : Fraction). IsBelow x b));
+    bounds = All-cons (λ (x : Fraction). IsNotAbove x b) b [] (omega (arith, ints)) (All-nil (λ (x : Fraction). IsNotAbove x b));
     reached = (b, Contains-head b [], refl);
   };
   positive = All-cons (λ (x : Fraction). pos 1 ≤ℤ x.den) b [] h.positive (All-nil (λ (x : Fraction). pos 1 ≤ℤ x.den));
@@ -49,63 +49,63 @@ append-positive : (bs : List Fraction) (x : Fraction) → All (λ (y : Fraction)
 append-positive bs x h p = All-append (λ (y : Fraction). pos 1 ≤ℤ y.den) bs (x ∷ []) h (All-cons (λ (y : Fraction). pos 1 ≤ℤ y.den) x [] p (All-nil (λ (y : Fraction). pos 1 ≤ℤ y.den)))
 
 -- a new bound that is not above the greatest
-pub top-kept : (b x n : Fraction) (bs : List Fraction) → IsTop b bs → pos 1 ≤ℤ x.den → IsReducedForm x.num x.den n → IsBelow n b → IsTop b (bs ++ x ∷ [])
+pub top-kept : (b x n : Fraction) (bs : List Fraction) → IsGreatestBound b bs → pos 1 ≤ℤ x.den → IsReducedForm x.num x.den n → IsNotAbove n b → IsGreatestBound b (bs ++ x ∷ [])
 top-kept b x n bs h p form le =
     let same = form-same x n form in
-    let here : IsBelow x b = below-trans x n b p form.reduced.positive h.reduced.positive (below-same x n same) le in
+    let here : IsNotAbove x b = below-trans x n b p form.reduced.positive h.reduced.positive (below-same x n same) le in
     let at = h.greatest.reached in
     record {
       reduced = h.reduced;
       greatest = record {
-        bounds = All-append (λ (y : Fraction). IsBelow y b) bs (x ∷ []) h.greatest.bounds (All-cons (λ (y : Fraction). IsBelow y b) x [] here (All-nil (λ (y : Fraction). IsBelow y b)));
+        bounds = All-append (λ (y : Fraction). IsNotAbove y b) bs (x ∷ []) h.greatest.bounds (All-cons (λ (y : Fraction). IsNotAbove y b) x [] here (All-nil (λ (y : Fraction). IsNotAbove y b)));
         reached = (at.0, Contains-append_left bs (x ∷ []) at.0 at.1, at.2);
       };
       positive = append-positive bs x h.positive p;
     }
 
 -- one that is
-pub top-raised : (b x n : Fraction) (bs : List Fraction) → IsTop b bs → pos 1 ≤ℤ x.den → IsReducedForm x.num x.den n → IsBelow b n → IsTop n (bs ++ x ∷ [])
+pub top-raised : (b x n : Fraction) (bs : List Fraction) → IsGreatestBound b bs → pos 1 ≤ℤ x.den → IsReducedForm x.num x.den n → IsNotAbove b n → IsGreatestBound n (bs ++ x ∷ [])
 top-raised b x n bs h p form le =
     let same = form-same x n form in
-    let under : All (λ (y : Fraction). IsBelow y n) bs = λ k d lt. below-trans _ b n (h.positive k d lt) h.reduced.positive form.reduced.positive (h.greatest.bounds k d lt) le in
+    let under : All (λ (y : Fraction). IsNotAbove y n) bs = λ k d lt. below-trans _ b n (h.positive k d lt) h.reduced.positive form.reduced.positive (h.greatest.bounds k d lt) le in
     record {
       reduced = form.reduced;
       greatest = record {
-        bounds = All-append (λ (y : Fraction). IsBelow y n) bs (x ∷ []) under (All-cons (λ (y : Fraction). IsBelow y n) x [] (below-same x n same) (All-nil (λ (y : Fraction). IsBelow y n)));
+        bounds = All-append (λ (y : Fraction). IsNotAbove y n) bs (x ∷ []) under (All-cons (λ (y : Fraction). IsNotAbove y n) x [] (below-same x n same) (All-nil (λ (y : Fraction). IsNotAbove y n)));
         reached = (x, Contains-append_right bs (x ∷ []) x (Contains-head x []), same);
       };
       positive = append-positive bs x h.positive p;
     }
 
-pub top-none : (b : Fraction) (bs xs : List Fraction) → IsTop b bs → xs ≡ [] → IsTop b (bs ++ xs)
-top-none b bs xs h e = rw e (subst (IsTop b) (sym (append-nil bs)) h)
+pub top-none : (b : Fraction) (bs xs : List Fraction) → IsGreatestBound b bs → xs ≡ [] → IsGreatestBound b (bs ++ xs)
+top-none b bs xs h e = rw e (subst (IsGreatestBound b) (sym (append-nil bs)) h)
 
 -- the greatest is one
-pub top-is_one : (b u : Fraction) (bs : List Fraction) → IsTop b bs → IsReduced u → IsGreatest u bs → b ≡ u
+pub top-is_one : (b u : Fraction) (bs : List Fraction) → IsGreatestBound b bs → IsReduced u → IsGreatest u bs → b ≡ u
 top-is_one b u bs h reduced is =
     let x = h.greatest.reached in
     let y = is.reached in
     let px = All-contains (λ (z : Fraction). pos 1 ≤ℤ z.den) bs x.0 h.positive x.1 in
     let py = All-contains (λ (z : Fraction). pos 1 ≤ℤ z.den) bs y.0 h.positive y.1 in
-    let up : IsBelow b u = below-trans b x.0 u h.reduced.positive px reduced.positive (same-below x.0 b x.2) (All-contains (λ (z : Fraction). IsBelow z u) bs x.0 is.bounds x.1) in
-    let down : IsBelow u b = below-trans u y.0 b reduced.positive py h.reduced.positive (same-below y.0 u y.2) (All-contains (λ (z : Fraction). IsBelow z b) bs y.0 h.greatest.bounds y.1) in
+    let up : IsNotAbove b u = below-trans b x.0 u h.reduced.positive px reduced.positive (same-below x.0 b x.2) (All-contains (λ (z : Fraction). IsNotAbove z u) bs x.0 is.bounds x.1) in
+    let down : IsNotAbove u b = below-trans u y.0 b reduced.positive py h.reduced.positive (same-below y.0 u y.2) (All-contains (λ (z : Fraction). IsNotAbove z b) bs y.0 h.greatest.bounds y.1) in
     same_by_cross b u h.reduced reduced (omega (arith, ints, up, down))
 
 -- a bound that may be there, by how it stands to the greatest
-pub raise-less : (b n : Fraction) (o : Option Fraction) (bs more : List Fraction) → o ≡ Some n → IsTop b bs → Shows more o → IsStrict b n → IsTop n (bs ++ more)
+pub raise-less : (b n : Fraction) (o : Option Fraction) (bs more : List Fraction) → o ≡ Some n → IsGreatestBound b bs → ShowsOnly more o → IsStrict b n → IsGreatestBound n (bs ++ more)
 raise-less b n o bs more is h shows lt =
-    let s : Shows more (Some n) = subst (Shows more) is shows in
+    let s : ShowsOnly more (Some n) = subst (ShowsOnly more) is shows in
     rw s.1 (top-raised b s.0 n bs h s.2 s.3 (omega (arith, ints, lt)))
 
-pub raise-greater : (b n : Fraction) (o : Option Fraction) (bs more : List Fraction) → o ≡ Some n → IsTop b bs → Shows more o → IsBelow n b → IsTop b (bs ++ more)
+pub raise-greater : (b n : Fraction) (o : Option Fraction) (bs more : List Fraction) → o ≡ Some n → IsGreatestBound b bs → ShowsOnly more o → IsNotAbove n b → IsGreatestBound b (bs ++ more)
 raise-greater b n o bs more is h shows le =
-    let s : Shows more (Some n) = subst (Shows more) is shows in
+    let s : ShowsOnly more (Some n) = subst (ShowsOnly more) is shows in
     rw s.1 (top-kept b s.0 n bs h s.2 s.3 le)
 
-pub raise-none : (b : Fraction) (o : Option Fraction) (bs more : List Fraction) → o ≡ None → IsTop b bs → Shows more o → IsTop b (bs ++ more)
-raise-none b o bs more is h shows = top-none b bs more h (subst (Shows more) is shows)
+pub raise-none : (b : Fraction) (o : Option Fraction) (bs more : List Fraction) → o ≡ None → IsGreatestBound b bs → ShowsOnly more o → IsGreatestBound b (bs ++ more)
+raise-none b o bs more is h shows = top-none b bs more h (subst (ShowsOnly more) is shows)
 
-pub same-under : (b n : Fraction) → b ≡ n → IsBelow n b
+pub same-under : (b n : Fraction) → b ≡ n → IsNotAbove n b
 same-under b n e = rw e (omega (arith, ints))
 
 pub same-reduced : (a b : Fraction) → IsReduced a → IsReduced b → (a ≡ b) ↔ IsSame a b

@@ -8,7 +8,7 @@ use Rattle.std.proofs.lemmas.List.{get_or-take, length-take, take-take}
 use Rattle.std.proofs.lemmas.List.Elements.{All-more, All-take, All-weaker}
 use Rattle.std.proofs.lemmas.Nat.Gcd.{dvd_trans}
 use Rattle.sg_model.specs.declared.ticket.Ticket.{Ticket}
-use Rattle.sg_bounds.specs.Accepted.{AreLowest}
+use Rattle.sg_model.specs.Commitments.{AreLowest}
 
 abbrev pub DividesAll : ℕ → List Ticket → Type 0
 DividesAll d k = All (λ (x : Ticket). d ∣ unsigned_abs x.weight) k

@@ -9,7 +9,7 @@ use Rattle.std.proofs.lemmas.List.Elements.{All-nil, All-cons, All-head, All-tai
 use Rattle.sg_model.specs.declared.ticket.Ticket.{Ticket}
 use Rattle.sg_model.specs.Sums.{numbers, total}
 use Rattle.sg_model.specs.Games.{Game, action_count, attacker, prior_total}
-use Rattle.sg_model.specs.Commitments.{is_best, sum_a, sum_d, take_of, weight_total, worth}
+use Rattle.sg_model.specs.Commitments.{is_best, sum_a, sum_d, take_of, weight_total, worth, AreLegal}
 use Rattle.sg_model.proofs.Numbers.{All-numbers, All-numbers-at}
 use Rattle.sg_model.proofs.Best.{is_best-from, is_best-out, passes_have, take_of-bounds, take_of-reached}
 use Rattle.sg_model.proofs.Payoffs.{Contains-numbers}
@@ -26,12 +26,12 @@ use Rattle.sg_tree.specs.Claims.{is_claim}
 use Rattle.sg_bounds.specs.Checking.{AllPass, ticket_stops}
 use Rattle.sg_bounds.proofs.Claims.{claim_commits}
 use Rattle.sg_model.proofs.Lists.{All-flat_map}
-use Rattle.sg_bounds.specs.Accepted.{Fits}
+use Rattle.sg_num.specs.Exact.{Fits}
 use Rattle.sg_bounds.specs.Sizes.{pay_sums, take_sums, value_sums, worth_sums}
 use Rattle.sg_check.specs.declared.value.Best.{Best}
 use Rattle.std.specs.Prelude.{Option, Some, None, MatchOption}
 use Rattle.sg_check.specs.declared.quotient.Quotient.{Quotient}
-use Rattle.sg_check.specs.Valuing.{AreFormed, AreLegal, BestAreFormed, Forms, IsBestOf, IsTaken, IsWorthOf, paired, under_a, under_d}
+use Rattle.sg_check.specs.Valuing.{AreFormed, BestAreFormed, Forms, IsBestOf, IsTakenSum, IsWorthOf, paired, under_a, under_d}
 use Rattle.sg_frac.specs.Fractions.{Fraction, IsReduced, IsReducedForm}
 use Rattle.sg_frac.proofs.Reduced.{reduced_form-unique}
 
@@ -168,13 +168,13 @@ module _ (g : Game) (k : List Ticket) where
 
   -- ---- what is taken
 
-  pub taken-first : (n : ℕ) (best : Best) (z : ℤ) → n ≡ action_count g 1 → IsBestOf g k n best → z ≡ sum_d g k 1 best.action → IsTaken g k 0 best.sum z
+  pub taken-first : (n : ℕ) (best : Best) (z : ℤ) → n ≡ action_count g 1 → IsBestOf g k n best → z ≡ sum_d g k 1 best.action → IsTakenSum g k 0 best.sum z
   taken-first n best z e h q = record {
     reached = (best.action, h.from_one, omega (arith, h.in_range, e), h.sum, sym q);
     most = λ a low high. absurd (omega (arith, low, high));
   }
 
-  pub taken-best : (i : ℕ) (top taken next : ℤ) → i < action_count g 1 → sum_a g k 1 (i + 1) ≡ top → next ≡ int_max taken (sum_d g k 1 (i + 1)) → IsTaken g k i top taken → IsTaken g k (i + 1) top next
+  pub taken-best : (i : ℕ) (top taken next : ℤ) → i < action_count g 1 → sum_a g k 1 (i + 1) ≡ top → next ≡ int_max taken (sum_d g k 1 (i + 1)) → IsTakenSum g k i top taken → IsTakenSum g k (i + 1) top next
   taken-best i top taken next lt is e h = record {
     reached = by_lt_z taken (sum_d g k 1 (i + 1))
         (λ less. (i + 1, omega arith, omega (arith, lt), is, omega (arith, ints, less, e, int_max_is taken (sum_d g k 1 (i + 1)))))
@@ -185,7 +185,7 @@ module _ (g : Game) (k : List Ticket) where
     ];
   }
 
-  pub taken-other : (i : ℕ) (top taken : ℤ) → (sum_a g k 1 (i + 1) ≡ top → ⊥) → IsTaken g k i top taken → IsTaken g k (i + 1) top taken
+  pub taken-other : (i : ℕ) (top taken : ℤ) → (sum_a g k 1 (i + 1) ≡ top → ⊥) → IsTakenSum g k i top taken → IsTakenSum g k (i + 1) top taken
   taken-other i top taken not h = record {
     reached = h.reached;
     most = λ a low high same. elim (cases_eq a (i + 1)) [
@@ -209,7 +209,7 @@ module _ (g : Game) (k : List Ticket) where
   -- what is formed so far of both
   pub record IsTakenSoFar (i : ℕ) (top taken : ℤ) : Type 0 where
     pub formed : BestAreFormed g k i top
-    pub is : IsTaken g k i top taken
+    pub is : IsTakenSum g k i top taken
 
   pub taken-next : (i : ℕ) (top taken next : ℤ) → i < action_count g 1
       → ((sum_a g k 1 (i + 1) ≡ top) → All Fits (under_d g k (i + 1)) × (next ≡ int_max taken (sum_d g k 1 (i + 1))))
@@ -217,11 +217,11 @@ module _ (g : Game) (k : List Ticket) where
   taken-next i top taken next lt best other h =
       elim (cases_eq_z (sum_a g k 1 (i + 1)) top) [
         | inl is ↦ record { formed = best_formed-best i top h.formed (best is).0; is = taken-best i top taken next lt is (best is).1 h.is }
-        | inr not ↦ record { formed = best_formed-other i top not h.formed; is = subst (IsTaken g k (i + 1) top) (sym (other not)) (taken-other i top taken not h.is) }
+        | inr not ↦ record { formed = best_formed-other i top not h.formed; is = subst (IsTakenSum g k (i + 1) top) (sym (other not)) (taken-other i top taken not h.is) }
       ]
 
   -- it is what is meant
-  pub taken-is : (best : Best) (taken : ℤ) → IsBestOf g k (action_count g 1) best → IsTaken g k (action_count g 1) best.sum taken → taken ≡ take_of g k 1
+  pub taken-is : (best : Best) (taken : ℤ) → IsBestOf g k (action_count g 1) best → IsTakenSum g k (action_count g 1) best.sum taken → taken ≡ take_of g k 1
   taken-is best taken b h =
       let n : ℕ = action_count g 1 in
       let r = h.reached in
@@ -323,7 +323,7 @@ module _ (g : Game) (k : List Ticket) where
 
 module _ (g : Game) (k : List Ticket) where
   pub take-forms : (best : Best) → IsBestOf g k (action_count g 1) best → AreFormed g k (action_count g 1) → (r : Option ℤ)
-      → MatchOption r (BestAreFormed g k (action_count g 1) best.sum → ⊥) (λ taken. BestAreFormed g k (action_count g 1) best.sum × IsTaken g k (action_count g 1) best.sum taken)
+      → MatchOption r (BestAreFormed g k (action_count g 1) best.sum → ⊥) (λ taken. BestAreFormed g k (action_count g 1) best.sum × IsTakenSum g k (action_count g 1) best.sum taken)
       → Forms r (take_sums g k 1) (take_of g k 1)
   take-forms best b f (Some z) h = (formed-take g k best b f h.0, taken-is g k best z b h.1)
   take-forms best b f None h = λ all. h (take-best_formed g k best b all)
@@ -356,8 +356,8 @@ module _ (g : Game) (k : List Ticket) where
   pub taken-start : (best : Best) (z : ℤ) → IsBestOf g k (action_count g 1) best → z ≡ sum_d g k 1 best.action → IsTakenSoFar g k 0 best.sum z
   taken-start best z b e = record { formed = λ a low high same. absurd (omega (arith, low, high)); is = taken-first g k (action_count g 1) best z refl b e }
 
-  pub taken-end : (i : ℕ) (top taken : ℤ) → i ≡ action_count g 1 → IsTakenSoFar g k i top taken → BestAreFormed g k (action_count g 1) top × IsTaken g k (action_count g 1) top taken
-  taken-end i top taken e h = (subst (λ (n : ℕ). BestAreFormed g k n top) e h.formed, subst (λ (n : ℕ). IsTaken g k n top taken) e h.is)
+  pub taken-end : (i : ℕ) (top taken : ℤ) → i ≡ action_count g 1 → IsTakenSoFar g k i top taken → BestAreFormed g k (action_count g 1) top × IsTakenSum g k (action_count g 1) top taken
+  taken-end i top taken e h = (subst (λ (n : ℕ). BestAreFormed g k n top) e h.formed, subst (λ (n : ℕ). IsTakenSum g k n top taken) e h.is)
 
 -- ---- the tickets of a report
 

@@ -14,7 +14,6 @@ use Rattle.sg_frac.specs.Fractions.{IsReduced}
 use Rattle.sg_model.specs.Sums.{total, numbers}
 use Rattle.sg_model.specs.Games.{Game, payoff, resource_count}
 use Rattle.sg_model.specs.Limits.{IsGame, is_scaled}
-use Rattle.sg_model.specs.Origami.{IsFloor, IsWater, SpendsAll, at_level, count_at, gap, share}
 use Rattle.sg_model.specs.declared.level.Level.{Level}
 use Rattle.sg_model.specs.declared.level.Level.TheVariants.{Resources, Target}
 use Rattle.sg_model.proofs.Forms.{no_matrix}
@@ -28,21 +27,15 @@ use Rattle.std.specs.Prelude.{Option, None, MatchOption}
 use Rattle.sg_game.proofs.Patrols.{numbers-more}
 use Rattle.sg_game.proofs.Spreads.{greatest-append}
 use Rattle.sg_model.specs.Sums.{greatest}
-use Rattle.sg_model.specs.Origami.{water_bound}
+use Rattle.sg_model.specs.Origami.{water_bound, IsFullyCovered, IsWater, SpendsAll, at_level, count_at, gap, share}
 use Rattle.sg_model.proofs.Sums.{total-append}
 use Rattle.sg_num.proofs.Signs.{mul-pos}
 use Rattle.sg_frac.specs.Fractions.{Fraction, IsReducedForm}
 use Rattle.sg_check.specs.declared.water.Height.{Height}
 use Rattle.sg_check.specs.declared.water.Pays.{Pays}
-use Rattle.sg_check.specs.Watering.{ArePays, ArePaysOf, IsBounding, IsFillable, IsSmall, ShowsBound, greatest_in, joined, part}
+use Rattle.sg_check.specs.Watering.{ArePays, ArePaysOf, IsBounding, IsSmallHeight, ShowsBound, greatest_in, greater_of, part}
+use Rattle.sg_model.specs.Fillable.{IsFillable}
 use Rattle.sg_model.proofs.Spans.{Spans, multiple_bounds, spans_product, spans_total}
-
--- ---- the game
-
-pub fillable : (g : Game) → IsGame g → is_scaled g ≡ true → IsFillable g
-fillable g h scaled =
-    let l = limited g h scaled in
-    record { origami = l.origami; security = no_matrix g l.origami.security; one_type = l.origami.one_type; few_patrols = l.few_patrols; scale_range = l.scale; few = l.targets.1 }
 
 -- ---- sums over the targets of a level
 
@@ -133,7 +126,7 @@ num-small num den m d most low le same s =
 -- ---- a level that the patrols hold up
 
 module _ (g : Game) (game : IsGame g) (f : IsFillable g) (num den : ℤ) (reduced : IsReduced (record { num = num; den = den })) where
-  pub spent-small : SpendsAll g (resource_count g) num den → IsSmall (record { num = num; den = den })
+  pub spent-small : SpendsAll g (resource_count g) num den → IsSmallHeight (record { num = num; den = den })
   spent-small s =
       let xs : List ℕ = at_level g num den in
       let each = at_level_each g num den in
@@ -226,7 +219,7 @@ den-one num (pos e) a low coprime same =
 den-one num (negsuc e) a low coprime same = absurd (omega (arith, ints, low))
 
 module _ (g : Game) (game : IsGame g) (f : IsFillable g) (num den : ℤ) (reduced : IsReduced (record { num = num; den = den })) where
-  floor-bounding : (j : ℕ) → IsFloor g num den j → IsBounding g (record { num = num; den = den }) × (at_level g num den ≢ [])
+  floor-bounding : (j : ℕ) → IsFullyCovered g num den j → IsBounding g (record { num = num; den = den }) × (at_level g num den ≢ [])
   floor-bounding j h =
       let one : den ≡ pos 1 = den-one num den (payoff g 1 j).ac reduced.positive reduced.coprime h.pays in
       let a = (payoff-in_range g game 1 j).ac in
@@ -301,7 +294,7 @@ needed-more g num den i sum one next h e low high is =
 abbrev pub level_test_at : Game → ℤ → ℤ → ℕ → Bool
 level_test_at g num den t = int_le num ((payoff g 1 t).au *ℤ den)
 
-joined-append : (xs ys : List ℤ) → joined (greatest_in xs) (greatest_in ys) ≡ greatest_in (xs ++ ys)
+joined-append : (xs ys : List ℤ) → greater_of (greatest_in xs) (greatest_in ys) ≡ greatest_in (xs ++ ys)
 joined-append [] ys = refl
 joined-append (x ∷ xs) [] = ap (λ (zs : List ℤ). Some (greatest (x ∷ zs))) (sym (append-nil xs))
 joined-append (x ∷ xs) (y ∷ ys) = ap Some (sym (greatest-append (x ∷ xs) (y ∷ ys) (λ e. cc) (λ e. cc)))
@@ -324,7 +317,7 @@ one_part f p t H None good bad h = rw (bad h) refl
 
 pub greatest-more : (g : Game) (h : Height) (i : ℕ) (best one next : Option ℤ) → best ≡ greatest_in (map (part g h) (filter (level_test_at g h.num h.den) (numbers i)))
     → MatchOption one ((h.num ≤ℤ ((payoff g 1 (i + 1)).au *ℤ h.den)) → ⊥) (λ z. (h.num ≤ℤ ((payoff g 1 (i + 1)).au *ℤ h.den)) × (z ≡ part g h (i + 1)))
-    → next ≡ joined best one → next ≡ greatest_in (map (part g h) (filter (level_test_at g h.num h.den) (numbers (i + 1))))
+    → next ≡ greater_of best one → next ≡ greatest_in (map (part g h) (filter (level_test_at g h.num h.den) (numbers (i + 1))))
 greatest-more g h i best one next e m is =
     let p : ℕ → Bool = level_test_at g h.num h.den in
     let H : Type 0 = h.num ≤ℤ ((payoff g 1 (i + 1)).au *ℤ h.den) in
@@ -332,7 +325,7 @@ greatest-more g h i best one next e m is =
     one_part (part g h) p (i + 1) H one (level_test h.num ((payoff g 1 (i + 1)).au *ℤ h.den)) (level_test-not h.num ((payoff g 1 (i + 1)).au *ℤ h.den)) m in
     let split : map (part g h) (filter p (numbers (i + 1))) ≡ map (part g h) (filter p (numbers i)) ++ map (part g h) (filter p ((i + 1) ∷ [])) =
     ap (λ (xs : List ℕ). map (part g h) (filter p xs)) (numbers-more i) ∙ (ap (map (part g h)) (filter-append p (numbers i) ((i + 1) ∷ [])) ∙ map-append (part g h) (filter p (numbers i)) (filter p ((i + 1) ∷ []))) in
-    is ∙ ((λ j. joined (e j) (last j)) ∙ (joined-append (map (part g h) (filter p (numbers i))) (map (part g h) (filter p ((i + 1) ∷ []))) ∙ ap greatest_in (sym split)))
+    is ∙ ((λ j. greater_of (e j) (last j)) ∙ (joined-append (map (part g h) (filter p (numbers i))) (map (part g h) (filter p ((i + 1) ∷ []))) ∙ ap greatest_in (sym split)))
 
 pub none-more : (g : Game) (num den : ℤ) (i : ℕ) → ((t : ℕ) → 1 ≤ t → t ≤ i → num ≤ℤ ((payoff g 1 t).au *ℤ den) → ⊥) → (num ≤ℤ ((payoff g 1 (i + 1)).au *ℤ den) → ⊥)
     → (t : ℕ) → 1 ≤ t → t ≤ i + 1 → num ≤ℤ ((payoff g 1 t).au *ℤ den) → ⊥

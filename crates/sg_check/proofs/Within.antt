@@ -6,7 +6,7 @@ use Rattle.std.proofs.lemmas.Int.{ints, to_z-of_z}
 use Rattle.sg_model.proofs.Ints.{mul-le, product_nonneg}
 use Rattle.sg_model.proofs.Spans.{product-within}
 use Rattle.sg_num.proofs.Steps.{FitsSigned-from_fits}
-use Rattle.sg_bounds.specs.Accepted.{Fits}
+use Rattle.sg_num.specs.Exact.{Fits}
 
 -- the greatest number of 128 bits
 abbrev pub top : ℤ

@@ -2,7 +2,7 @@
 use Rattle.std.specs.Prelude.{◌≡◌, List, ℤ, pos, ◌+ℤ◌, ◌*ℤ◌, All, map}
 use Rattle.sg_model.specs.Sums.{total}
 use Rattle.sg_tree.specs.declared.fact.Mark.{Mark}
-use Rattle.sg_bounds.specs.Accepted.{Fits}
+use Rattle.sg_num.specs.Exact.{Fits}
 use Rattle.sg_bounds.specs.Sizes.{running}
 use Rattle.sg_check.specs.declared.quotient.Quotient.{Quotient}
 

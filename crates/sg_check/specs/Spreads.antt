@@ -11,8 +11,8 @@ use Rattle.sg_check.specs.declared.spread.Spread.{Spread}
 use Rattle.sg_check.specs.declared.measures.Measures.{Measures}
 
 -- the least and the greatest of some payoffs
-abbrev pub IsSpread : Spread → List ℤ → Type 0
-IsSpread s xs = AreEnds s.least s.greatest xs
+abbrev pub AreEndsOf : Spread → List ℤ → Type 0
+AreEndsOf s xs = AreEnds s.least s.greatest xs
 
 -- the numbers of a game of one type, in their ranges
 pub record AreMeasures (g : Game) (m : Measures) : Type 0 where

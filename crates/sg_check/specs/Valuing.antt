@@ -4,7 +4,7 @@ use Rattle.sg_model.specs.declared.ticket.Ticket.{Ticket}
 use Rattle.sg_model.specs.Games.{Game, action_count, prior_total}
 use Rattle.sg_model.specs.Plays.{IsLegal, pay_a, pay_d}
 use Rattle.sg_model.specs.Commitments.{sum_a, sum_d, weight_total, worth}
-use Rattle.sg_bounds.specs.Accepted.{Fits}
+use Rattle.sg_num.specs.Exact.{Fits}
 use Rattle.sg_bounds.specs.Sizes.{pay_sums}
 use Rattle.sg_check.specs.declared.value.Best.{Best}
 use Rattle.sg_check.specs.declared.quotient.Quotient.{Quotient}
@@ -12,10 +12,6 @@ use Rattle.sg_check.specs.declared.quotient.Quotient.{Quotient}
 -- a number is formed: it is the one that is meant and all numbers under it fit, or there is none and one of them doesn't
 abbrev pub Forms : Option ℤ → List ℤ → ℤ → Type 0
 Forms made under value = MatchOption made (All Fits under → ⊥) (λ v. All Fits under × (v ≡ value))
-
--- the plays of the tickets are legal
-abbrev pub AreLegal : Game → List Ticket → Type 0
-AreLegal g k = All (λ (x : Ticket). IsLegal g x.play.code) k
 
 -- the numbers under what the type gets from action a, and under what the defender gets where it takes a
 abbrev pub under_a : Game → List Ticket → ℕ → List ℤ
@@ -40,7 +36,7 @@ abbrev pub BestAreFormed : Game → List Ticket → ℕ → ℤ → Type 0
 BestAreFormed g k n top = (a : ℕ) → 1 ≤ a → a ≤ n → sum_a g k 1 a ≡ top → All Fits (under_d g k a)
 
 -- a best action with this sum of the defender, and of actions 1 to n no best one has a greater
-pub record IsTaken (g : Game) (k : List Ticket) (n : ℕ) (top taken : ℤ) : Type 0 where
+pub record IsTakenSum (g : Game) (k : List Ticket) (n : ℕ) (top taken : ℤ) : Type 0 where
   pub reached : (a : ℕ) × (1 ≤ a) × (a ≤ action_count g 1) × (sum_a g k 1 a ≡ top) × (sum_d g k 1 a ≡ taken)
   pub most : (a : ℕ) → 1 ≤ a → a ≤ n → sum_a g k 1 a ≡ top → sum_d g k 1 a ≤ℤ taken
 

@@ -12,19 +12,10 @@ use Rattle.sg_bounds.specs.Accepted.{IsWaterTree}
 use Rattle.sg_bounds.specs.Checking.{AllPass, FirstFails, IsWaterRoot, Stop}
 use Rattle.sg_bounds.specs.Leaves.{tree_bounds_of}
 use Rattle.sg_bounds.specs.Trees.{Node}
-use Rattle.sg_check.specs.Answering.{held}
+use Rattle.sg_check.specs.Answering.{held_line}
 use Rattle.sg_check.specs.declared.refusal.Refusal.{Refusal}
 use Rattle.sg_check.specs.declared.water.Pays.{Pays}
 use Rattle.sg_check.specs.declared.water.Height.{Height}
-
--- a game that declares a scale, within its limits
-pub record IsFillable (g : Game) : Type 0 where
-  pub origami : IsOrigami g (resource_count g)
-  pub security : is_matrix g ≡ false
-  pub one_type : length g.types ≡ 1
-  pub few_patrols : resource_count g ≤ 200
-  pub scale_range : IsWithin (pos 1) (pos (2 ^ 32)) g.scale
-  pub few : length g.goals ≤ 10000
 
 -- what a target pays, and how often its gap goes into the scale, within their limits
 pub record ArePays (p : Pays) : Type 0 where
@@ -44,13 +35,13 @@ pub record ArePaysOf (g : Game) (t : ℕ) (p : Pays) : Type 0 where
   pub gain : p.gain ≡ (payoff g 1 t).dc -ℤ (payoff g 1 t).du
 
 -- a level with parts so small that all sums of its test fit
-pub record IsSmall (h : Height) : Type 0 where
+pub record IsSmallHeight (h : Height) : Type 0 where
   pub den : IsWithin (pos 1) (pos (2 ^ 46)) h.den
   pub num : IsWithin (pos 0 -ℤ pos (2 ^ 77)) (pos (2 ^ 77)) h.num
 
 -- a small level that covers no target so often that its part of the bound doesn't fit
 pub record IsBounding (g : Game) (h : Height) : Type 0 where
-  pub small : IsSmall h
+  pub small : IsSmallHeight h
   pub shares : (t : ℕ) → 1 ≤ t → t ≤ length g.goals → h.num ≤ℤ ((payoff g 1 t).au *ℤ h.den) → share g h.num h.den t ≤ℤ pos (2 ^ 86)
 
 -- what the defender gets at target t at a level, times the denominator and the scale
@@ -63,10 +54,10 @@ greatest_in [] = None
 greatest_in (x ∷ xs) = Some (greatest (x ∷ xs))
 
 -- the greater of two numbers, where they are there
-abbrev pub joined : Option ℤ → Option ℤ → Option ℤ
-joined None next = next
-joined (Some best) None = Some best
-joined (Some best) (Some next) = Some (int_max best next)
+abbrev pub greater_of : Option ℤ → Option ℤ → Option ℤ
+greater_of None next = next
+greater_of (Some best) None = Some best
+greater_of (Some best) (Some next) = Some (int_max best next)
 
 -- there is one bound, with a denominator of at least 1, and this is it in lowest terms
 abbrev pub ShowsBound : List Fraction → Fraction → Type 0
@@ -78,6 +69,6 @@ WaterTold g t (Ok b) = IsWaterRoot t × IsWaterTree g t × ((caps : List Cap) �
 WaterTold g t (Err reason) = ((reason ≡ 5) × (IsWaterRoot t → ⊥)) ⊎ ((reason ≡ 6) × IsWaterRoot t × (IsWaterTree g t → ⊥))
 
 -- all of these tests pass, and the only bound is told in lowest terms, or the first that fails
-abbrev pub WaterAnswers : Game → Report → List Stop → List Fraction → Result Fraction Refusal → Type 0
-WaterAnswers g r stops bounds (Ok b) = AllPass g r stops × ShowsBound bounds b
-WaterAnswers g r stops bounds (Err f) = (n : ℕ) × FirstFails g r stops n f.reason × (f.line ≡ held n)
+abbrev pub WaterTells : Game → Report → List Stop → List Fraction → Result Fraction Refusal → Type 0
+WaterTells g r stops bounds (Ok b) = AllPass g r stops × ShowsBound bounds b
+WaterTells g r stops bounds (Err f) = (n : ℕ) × FirstFails g r stops n f.reason × (f.line ≡ held_line n)

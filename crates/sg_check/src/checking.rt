@@ -1,8 +1,8 @@
 //! The tests in order, and the verdict.
 
 ghost use Rattle.std.specs.Prelude.{◌≡◌, ◌+◌, IfOk, IsOk, Ok, false, length, ℕ};
-ghost use Rattle.sg_bounds.specs.Checking.{IsFormed, IsRefused, stops_of, value_line};
-ghost use Rattle.sg_check.specs.Answering.{Answers, held};
+ghost use Rattle.sg_bounds.specs.Checking.{IsReportValue, IsRefused, stops_of, value_line};
+ghost use Rattle.sg_check.specs.Answering.{AnswersTests, held_line};
 ghost use Rattle.sg_check.specs.Covered.{has_cover};
 ghost use Rattle.sg_check.specs.Parts.{closing_stops, opening_stops};
 ghost use Rattle.sg_check.specs.Verdicts.{IsAcceptedGap, IsAcceptedOptimal, IsYes, Judges, Proves};
@@ -23,7 +23,7 @@ use std::alloc::{AllocError, Global};
 /// Tests the tickets, their total and their value.
 fn test_opening(game: &Game, report: &Report) -> Result<(), Refusal>
     requires { length game.now.types ≡ 1 }
-    ensures { Answers game.now report.now (opening_stops report.now) result }
+    ensures { AnswersTests game.now report.now (opening_stops report.now) result }
 {
     match test_plays(game, report) {
         Ok(()) => match test_total(game, report) {
@@ -36,7 +36,7 @@ fn test_opening(game: &Game, report: &Report) -> Result<(), Refusal>
 
 /// The line behind the value.
 fn caps_line(report: &Report) -> u64
-    ensures { result ≡ held (value_line report.now + 1) }
+    ensures { result ≡ held_line (value_line report.now + 1) }
 {
     4u64.saturating_add(report.tickets.tickets().len() as u64)
 }
@@ -45,7 +45,7 @@ fn caps_line(report: &Report) -> u64
 fn test_closing(game: &Game, report: &Report) -> Result<(), Refusal>
     requires one_type { length game.now.types ≡ 1 }
     requires no_cover { has_cover report.now ≡ false }
-    ensures { Answers game.now report.now (closing_stops game.now report.now) result }
+    ensures { AnswersTests game.now report.now (closing_stops game.now report.now) result }
 {
     let line = caps_line(report);
     match test_caps(game, report, line) {
@@ -61,7 +61,7 @@ fn test_closing(game: &Game, report: &Report) -> Result<(), Refusal>
 fn tested(game: &Game, report: &Report) -> Result<(), Refusal>
     requires one_type { length game.now.types ≡ 1 }
     requires no_cover { has_cover report.now ≡ false }
-    ensures { Answers game.now report.now (stops_of game.now report.now) result }
+    ensures { AnswersTests game.now report.now (stops_of game.now report.now) result }
 {
     match test_opening(game, report) {
         Ok(()) => test_closing(game, report),
@@ -71,7 +71,7 @@ fn tested(game: &Game, report: &Report) -> Result<(), Refusal>
 
 /// Nothing: its contract says what every report keeps.
 fn keeps_form(report: &Report)
-    ensures { IsFormed report.now }
+    ensures { IsReportValue report.now }
 {
     let _tickets = report.tickets.tickets();
     let _value = report.value.den();

@@ -5,7 +5,7 @@ ghost use Rattle.sg_bounds.specs.Accepted.{IsGreatest, IsSame, is_optimal};
 ghost use Rattle.sg_bounds.specs.Checking.{end_stops, upper_line};
 ghost use Rattle.sg_bounds.specs.Leaves.{tree_bounds_of};
 ghost use Rattle.sg_bounds.specs.Trees.{node_of};
-ghost use Rattle.sg_check.specs.Answering.{Answers, IsTop, held};
+ghost use Rattle.sg_check.specs.Answering.{AnswersTests, IsGreatestBound, held_line};
 
 use crate::quotient::is_same;
 use crate::refusal::Refusal;
@@ -45,9 +45,9 @@ fn has_ending(report: &Report) -> bool
 
 /// Tests the upper bound against the greatest of the value and the leaves' bounds, and then the verdict.
 pub(crate) fn test_ending(game: &Game, report: &Report, top: &Top) -> Result<(), Refusal>
-    requires top { IsTop top.now.best (report.now.value ∷ tree_bounds_of game.now report.now.caps (node_of report.now.tree)) }
-    requires line { top.now.next ≡ held (upper_line report.now) }
-    ensures { Answers game.now report.now (end_stops report.now) result }
+    requires top { IsGreatestBound top.now.best (report.now.value ∷ tree_bounds_of game.now report.now.caps (node_of report.now.tree)) }
+    requires line { top.now.next ≡ held_line (upper_line report.now) }
+    ensures { AnswersTests game.now report.now (end_stops report.now) result }
 {
     let _upper = report.upper.den();
     if !is_same(&top.best, &report.upper) {

@@ -4,7 +4,7 @@ ghost use Rattle.std.specs.Prelude.{◌≡◌, ℕ, [], ◌∷◌, false};
 ghost use Rattle.sg_model.specs.Limits.{is_scaled};
 ghost use Rattle.sg_bounds.specs.Checking.{fact_lines, fact_stops};
 ghost use Rattle.sg_bounds.specs.Leaves.{fact_bound, listed};
-ghost use Rattle.sg_check.specs.Answering.{BoundAnswers, held};
+ghost use Rattle.sg_check.specs.Answering.{BoundAnswers, held_line};
 ghost use Rattle.sg_check.specs.Covered.{is_cover};
 ghost use Rattle.sg_check.specs.PlayTests.{IsPlaced, IsTestedAt};
 
@@ -29,7 +29,7 @@ fn test_stated(
 ) -> Result<Option<Frac>, Refusal>
     requires unscaled { is_scaled game.now ≡ false }
     requires placed { IsPlaced game.now measures.now stated.now }
-    ensures { (n : ℕ) → line ≡ held n → BoundAnswers game.now report.now (fact_stops n (stated.now.act ∷ []) (Fact.Plays stated.now.rho stated.now.mu marks.now)) (listed (fact_bound game.now report.now.caps 1 (Fact.Plays stated.now.rho stated.now.mu marks.now))) result }
+    ensures { (n : ℕ) → line ≡ held_line n → BoundAnswers game.now report.now (fact_stops n (stated.now.act ∷ []) (Fact.Plays stated.now.rho stated.now.mu marks.now)) (listed (fact_bound game.now report.now.caps 1 (Fact.Plays stated.now.rho stated.now.mu marks.now))) result }
 {
     if !has_size(measures, stated, marks) {
         return Err(Refusal { line, reason: 9 });
@@ -56,7 +56,7 @@ pub(crate) fn test_fact(
     line: u64,
 ) -> Result<Option<Frac>, Refusal>
     requires { IsTestedAt game.now measures.now act fact.now }
-    ensures { (n : ℕ) → line ≡ held n → BoundAnswers game.now report.now (fact_stops n (act ∷ []) fact.now) (listed (fact_bound game.now report.now.caps 1 fact.now)) result }
+    ensures { (n : ℕ) → line ≡ held_line n → BoundAnswers game.now report.now (fact_stops n (act ∷ []) fact.now) (listed (fact_bound game.now report.now.caps 1 fact.now)) result }
 {
     match fact {
         Fact::Plays { rho, mu, marks } => {
@@ -75,7 +75,7 @@ pub(crate) fn test_fact(
 /// How many lines a fact has, none of the coverage table.
 pub(crate) fn lines_of(fact: &Fact) -> u64
     requires { is_cover fact.now ≡ false }
-    ensures { result ≡ held (fact_lines fact.now) }
+    ensures { result ≡ held_line (fact_lines fact.now) }
 {
     match fact {
         Fact::Plays { marks, .. } => (marks.len() as u64).saturating_add(1),

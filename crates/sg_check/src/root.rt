@@ -4,7 +4,7 @@ ghost use Rattle.std.specs.Prelude.{◌≡◌, false, true, length};
 ghost use Rattle.sg_model.specs.Limits.{is_scaled};
 ghost use Rattle.sg_bounds.specs.Checking.{root_line};
 ghost use Rattle.sg_bounds.specs.Trees.{node_of};
-ghost use Rattle.sg_check.specs.Answering.{RootAnswers, held};
+ghost use Rattle.sg_check.specs.Answering.{RootAnswers, held_line};
 ghost use Rattle.sg_check.specs.Covered.{node_has_cover};
 ghost use Rattle.sg_check.specs.Spreads.{AreMeasures};
 
@@ -25,7 +25,7 @@ fn is_scaled(game: &Game) -> bool
 /// Tests the water level, which takes one line.
 fn test_level(game: &Game, report: &Report, line: u64) -> Result<Top, Refusal>
     requires scaled { is_scaled game.now ≡ true }
-    requires line { line ≡ held (root_line report.now) }
+    requires line { line ≡ held_line (root_line report.now) }
     ensures { RootAnswers game.now report.now (root_line report.now) (node_of report.now.tree) result }
 {
     match test_water(game, report, line) {
@@ -47,7 +47,7 @@ pub(crate) fn test_root(
     requires one_type { length game.now.types ≡ 1 }
     requires measures { AreMeasures game.now measures.now }
     requires no_cover { node_has_cover (node_of report.now.tree) ≡ false }
-    requires line { line ≡ held (root_line report.now) }
+    requires line { line ≡ held_line (root_line report.now) }
     ensures { RootAnswers game.now report.now (root_line report.now) (node_of report.now.tree) result }
 {
     if is_scaled(game) {

@@ -2,7 +2,7 @@
 
 ghost use Rattle.std.specs.Prelude.{◌≡◌, ◌↔◌, ◌*ℤ◌, All, IsTrue, MatchOption, pos};
 ghost use Rattle.sg_model.specs.Sums.{total};
-ghost use Rattle.sg_bounds.specs.Accepted.{Fits};
+ghost use Rattle.sg_num.specs.Exact.{Fits};
 ghost use Rattle.sg_bounds.specs.Sizes.{running};
 ghost use Rattle.sg_check.specs.Sized.{GainFits, RegretFits, SizeFits, multipliers};
 

@@ -7,7 +7,7 @@ ghost use Rattle.sg_model.specs.Limits.{IsPay};
 ghost use Rattle.sg_model.specs.Sums.{numbers};
 ghost use Rattle.sg_game.specs.Counts.{IsActionOf, IsGoalOf, IsTypeOf, follower_pay};
 ghost use Rattle.sg_bounds.specs.Sizes.{attacker_payoffs_at, attacker_payoffs_of};
-ghost use Rattle.sg_check.specs.Spreads.{IsSpread};
+ghost use Rattle.sg_check.specs.Spreads.{AreEndsOf};
 
 use sg_game::{Game, Kind};
 
@@ -22,7 +22,7 @@ impl Spread {
     /// The ends of one payoff.
     fn of(pay: i64) -> Spread
         requires { IsPay pay }
-        ensures { IsSpread result (pay ∷ []) }
+        ensures { AreEndsOf result (pay ∷ []) }
     {
         Spread {
             least: pay,
@@ -54,7 +54,7 @@ impl Spread {
 
     /// The ends of both.
     fn join(&self, other: &Spread) -> Spread
-        ensures { (xs ys : List ℤ) → IsSpread self.now xs → IsSpread other.now ys → IsSpread result (xs ++ ys) }
+        ensures { (xs ys : List ℤ) → AreEndsOf self.now xs → AreEndsOf other.now ys → AreEndsOf result (xs ++ ys) }
     {
         Spread {
             least: self.least_with(other),
@@ -69,7 +69,7 @@ fn row_spread(game: &Game, l: u8, i: u16, a: u16) -> Spread
     requires known_type { IsTypeOf game.now l }
     requires known_row { IsGoalOf game.now i }
     requires known_action { IsActionOf game.now l a }
-    ensures { IsSpread result (follower_pay game.now l i a ∷ []) }
+    ensures { AreEndsOf result (follower_pay game.now l i a ∷ []) }
 {
     Spread::of(game.follower(l, i, a))
 }
@@ -79,7 +79,7 @@ fn column_spread(game: &Game, l: u8, a: u16) -> Spread
     requires matrix { is_matrix game.now ≡ true }
     requires known_type { IsTypeOf game.now l }
     requires known_action { IsActionOf game.now l a }
-    ensures { IsSpread result (map (λ i. follower_pay game.now l i a) (numbers (length game.now.goals))) }
+    ensures { AreEndsOf result (map (λ i. follower_pay game.now l i a) (numbers (length game.now.goals))) }
 {
     let rows = game.rows();
     let mut spread = row_spread(game, l, 1, a);
@@ -94,7 +94,7 @@ fn target_spread(game: &Game, l: u8, a: u16) -> Spread
     requires security { is_matrix game.now ≡ false }
     requires known_type { IsTypeOf game.now l }
     requires known_target { IsGoalOf game.now a }
-    ensures { IsSpread result ((payoff game.now l a).ac ∷ (payoff game.now l a).au ∷ []) }
+    ensures { AreEndsOf result ((payoff game.now l a).ac ∷ (payoff game.now l a).au ∷ []) }
 {
     let [_, _, covered, uncovered] = game.payoffs(l, a);
     Spread::of(covered).join(&Spread::of(uncovered))
@@ -104,7 +104,7 @@ fn target_spread(game: &Game, l: u8, a: u16) -> Spread
 fn action_spread(game: &Game, l: u8, a: u16) -> Spread
     requires known_type { IsTypeOf game.now l }
     requires known_action { IsActionOf game.now l a }
-    ensures { IsSpread result (attacker_payoffs_at game.now l a) }
+    ensures { AreEndsOf result (attacker_payoffs_at game.now l a) }
 {
     match game.kind() {
         Kind::Security => target_spread(game, l, a),
@@ -115,7 +115,7 @@ fn action_spread(game: &Game, l: u8, a: u16) -> Spread
 /// The ends of what type `l` may get.
 pub(crate) fn type_spread(game: &Game, l: u8) -> Spread
     requires { IsTypeOf game.now l }
-    ensures { IsSpread result (attacker_payoffs_of game.now l) }
+    ensures { AreEndsOf result (attacker_payoffs_of game.now l) }
 {
     let actions = game.actions(l);
     let mut spread = action_spread(game, l, 1);

@@ -1,7 +1,7 @@
 //! Single exact steps on numbers of 128 bits.
 
 ghost use Rattle.std.specs.Prelude.{◌≡◌, ◌+ℤ◌, ◌*ℤ◌, MatchOption};
-ghost use Rattle.sg_bounds.specs.Accepted.{Fits};
+ghost use Rattle.sg_num.specs.Exact.{Fits};
 
 /// The sum, and none where it doesn't fit.
 pub(crate) fn added(left: i128, right: i128) -> Option<i128>

@@ -2,9 +2,9 @@
 
 ghost use Rattle.std.specs.Prelude.{◌≡◌, ◌+ℤ◌, ◌*ℤ◌, [], ◌∷◌, length};
 ghost use Rattle.sg_model.specs.Plays.{IsLegal, pay_a, pay_d};
-ghost use Rattle.sg_model.specs.Commitments.{sum_a, sum_d};
+ghost use Rattle.sg_model.specs.Commitments.{sum_a, sum_d, AreLegal};
 ghost use Rattle.sg_game.specs.Counts.{IsActionOf};
-ghost use Rattle.sg_check.specs.Valuing.{AreLegal, Forms, under_a, under_d};
+ghost use Rattle.sg_check.specs.Valuing.{Forms, under_a, under_d};
 
 use crate::step::{added, multiplied};
 use sg_game::{Game, pay_a, pay_d};

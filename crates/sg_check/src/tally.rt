@@ -1,14 +1,14 @@
 //! Sums over tickets by the counts of those that cover each target, made in one walk over them.
 
 ghost use Rattle.std.specs.Prelude.{◌≡◌, ◌↔◌, ◌≤◌, ◌<◌, ◌^◌, ◌+ℤ◌, ◌-ℤ◌, ◌*ℤ◌, ◌≤ℤ◌, All, IsTrue, false, length, pos, replicate, slice_index_or};
-ghost use Rattle.sg_model.specs.Commitments.{sum_a, sum_d, weight_total};
+ghost use Rattle.sg_model.specs.Commitments.{sum_a, sum_d, weight_total, AreLegal};
 ghost use Rattle.sg_model.specs.Games.{is_matrix, payoff, resource_schedules, schedule_targets};
 ghost use Rattle.sg_model.specs.Limits.{IsPay};
 ghost use Rattle.sg_model.specs.Plays.{IsLegal};
 ghost use Rattle.sg_model.specs.Sums.{nth};
-ghost use Rattle.sg_game.specs.Tallies.{IsCount, IsTable, marked, no_cell, tallied, touched, touched_all, touched_from};
+ghost use Rattle.sg_game.specs.Tallies.{IsTicketCount, IsTally, marked, no_cell, tallied, touched, touched_all, touched_from};
 ghost use Rattle.sg_game.specs.Counts.{IsActionOf, IsGoalOf, IsResourceOf};
-ghost use Rattle.sg_check.specs.Valuing.{AreLegal, Forms, under_a, under_d};
+ghost use Rattle.sg_check.specs.Valuing.{Forms, under_a, under_d};
 
 use crate::sums::{total_a, total_d};
 use sg_game::{Cell, Game};
@@ -103,7 +103,7 @@ pub(crate) fn count_all(game: &Game, tickets: &[Ticket], cells: &mut [Cell])
     requires legal { AreLegal game.now tickets.now }
     requires room { 10000 < length cells.old }
     requires fresh { cells.old ≡ replicate (length cells.old) no_cell }
-    ensures { IsTable game.now tickets.now cells.new }
+    ensures { IsTally game.now tickets.now cells.new }
 {
     let _targets = game.targets();
     tally(game, tickets, cells);
@@ -137,7 +137,7 @@ fn difference(covered: i64, uncovered: i64) -> i128
 
 /// The sum where all tickets have one payoff, and so many of them so much more.
 fn mixed(total: i128, count: i128, uncovered: i128, more: i128) -> i128
-    requires counts { IsCount total count }
+    requires counts { IsTicketCount total count }
     requires outside { IsPay uncovered }
     requires least { (pos 0 -ℤ pos (2 ^ 31)) ≤ℤ more }
     requires most { more ≤ℤ pos (2 ^ 31) }
@@ -151,7 +151,7 @@ fn counted_a(game: &Game, total: i128, count: i128, t: u16) -> i128
     requires security { is_matrix game.now ≡ false }
     requires one_type { length game.now.types ≡ 1 }
     requires known { IsGoalOf game.now t }
-    requires counts { IsCount total count }
+    requires counts { IsTicketCount total count }
     ensures { result ≡ ((payoff game.now 1 t).au *ℤ total) +ℤ (((payoff game.now 1 t).ac -ℤ (payoff game.now 1 t).au) *ℤ count) }
 {
     let [_, _, covered, uncovered] = game.payoffs(1, t);
@@ -168,7 +168,7 @@ fn counted_d(game: &Game, total: i128, count: i128, t: u16) -> i128
     requires security { is_matrix game.now ≡ false }
     requires one_type { length game.now.types ≡ 1 }
     requires known { IsGoalOf game.now t }
-    requires counts { IsCount total count }
+    requires counts { IsTicketCount total count }
     ensures { result ≡ ((payoff game.now 1 t).du *ℤ total) +ℤ (((payoff game.now 1 t).dc -ℤ (payoff game.now 1 t).du) *ℤ count) }
 {
     let [covered, uncovered, _, _] = game.payoffs(1, t);
@@ -191,7 +191,7 @@ pub(crate) fn table_a(
     requires one_type { length game.now.types ≡ 1 }
     requires legal { AreLegal game.now tickets.now }
     requires total { total ≡ weight_total tickets.now }
-    requires table { IsTable game.now tickets.now table.now }
+    requires table { IsTally game.now tickets.now table.now }
     requires known_action { IsActionOf game.now 1 a }
     ensures { Forms result (under_a game.now tickets.now a) (sum_a game.now tickets.now 1 a) }
 {
@@ -216,7 +216,7 @@ pub(crate) fn table_d(
     requires one_type { length game.now.types ≡ 1 }
     requires legal { AreLegal game.now tickets.now }
     requires total { total ≡ weight_total tickets.now }
-    requires table { IsTable game.now tickets.now table.now }
+    requires table { IsTally game.now tickets.now table.now }
     requires known_action { IsActionOf game.now 1 a }
     ensures { Forms result (under_d game.now tickets.now a) (sum_d game.now tickets.now 1 a) }
 {

@@ -3,10 +3,10 @@
 ghost use Rattle.std.specs.Prelude.{◌≡◌, ℕ, All, MatchOption, unsigned_abs};
 ghost use Rattle.std.specs.Int.{◌∣◌};
 ghost use Rattle.sg_model.specs.Commitments.{weight_total};
-ghost use Rattle.sg_bounds.specs.Accepted.{Fits};
+ghost use Rattle.sg_num.specs.Exact.{Fits};
 ghost use Rattle.sg_bounds.specs.Checking.{ticket_stops};
 ghost use Rattle.sg_bounds.specs.Sizes.{weight_sums};
-ghost use Rattle.sg_check.specs.Answering.{Answers};
+ghost use Rattle.sg_check.specs.Answering.{AnswersTests};
 ghost use Rattle.sg_check.specs.Parts.{total_stops};
 
 use crate::refusal::Refusal;
@@ -18,7 +18,7 @@ use sg_tree::Report;
 
 /// Tests the play of each ticket, from line 3 on.
 pub(crate) fn test_plays(game: &Game, report: &Report) -> Result<(), Refusal>
-    ensures { Answers game.now report.now (ticket_stops 3 report.now.tickets.tickets) result }
+    ensures { AnswersTests game.now report.now (ticket_stops 3 report.now.tickets.tickets) result }
 {
     let mut line: u64 = 3;
     for ticket in report.tickets.tickets() {
@@ -58,7 +58,7 @@ fn common_divisor(tickets: &[Ticket]) -> u128
 
 /// Tests the running totals, the stated total, and that the weights are in lowest terms.
 pub(crate) fn test_total(game: &Game, report: &Report) -> Result<(), Refusal>
-    ensures { Answers game.now report.now total_stops result }
+    ensures { AnswersTests game.now report.now total_stops result }
 {
     let tickets = report.tickets.tickets();
     let total = match weight_total(tickets) {

@@ -6,7 +6,7 @@ ghost use Rattle.sg_model.specs.Games.{action_count};
 ghost use Rattle.sg_model.specs.Limits.{is_scaled};
 ghost use Rattle.sg_game.specs.Counts.{IsActionOf};
 ghost use Rattle.sg_bounds.specs.Trees.{node_of, parts_of};
-ghost use Rattle.sg_check.specs.Answering.{ForkAnswers, IsTop, LeafAnswers, PartsAnswer, RootAnswers, Shows, held};
+ghost use Rattle.sg_check.specs.Answering.{ForkAnswers, IsGreatestBound, LeafAnswers, PartsAnswer, RootAnswers, ShowsOnly, held_line};
 ghost use Rattle.sg_check.specs.Covered.{node_has_cover, parts_have_cover};
 ghost use Rattle.sg_check.specs.PlayTests.{IsSetting};
 
@@ -45,7 +45,7 @@ fn test_leaf(
     requires setting { IsSetting game.now measures.now }
     requires action { IsActionOf game.now 1 act }
     requires no_cover { node_has_cover (node_of part.now) ≡ false }
-    ensures { (n : ℕ) → line ≡ held n → LeafAnswers game.now report.now n act (node_of part.now) result }
+    ensures { (n : ℕ) → line ≡ held_line n → LeafAnswers game.now report.now n act (node_of part.now) result }
 {
     match part {
         Tree::Unproved => Ok(Leaf {
@@ -65,7 +65,7 @@ fn test_leaf(
 
 /// The greater of a bound and of one more, where there is one.
 pub(crate) fn raised(best: Frac, bound: Option<Frac>) -> Frac
-    ensures { (bounds more : List Fraction) → IsTop best bounds → Shows more bound → IsTop result (bounds ++ more) }
+    ensures { (bounds more : List Fraction) → IsGreatestBound best bounds → ShowsOnly more bound → IsGreatestBound result (bounds ++ more) }
 {
     match bound {
         None => best,
@@ -97,7 +97,7 @@ fn test_parts(
     requires setting { IsSetting game.now measures.now }
     requires count { length parts.now ≡ action_count game.now 1 }
     requires no_cover { parts_have_cover (parts_of (map node_of parts.now)) ≡ false }
-    ensures { (n : ℕ) → line ≡ held n → PartsAnswer game.now report.now n (parts_of (map node_of parts.now)) result }
+    ensures { (n : ℕ) → line ≡ held_line n → PartsAnswer game.now report.now n (parts_of (map node_of parts.now)) result }
 {
     let _actions = game.actions(1);
     let mut best = stated_value(report);
@@ -125,7 +125,7 @@ fn test_fork(
 ) -> Result<Top, Refusal>
     requires setting { IsSetting game.now measures.now }
     requires no_cover { parts_have_cover (parts_of (map node_of parts.now)) ≡ false }
-    ensures { (n : ℕ) → line ≡ held n → ForkAnswers game.now report.now n l (parts_of (map node_of parts.now)) result }
+    ensures { (n : ℕ) → line ≡ held_line n → ForkAnswers game.now report.now n l (parts_of (map node_of parts.now)) result }
 {
     if l != 1 {
         return Err(Refusal { line, reason: 5 });
@@ -145,7 +145,7 @@ pub(crate) fn test_split(
 ) -> Result<Top, Refusal>
     requires setting { IsSetting game.now measures.now }
     requires no_cover { node_has_cover (node_of report.now.tree) ≡ false }
-    ensures { (n : ℕ) → line ≡ held n → RootAnswers game.now report.now n (node_of report.now.tree) result }
+    ensures { (n : ℕ) → line ≡ held_line n → RootAnswers game.now report.now n (node_of report.now.tree) result }
 {
     match &report.tree {
         Tree::Unproved => Err(Refusal { line, reason: 5 }),

@@ -4,15 +4,15 @@ ghost use Rattle.std.specs.Prelude.{◌≡◌, ◌↔◌, ◌≤◌, ◌+ℤ◌,
 ghost use Rattle.std.specs.Int.{int_max};
 ghost use Rattle.sg_model.specs.declared.ticket.Ticket.{Ticket};
 ghost use Rattle.sg_model.specs.Games.{action_count, is_matrix};
-ghost use Rattle.sg_model.specs.Commitments.{sum_a, sum_d, take_of, weight_total};
+ghost use Rattle.sg_model.specs.Commitments.{sum_a, sum_d, take_of, weight_total, AreLegal};
 ghost use Rattle.sg_game.specs.Counts.{IsActionOf};
-ghost use Rattle.sg_bounds.specs.Accepted.{Fits};
+ghost use Rattle.sg_num.specs.Exact.{Fits};
 ghost use Rattle.sg_bounds.specs.Checking.{AllPass, ticket_stops, value_line};
 ghost use Rattle.sg_bounds.specs.Sizes.{take_sums, value_sums};
-ghost use Rattle.sg_check.specs.Answering.{Answers, held};
+ghost use Rattle.sg_check.specs.Answering.{AnswersTests, held_line};
 ghost use Rattle.sg_check.specs.Parts.{total_stops, worth_stops};
-ghost use Rattle.sg_game.specs.Tallies.{IsTable};
-ghost use Rattle.sg_check.specs.Valuing.{AreFormed, AreLegal, BestAreFormed, Forms, IsBestOf, IsTaken, IsWorthOf, paired, under_a, under_d};
+ghost use Rattle.sg_game.specs.Tallies.{IsTally};
+ghost use Rattle.sg_check.specs.Valuing.{AreFormed, BestAreFormed, Forms, IsBestOf, IsTakenSum, IsWorthOf, paired, under_a, under_d};
 
 use crate::quotient::{Quotient, is_same, reduced};
 use crate::refusal::Refusal;
@@ -50,7 +50,7 @@ fn first(game: &Game, tickets: &[Ticket], total: i128, table: &[Cell]) -> Option
     requires one_type { length game.now.types ≡ 1 }
     requires legal { AreLegal game.now tickets.now }
     requires total { total ≡ weight_total tickets.now }
-    requires table { IsTable game.now tickets.now table.now }
+    requires table { IsTally game.now tickets.now table.now }
     ensures { MatchOption result (AreFormed game.now tickets.now (action_count game.now 1) → ⊥) (λ best. AreFormed game.now tickets.now 1 × IsBestOf game.now tickets.now 1 best) }
 {
     let _actions = game.actions(1);
@@ -65,7 +65,7 @@ fn best_of(game: &Game, tickets: &[Ticket], total: i128, table: &[Cell]) -> Opti
     requires one_type { length game.now.types ≡ 1 }
     requires legal { AreLegal game.now tickets.now }
     requires total { total ≡ weight_total tickets.now }
-    requires table { IsTable game.now tickets.now table.now }
+    requires table { IsTally game.now tickets.now table.now }
     ensures { MatchOption result (AreFormed game.now tickets.now (action_count game.now 1) → ⊥) (λ best. AreFormed game.now tickets.now (action_count game.now 1) × IsBestOf game.now tickets.now (action_count game.now 1) best) }
 {
     let mut best = match first(game, tickets, total, table) {
@@ -93,7 +93,7 @@ fn is_best(
     requires one_type { length game.now.types ≡ 1 }
     requires legal { AreLegal game.now tickets.now }
     requires total { total ≡ weight_total tickets.now }
-    requires table { IsTable game.now tickets.now table.now }
+    requires table { IsTally game.now tickets.now table.now }
     requires known_action { IsActionOf game.now 1 a }
     requires formed { All Fits (under_a game.now tickets.now a) }
     ensures { IsTrue result ↔ (sum_a game.now tickets.now 1 a ≡ best.now.sum) }
@@ -123,7 +123,7 @@ fn taken_with(
     requires one_type { length game.now.types ≡ 1 }
     requires legal { AreLegal game.now tickets.now }
     requires total { total ≡ weight_total tickets.now }
-    requires table { IsTable game.now tickets.now table.now }
+    requires table { IsTally game.now tickets.now table.now }
     requires known_action { IsActionOf game.now 1 a }
     ensures { Forms result (under_d game.now tickets.now a) (int_max taken (sum_d game.now tickets.now 1 a)) }
 {
@@ -146,7 +146,7 @@ fn look(
     requires one_type { length game.now.types ≡ 1 }
     requires legal { AreLegal game.now tickets.now }
     requires total { total ≡ weight_total tickets.now }
-    requires table { IsTable game.now tickets.now table.now }
+    requires table { IsTally game.now tickets.now table.now }
     requires known_action { IsActionOf game.now 1 a }
     requires formed { All Fits (under_a game.now tickets.now a) }
     ensures best { (sum_a game.now tickets.now 1 a ≡ best.now.sum) → Forms result (under_d game.now tickets.now a) (int_max taken (sum_d game.now tickets.now 1 a)) }
@@ -170,10 +170,10 @@ fn taken_of(
     requires one_type { length game.now.types ≡ 1 }
     requires legal { AreLegal game.now tickets.now }
     requires total { total ≡ weight_total tickets.now }
-    requires table { IsTable game.now tickets.now table.now }
+    requires table { IsTally game.now tickets.now table.now }
     requires formed { AreFormed game.now tickets.now (action_count game.now 1) }
     requires best { IsBestOf game.now tickets.now (action_count game.now 1) best.now }
-    ensures { MatchOption result (BestAreFormed game.now tickets.now (action_count game.now 1) best.now.sum → ⊥) (λ taken. BestAreFormed game.now tickets.now (action_count game.now 1) best.now.sum × IsTaken game.now tickets.now (action_count game.now 1) best.now.sum taken) }
+    ensures { MatchOption result (BestAreFormed game.now tickets.now (action_count game.now 1) best.now.sum → ⊥) (λ taken. BestAreFormed game.now tickets.now (action_count game.now 1) best.now.sum × IsTakenSum game.now tickets.now (action_count game.now 1) best.now.sum taken) }
 {
     let mut taken = match table_d(game, tickets, total, table, best.action) {
         Some(sum) => sum,
@@ -193,7 +193,7 @@ fn table_take(game: &Game, tickets: &[Ticket], total: i128, table: &[Cell]) -> O
     requires one_type { length game.now.types ≡ 1 }
     requires legal { AreLegal game.now tickets.now }
     requires total { total ≡ weight_total tickets.now }
-    requires table { IsTable game.now tickets.now table.now }
+    requires table { IsTally game.now tickets.now table.now }
     ensures { Forms result (take_sums game.now tickets.now 1) (take_of game.now tickets.now 1) }
 {
     match best_of(game, tickets, total, table) {
@@ -281,7 +281,7 @@ fn is_value(value: &Quotient, stated: &Frac) -> bool
 
 /// The line of the value.
 fn value_line(report: &Report) -> u64
-    ensures { result ≡ held (value_line report.now) }
+    ensures { result ≡ held_line (value_line report.now) }
 {
     3u64.saturating_add(report.tickets.tickets().len() as u64)
 }
@@ -291,7 +291,7 @@ pub(crate) fn test_value(game: &Game, report: &Report) -> Result<(), Refusal>
     requires one_type { length game.now.types ≡ 1 }
     requires plays { AllPass game.now report.now (ticket_stops 3 report.now.tickets.tickets) }
     requires total { AllPass game.now report.now total_stops }
-    ensures { Answers game.now report.now (worth_stops report.now) result }
+    ensures { AnswersTests game.now report.now (worth_stops report.now) result }
 {
     game.promises();
     let _lowest = report.value.den();

@@ -5,14 +5,15 @@ ghost use Rattle.std.specs.Int.{int_max};
 ghost use Rattle.sg_frac.specs.Fractions.{IsReduced, IsReducedForm};
 ghost use Rattle.sg_model.specs.Games.{payoff, resource_count};
 ghost use Rattle.sg_model.specs.Limits.{is_scaled};
-ghost use Rattle.sg_model.specs.Origami.{IsFloor, IsWater, SpendsAll, at_level, count_at, gap, water_bound};
+ghost use Rattle.sg_model.specs.Origami.{IsFullyCovered, IsWater, SpendsAll, at_level, count_at, gap, water_bound};
 ghost use Rattle.sg_model.specs.Sums.{numbers, total};
 ghost use Rattle.sg_game.specs.Counts.{IsGoalOf};
 ghost use Rattle.sg_bounds.specs.Checking.{root_line, root_stops};
 ghost use Rattle.sg_bounds.specs.Leaves.{tree_bounds_of};
 ghost use Rattle.sg_bounds.specs.Trees.{closed, node_of};
-ghost use Rattle.sg_check.specs.Answering.{held};
-ghost use Rattle.sg_check.specs.Watering.{ArePays, ArePaysOf, IsBounding, IsFillable, IsSmall, WaterAnswers, WaterTold, greatest_in, joined, part};
+ghost use Rattle.sg_check.specs.Answering.{held_line};
+ghost use Rattle.sg_check.specs.Watering.{ArePays, ArePaysOf, IsBounding, IsSmallHeight, WaterTells, WaterTold, greatest_in, greater_of, part};
+ghost use Rattle.sg_model.specs.Fillable.{IsFillable};
 
 use crate::quotient::{Quotient, reduced};
 use crate::refusal::Refusal;
@@ -137,7 +138,7 @@ fn pays_of(game: &Game, t: u16) -> Pays
 /// How far the uncovered payoff is above the level, times the denominator.
 fn excess(pays: &Pays, level: &Height) -> i128
     requires pays { ArePays pays.now }
-    requires small { IsSmall level.now }
+    requires small { IsSmallHeight level.now }
     ensures value { result ≡ pays.now.uncovered *ℤ level.now.den -ℤ level.now.num }
     ensures low { (pos 0 -ℤ pos (2 ^ 78)) ≤ℤ result }
     ensures high { result ≤ℤ pos (2 ^ 78) }
@@ -148,7 +149,7 @@ fn excess(pays: &Pays, level: &Height) -> i128
 /// Whether the uncovered payoff is at least the level.
 fn is_high(pays: &Pays, level: &Height) -> bool
     requires pays { ArePays pays.now }
-    requires small { IsSmall level.now }
+    requires small { IsSmallHeight level.now }
     ensures { IsTrue result ↔ (level.now.num ≤ℤ (pays.now.uncovered *ℤ level.now.den)) }
 {
     0 <= excess(pays, level)
@@ -157,7 +158,7 @@ fn is_high(pays: &Pays, level: &Height) -> bool
 /// The coverage that brings the target down to the level, times the denominator and the scale.
 fn share(pays: &Pays, level: &Height) -> i128
     requires pays { ArePays pays.now }
-    requires small { IsSmall level.now }
+    requires small { IsSmallHeight level.now }
     ensures value { result ≡ pays.now.multiple *ℤ (pays.now.uncovered *ℤ level.now.den -ℤ level.now.num) }
     ensures high { result ≤ℤ pos (2 ^ 110) }
 {
@@ -168,7 +169,7 @@ fn share(pays: &Pays, level: &Height) -> i128
 fn count(game: &Game, t: u16, level: &Height) -> i128
     requires fillable { IsFillable game.now }
     requires known { IsGoalOf game.now t }
-    requires small { IsSmall level.now }
+    requires small { IsSmallHeight level.now }
     ensures value { result ≡ count_at game.now level.now.num level.now.den t }
     ensures low { pos 0 ≤ℤ result }
     ensures high { result ≤ℤ pos (2 ^ 110) }
@@ -184,7 +185,7 @@ fn count(game: &Game, t: u16, level: &Height) -> i128
 /// What all targets need together.
 fn needed(game: &Game, level: &Height) -> i128
     requires fillable { IsFillable game.now }
-    requires small { IsSmall level.now }
+    requires small { IsSmallHeight level.now }
     ensures { result ≡ total (count_at game.now level.now.num level.now.den) (numbers (length game.now.goals)) }
 {
     let mut sum = 0;
@@ -197,7 +198,7 @@ fn needed(game: &Game, level: &Height) -> i128
 /// What the patrols have, times the denominator and the scale.
 fn available(game: &Game, level: &Height) -> i128
     requires fillable { IsFillable game.now }
-    requires small { IsSmall level.now }
+    requires small { IsSmallHeight level.now }
     ensures { result ≡ (pos (resource_count game.now) *ℤ level.now.den) *ℤ game.now.scale }
 {
     i128::from(game.resources()) * level.den * i128::from(game.scale())
@@ -206,7 +207,7 @@ fn available(game: &Game, level: &Height) -> i128
 /// Whether some target pays at least the level.
 fn has_target(game: &Game, level: &Height) -> bool
     requires fillable { IsFillable game.now }
-    requires small { IsSmall level.now }
+    requires small { IsSmallHeight level.now }
     ensures { IsTrue result ↔ (at_level game.now level.now.num level.now.den ≢ []) }
 {
     for i in 0..game.targets() {
@@ -227,7 +228,7 @@ fn is_equal(a: i128, b: i128) -> bool
 /// Whether the patrols are just enough to bring all targets of the level down to it.
 fn spends_all(game: &Game, level: &Height) -> bool
     requires fillable { IsFillable game.now }
-    requires small { IsSmall level.now }
+    requires small { IsSmallHeight level.now }
     ensures { IsTrue result ↔ SpendsAll game.now (resource_count game.now) level.now.num level.now.den }
 {
     if has_target(game, level) {
@@ -240,7 +241,7 @@ fn spends_all(game: &Game, level: &Height) -> bool
 /// Whether the parts are so small that all sums of the test fit.
 fn is_small(level: &Height) -> bool
     requires { pos 1 ≤ℤ level.now.den }
-    ensures { IsTrue result ↔ IsSmall level.now }
+    ensures { IsTrue result ↔ IsSmallHeight level.now }
 {
     if level.den > 1 << 46 {
         return false;
@@ -267,7 +268,7 @@ fn is_product(a: i128, b: i128, product: i128) -> bool
 /// Whether target `j`, covered for certain, pays the attacker the level.
 fn is_floor(game: &Game, level: &Height, j: u16) -> bool
     requires fillable { IsFillable game.now }
-    ensures { IsTrue result ↔ IsFloor game.now level.now.num level.now.den j }
+    ensures { IsTrue result ↔ IsFullyCovered game.now level.now.num level.now.den j }
 {
     if j < 1 || game.targets() < j {
         return false;
@@ -305,7 +306,7 @@ fn is_level(game: &Game, level: &Height, reason: &Level) -> bool
 /// What a target's part of the bound is over: the denominator times the scale.
 fn whole_of(game: &Game, level: &Height) -> i128
     requires fillable { IsFillable game.now }
-    requires small { IsSmall level.now }
+    requires small { IsSmallHeight level.now }
     ensures value { result ≡ level.now.den *ℤ game.now.scale }
     ensures low { pos 1 ≤ℤ result }
     ensures high { result ≤ℤ pos (2 ^ 78) }
@@ -316,7 +317,7 @@ fn whole_of(game: &Game, level: &Height) -> i128
 /// What the defender gets at a target of the level, times the whole.
 fn part(pays: &Pays, level: &Height, whole: i128) -> i128
     requires pays { ArePays pays.now }
-    requires small { IsSmall level.now }
+    requires small { IsSmallHeight level.now }
     requires low { pos 1 ≤ℤ whole }
     requires high { whole ≤ℤ pos (2 ^ 78) }
     requires of_level { level.now.num ≤ℤ (pays.now.uncovered *ℤ level.now.den) }
@@ -349,7 +350,7 @@ fn greater(a: i128, b: i128) -> i128
 
 /// The greater of two numbers, where they are there.
 fn join(best: Option<i128>, next: Option<i128>) -> Option<i128>
-    ensures { result ≡ joined best next }
+    ensures { result ≡ greater_of best next }
 {
     match best {
         None => next,
@@ -435,8 +436,8 @@ fn test_tree(game: &Game, tree: &Tree) -> Result<Frac, u8>
 /// told.
 pub(crate) fn test_water(game: &Game, report: &Report, line: u64) -> Result<Frac, Refusal>
     requires scaled { is_scaled game.now ≡ true }
-    requires line { line ≡ held (root_line report.now) }
-    ensures { WaterAnswers game.now report.now (root_stops game.now (root_line report.now) (node_of report.now.tree)) (tree_bounds_of game.now report.now.caps (node_of report.now.tree)) result }
+    requires line { line ≡ held_line (root_line report.now) }
+    ensures { WaterTells game.now report.now (root_stops game.now (root_line report.now) (node_of report.now.tree)) (tree_bounds_of game.now report.now.caps (node_of report.now.tree)) result }
 {
     match test_tree(game, &report.tree) {
         Ok(bound) => Ok(bound),

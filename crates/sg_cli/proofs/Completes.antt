@@ -10,12 +10,12 @@ use Rattle.sg_cert.specs.declared.fault.ReportFault.{ReportFault}
 use Rattle.sg_cert.specs.Reading.{report_of}
 use Rattle.sg_bounds.specs.Accepted.{IsAccepted, is_optimal}
 use Rattle.sg_check.specs.Covered.{has_cover}
-use Rattle.sg_shelf.specs.Files.{Files, IsLong, held}
+use Rattle.sg_shelf.specs.Files.{Files, IsLong, bytes_under}
 use Rattle.sg_words.specs.Commands.{Asked, solve, check, show}
 use Rattle.sg_cli.specs.Scenes.{Scene, SaysGame, SaysReport, game_limit, game_name, report_limit, report_name}
 use Rattle.sg_cli.specs.Solutions.{yes_status}
 use Rattle.sg_cli.specs.Deeds.{Accepts, Does}
-use Rattle.sg_cli.specs.Causes.{ComesOf, Fails, IsTaken, IsWrong, OfReport, Stops}
+use Rattle.sg_cli.specs.Causes.{ComesOf, IsCauseOf, IsServed, IsWrong, OfReport, Stops}
 use Rattle.sg_cli.specs.Decisions.{ByChecking, ByFile, ByGame, ByGameFile, ByPair, ByReport, ByShowing, BySolving, Decides}
 use Rattle.sg_cli.specs.Refusals.{status_of}
 use Rattle.sg_cli.specs.Runs.{Answers, IsComplete, IsDone, IsOfFault}
@@ -65,30 +65,30 @@ by_report_fault P says f status e h = subst (λ (s : Result Report ReportFault).
 -- what decides once the game is known
 abbrev after_game : Files → Asked → Game → ℕ → Type 0
 after_game files (solve game) = BySolving
-after_game files (check game report) = ByPair ByChecking (held files report)
-after_game files (show game report) = ByPair ByShowing (held files report)
+after_game files (check game report) = ByPair ByChecking (bytes_under files report)
+after_game files (show game report) = ByPair ByShowing (bytes_under files report)
 
-by_name : (files : Files) (asked : Asked) (status : ℕ) → ByGameFile (after_game files asked) (held files (game_name asked)) status → Decides files asked status
+by_name : (files : Files) (asked : Asked) (status : ℕ) → ByGameFile (after_game files asked) (bytes_under files (game_name asked)) status → Decides files asked status
 by_name files (solve game) status h = h
 by_name files (check game report) status h = h
 by_name files (show game report) status h = h
 
-no_game : (files : Files) (asked : Asked) (status : ℕ) → held files (game_name asked) ≡ None → status ≡ 4 → Decides files asked status
-no_game files asked status e is = by_name files asked status (by_none game_limit _ (held files (game_name asked)) status e is)
+no_game : (files : Files) (asked : Asked) (status : ℕ) → bytes_under files (game_name asked) ≡ None → status ≡ 4 → Decides files asked status
+no_game files asked status e is = by_name files asked status (by_none game_limit _ (bytes_under files (game_name asked)) status e is)
 
 long_game : (files : Files) (asked : Asked) (status : ℕ) → IsLong (Some files) (game_name asked) game_limit → status ≡ 5 → Decides files asked status
-long_game files asked status h is = by_name files asked status (by_long game_limit _ (held files (game_name asked)) status h is)
+long_game files asked status h is = by_name files asked status (by_long game_limit _ (bytes_under files (game_name asked)) status h is)
 
 refused_game : (files : Files) (asked : Asked) (status : ℕ) (f : GameFault) → SaysGame (Some files) (game_name asked) (Err f) → status ≡ 6 → Decides files asked status
 refused_game files asked status f h is =
     by_name files asked status
-    (by_bytes game_limit (λ bytes. ByGame (after_game files asked) (game_of_bytes bytes)) (held files (game_name asked)) h.bytes status h.reads.may_hold h.reads.within
+    (by_bytes game_limit (λ bytes. ByGame (after_game files asked) (game_of_bytes bytes)) (bytes_under files (game_name asked)) h.bytes status h.reads.may_hold h.reads.within
     (by_fault (after_game files asked) (game_of_bytes h.bytes) f status h.game is))
 
 read_game : (files : Files) (asked : Asked) (status : ℕ) (g : Game) → SaysGame (Some files) (game_name asked) (Ok g) → after_game files asked g status → Decides files asked status
 read_game files asked status g h next =
     by_name files asked status
-    (by_bytes game_limit (λ bytes. ByGame (after_game files asked) (game_of_bytes bytes)) (held files (game_name asked)) h.bytes status h.reads.may_hold h.reads.within
+    (by_bytes game_limit (λ bytes. ByGame (after_game files asked) (game_of_bytes bytes)) (bytes_under files (game_name asked)) h.bytes status h.reads.may_hold h.reads.within
     (by_game (after_game files asked) (game_of_bytes h.bytes) g status h.game next))
 
 not_one : (g : Game) → ¬ (length g.types ≡ 1) → (length g.types == 1) ≡ false
@@ -97,7 +97,7 @@ not_one g other = false_from_ne_true (length g.types == 1) (λ e. other (eqb-tru
 is_one : (g : Game) → length g.types ≡ 1 → (length g.types == 1) ≡ true
 is_one g e = ap (λ (n : ℕ). n == 1) e
 
-not_taken : (files : Files) (asked : Asked) (g : Game) (status : ℕ) → ¬ (IsTaken asked g) → status ≡ 3 → after_game files asked g status
+not_taken : (files : Files) (asked : Asked) (g : Game) (status : ℕ) → ¬ (IsServed asked g) → status ≡ 3 → after_game files asked g status
 not_taken files (solve game) g status other is = at_false (is_scaled g) (status ≡ 0) (status ≡ 3) (false_from_ne_true (is_scaled g) other) is
 not_taken files (check game report) g status other is = at_false (length g.types == 1) _ (status ≡ 3) (not_one g other) is
 not_taken files (show game report) g status other is = at_false (length g.types == 1) _ (status ≡ 3) (not_one g other) is
@@ -110,29 +110,29 @@ after_both (solve game) g r status = status ≡ 0
 after_both (check game report) g r status = ByChecking g r status
 after_both (show game report) g r status = ByShowing g r status
 
-by_pair : (files : Files) (asked : Asked) (g : Game) (report : List ℕ) (status : ℕ) → IsTaken asked g → report_name asked ≡ Some report
-    → ByFile report_limit (λ bytes. ByReport (after_both asked g) (report_of bytes)) (held files report) status → after_game files asked g status
+by_pair : (files : Files) (asked : Asked) (g : Game) (report : List ℕ) (status : ℕ) → IsServed asked g → report_name asked ≡ Some report
+    → ByFile report_limit (λ bytes. ByReport (after_both asked g) (report_of bytes)) (bytes_under files report) status → after_game files asked g status
 by_pair files (solve game) g report status taken names h = let no_way : ⊥ = cc in absurd no_way
 by_pair files (check game other) g report status taken names h =
     let same : other ≡ report = cc in
     at_true (length g.types == 1) _ (status ≡ 3) (is_one g taken)
-    (subst (λ (n : List ℕ). ByFile report_limit (λ bytes. ByReport (ByChecking g) (report_of bytes)) (held files n) status) (sym same) h)
+    (subst (λ (n : List ℕ). ByFile report_limit (λ bytes. ByReport (ByChecking g) (report_of bytes)) (bytes_under files n) status) (sym same) h)
 by_pair files (show game other) g report status taken names h =
     let same : other ≡ report = cc in
     at_true (length g.types == 1) _ (status ≡ 3) (is_one g taken)
-    (subst (λ (n : List ℕ). ByFile report_limit (λ bytes. ByReport (ByShowing g) (report_of bytes)) (held files n) status) (sym same) h)
+    (subst (λ (n : List ℕ). ByFile report_limit (λ bytes. ByReport (ByShowing g) (report_of bytes)) (bytes_under files n) status) (sym same) h)
 
 -- the game is taken, and the report's file decides
 of_report : (files : Files) (asked : Asked) (status : ℕ) (P : Game → List ℕ → Type 0) → OfReport (Some files) asked P
-    → ((g : Game) (report : List ℕ) → P g report → ByFile report_limit (λ bytes. ByReport (after_both asked g) (report_of bytes)) (held files report) status)
+    → ((g : Game) (report : List ℕ) → P g report → ByFile report_limit (λ bytes. ByReport (after_both asked g) (report_of bytes)) (bytes_under files report) status)
     → Decides files asked status
 of_report files asked status P h next =
     read_game files asked status h.game h.takes.says (by_pair files asked h.game h.report status h.takes.taken h.names (next h.game h.report h.holds))
 
 read_report : (files : Files) (asked : Asked) (g : Game) (report : List ℕ) (status : ℕ) (r : Report) → SaysReport (Some files) report (Ok r)
-    → MatchBool (has_cover r) (status ≡ 3) (after_both asked g r status) → ByFile report_limit (λ bytes. ByReport (after_both asked g) (report_of bytes)) (held files report) status
+    → MatchBool (has_cover r) (status ≡ 3) (after_both asked g r status) → ByFile report_limit (λ bytes. ByReport (after_both asked g) (report_of bytes)) (bytes_under files report) status
 read_report files asked g report status r h next =
-    by_bytes report_limit (λ bytes. ByReport (after_both asked g) (report_of bytes)) (held files report) h.bytes status h.reads.may_hold h.reads.within
+    by_bytes report_limit (λ bytes. ByReport (after_both asked g) (report_of bytes)) (bytes_under files report) h.bytes status h.reads.may_hold h.reads.within
     (by_report (after_both asked g) (report_of h.bytes) r status h.report next)
 
 wrong : (asked : Asked) (g : Game) (r : Report) (line reason status : ℕ) → report_name asked ≢ None → IsWrong g line reason r → status ≡ 7
@@ -146,7 +146,7 @@ not_none asked report e none = let no_way : ◌≡◌ {A = Option (List ℕ)} (S
 
 -- ---- a refusal
 
-fails_decides : (s : Scene) (status : ℕ) (asked : Asked) (files : Files) (refusal : Refusal) → Fails (Some files) s.shelf_before s.shelf_after asked refusal
+fails_decides : (s : Scene) (status : ℕ) (asked : Asked) (files : Files) (refusal : Refusal) → IsCauseOf (Some files) s.shelf_before s.shelf_after asked refusal
     → status ≡ status_of refusal → (status ≡ 11) ⊎ (IsOfFault s status ⊎ Decides files asked status)
 fails_decides s status asked files Words c e = absurd c
 fails_decides s status asked files NotWritten c e = absurd c
@@ -164,13 +164,13 @@ fails_decides s status asked files ReportNotRead c e =
     elim c.holds.1 [
       | inl risen ↦ inr (inl (inl (e, risen)))
       | inr missing ↦ inr (inr (read_game files asked status c.game c.takes.says
-          (by_pair files asked c.game c.report status c.takes.taken c.names (by_none report_limit _ (held files c.report) status missing e))))
+          (by_pair files asked c.game c.report status c.takes.taken c.names (by_none report_limit _ (bytes_under files c.report) status missing e))))
     ]
 fails_decides s status asked files ReportTooLong c e =
-    inr (inr (of_report files asked status _ c (λ g report h. by_long report_limit _ (held files report) status h.1 e)))
+    inr (inr (of_report files asked status _ c (λ g report h. by_long report_limit _ (bytes_under files report) status h.1 e)))
 fails_decides s status asked files (ReportRefused fault) c e =
     inr (inr (of_report files asked status _ c (λ g report h.
-    by_bytes report_limit (λ bytes. ByReport (after_both asked g) (report_of bytes)) (held files report) h.1.bytes status h.1.reads.may_hold h.1.reads.within
+    by_bytes report_limit (λ bytes. ByReport (after_both asked g) (report_of bytes)) (bytes_under files report) h.1.bytes status h.1.reads.may_hold h.1.reads.within
     (by_report_fault (after_both asked g) (report_of h.1.bytes) fault status h.1.report e))))
 fails_decides s status asked files (ReportWrong line reason) c e =
     inr (inr (of_report files asked status _ c (λ g report h.
@@ -193,7 +193,7 @@ shown_decides g r status accepted e = by_cases (is_optimal r.ending) refl
     by_cases false is = inr (inl (record { accepted = accepted; ending = is }, e))
 
 accepted_decides : (files : Files) (asked : Asked) (name report : List ℕ) (g : Game) (r : Report) (status : ℕ) → Accepts (Some files) name report g r
-    → game_name asked ≡ name → report_name asked ≡ Some report → IsTaken asked g → after_both asked g r status → Decides files asked status
+    → game_name asked ≡ name → report_name asked ≡ Some report → IsServed asked g → after_both asked g r status → Decides files asked status
 accepted_decides files asked name report g r status h is names taken next =
     read_game files asked status g (subst (λ (n : List ℕ). SaysGame (Some files) n (Ok g)) (sym is) h.says)
     (by_pair files asked g report status taken names
@@ -229,10 +229,10 @@ stops_complete s status refusal e c =
     record {
       words = λ none. absurd (no_asked s c.asked none c.asks);
       told = λ asked files asks is.
-          let here : Fails (Some files) s.shelf_before s.shelf_after c.asked refusal =
-          subst (λ (f : Option Files). Fails f s.shelf_before s.shelf_after c.asked refusal) is c.cause in
+          let here : IsCauseOf (Some files) s.shelf_before s.shelf_after c.asked refusal =
+          subst (λ (f : Option Files). IsCauseOf f s.shelf_before s.shelf_after c.asked refusal) is c.cause in
           fails_decides s status asked files refusal
-          (subst (λ (a : Asked). Fails (Some files) s.shelf_before s.shelf_after a refusal) (same_asked s c.asked asked c.asks asks) here) e;
+          (subst (λ (a : Asked). IsCauseOf (Some files) s.shelf_before s.shelf_after a refusal) (same_asked s c.asked asked c.asks asks) here) e;
     }
 
 refused_complete : (s : Scene) (status : ℕ) (refusal : Refusal) → status ≡ status_of refusal → ComesOf s refusal → IsComplete s status

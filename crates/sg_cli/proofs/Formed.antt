@@ -6,7 +6,8 @@ use Rattle.sg_num.specs.declared.step.Wide.{Wide}
 use Rattle.sg_commit.specs.ExactSums.{exact_base}
 use Rattle.sg_commit.proofs.Standing.{All-back, All-front}
 use Rattle.sg_tree.specs.declared.report.Report.{Report}
-use Rattle.sg_bounds.specs.Accepted.{Fits, IsAccepted, cap_sums, tree_sums}
+use Rattle.sg_num.specs.Exact.{Fits}
+use Rattle.sg_bounds.specs.Accepted.{IsAccepted, cap_sums, tree_sums}
 use Rattle.sg_bounds.specs.Trees.{node_of}
 use Rattle.sg_bounds.specs.Sizes.{value_sums, weight_sums}
 use Rattle.sg_solve.proofs.Formed.{base_formed}

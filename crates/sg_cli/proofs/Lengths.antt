@@ -10,7 +10,7 @@ use Rattle.sg_model.specs.declared.level.Level.TheVariants.{Resources, Target}
 use Rattle.sg_model.specs.declared.ticket.Ticket.{Ticket}
 use Rattle.sg_model.specs.Games.{Game}
 use Rattle.sg_model.specs.Limits.{IsGame, is_scaled}
-use Rattle.sg_model.specs.ReportText.{reason_fields}
+use Rattle.sg_cert.specs.WaterText.{reason_fields}
 use Rattle.sg_model.proofs.Promises.{game_cases}
 use Rattle.sg_frac.specs.Fractions.{Fraction}
 use Rattle.sg_tree.specs.Claims.{Claimed}
@@ -22,8 +22,9 @@ use Rattle.sg_tree.specs.declared.report.Ending.TheVariants.{Optimal}
 use Rattle.sg_tree.specs.declared.report.Report.{Report}
 use Rattle.sg_tree.specs.declared.tree.Tree.{Tree}
 use Rattle.sg_tree.specs.declared.tree.Tree.TheVariants.{Closed}
-use Rattle.sg_cert.specs.Ranges.{Fits, IsClaim, IsFact, IsFraction, IsLayer, IsLevel, IsNode, IsReport, IsTicket}
-use Rattle.sg_cert.specs.Text.{Row, cap_rows, claim_rows, fact_rows, fraction_row, head_rows, node_rows, spaced, spell, tail_rows, text_of, ticket_row, verdict_row}
+use Rattle.sg_num.specs.Exact.{Fits}
+use Rattle.sg_cert.specs.Ranges.{IsClaim, IsFact, IsFraction, IsLayer, IsLevel, IsRangedNode, IsReport, IsTicket}
+use Rattle.sg_cert.specs.Text.{FieldRow, cap_rows, claim_rows, fact_rows, fraction_row, head_rows, node_rows, spaced, spell, tail_rows, text_of, ticket_row, verdict_row}
 use Rattle.sg_cert.proofs.Rows.{text_then}
 use Rattle.sg_cert.proofs.Trees.{out_closed, rows_closed}
 use Rattle.sg_solve.proofs.Few.{right_few}
@@ -46,7 +47,7 @@ length-field f fs = omega (arith, length-append (32 ∷ f) (spaced fs))
 length-line : (word : List ℕ) (fs : List (List ℕ)) → length (spell (word ∷ fs)) ≡ length word + length (spaced fs) + 1
 length-line word fs = omega (arith, length-append word (spaced fs ++ 10 ∷ []), length-append (spaced fs) (10 ∷ []))
 
-length-rows : (row : Row) (rows : List Row) → length (text_of (row ∷ rows)) ≡ length (spell row) + length (text_of rows)
+length-rows : (row : FieldRow) (rows : List FieldRow) → length (text_of (row ∷ rows)) ≡ length (spell row) + length (text_of rows)
 length-rows row rows = length-append (spell row) (text_of rows)
 
 -- two numbers take at most 82 bytes
@@ -81,7 +82,7 @@ water_long level why is =
 
 -- ---- the whole
 
-length-both : (above below : List Row) → length (text_of (above ++ below)) ≡ length (text_of above) + length (text_of below)
+length-both : (above below : List FieldRow) → length (text_of (above ++ below)) ≡ length (text_of above) + length (text_of below)
 length-both above below = ap length (text_then above below) ∙ length-append (text_of above) (text_of below)
 
 claim_long : (c : Claimed) → IsClaim c → length c.tickets ≤ 65535 → length (text_of (claim_rows c)) ≤ 55 + length c.tickets * 1243
@@ -100,7 +101,7 @@ claim_long c is few =
 
 head_long : (r : Report) → IsReport r → length r.tickets.tickets ≤ 65535 → length (text_of (head_rows r)) ≤ 159 + length r.tickets.tickets * 1243
 head_long r is few =
-    let value : Row = fraction_row (codes "value") r.value in
+    let value : FieldRow = fraction_row (codes "value") r.value in
     omega (
       arith,
       length-rows (codes "patrol-report" ∷ codes "1" ∷ []) (claim_rows r.tickets ++ value ∷ []),
@@ -112,7 +113,7 @@ head_long r is few =
 
 tail_long : (r : Report) → IsReport r → r.ending ≡ Optimal → length (text_of (tail_rows r)) ≤ 108
 tail_long r is ends =
-    let upper : Row = fraction_row (codes "upper") r.upper in
+    let upper : FieldRow = fraction_row (codes "upper") r.upper in
     let verdict : length (spell (verdict_row r.ending)) ≡ 16 = ap (λ (e : Ending). length (spell (verdict_row e))) ends in
     omega (
       arith,
@@ -122,13 +123,13 @@ tail_long r is ends =
       verdict,
     )
 
-closed_fact : (f : Fact) → IsNode 8 (Closed f) → IsFact f
-closed_fact f h = subst (IsLayer (IsNode 7)) (out_closed f) h
+closed_fact : (f : Fact) → IsRangedNode 8 (Closed f) → IsFact f
+closed_fact f h = subst (IsLayer (IsRangedNode 7)) (out_closed f) h
 
-tree_long : (t : Tree) (level : Fraction) (why : Level) → t ≡ Closed (Water level why) → IsNode 8 t → length (text_of (node_rows t)) ≤ 101
+tree_long : (t : Tree) (level : Fraction) (why : Level) → t ≡ Closed (Water level why) → IsRangedNode 8 t → length (text_of (node_rows t)) ≤ 101
 tree_long t level why same is =
     let rows : text_of (node_rows t) ≡ text_of (fact_rows (Water level why)) = ap (λ (u : Tree). text_of (node_rows u)) same ∙ ap text_of (rows_closed (Water level why)) in
-    omega (arith, ap length rows, water_long level why (closed_fact (Water level why) (subst (IsNode 8) same is)))
+    omega (arith, ap length rows, water_long level why (closed_fact (Water level why) (subst (IsRangedNode 8) same is)))
 
 targets_most : (g : Game) → IsGame g → length g.goals ≤ 10000
 targets_most g is = elim (game_cases g is) [

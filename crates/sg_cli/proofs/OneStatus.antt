@@ -9,12 +9,12 @@ use Rattle.sg_cert.specs.declared.fault.ReportFault.{ReportFault}
 use Rattle.sg_cert.specs.Reading.{report_of}
 use Rattle.sg_cert.proofs.WholeBack.{whole_forth}
 use Rattle.sg_bounds.specs.Accepted.{IsAccepted, is_optimal}
-use Rattle.sg_bounds.specs.Checking.{IsFormed, IsRefused}
+use Rattle.sg_bounds.specs.Checking.{IsReportValue, IsRefused}
 use Rattle.sg_bounds.proofs.Answering.{each_is_answered}
 use Rattle.sg_bounds.proofs.Verdicts.{refusal_is_one}
 use Rattle.sg_check.specs.Covered.{has_cover}
 use Rattle.sg_check.specs.Verdicts.{IsAcceptedOptimal, IsAcceptedGap}
-use Rattle.sg_shelf.specs.Files.{held}
+use Rattle.sg_shelf.specs.Files.{bytes_under}
 use Rattle.sg_words.specs.Commands.{solve, check, show}
 use Rattle.sg_cli.specs.Scenes.{game_limit, report_limit}
 use Rattle.sg_cli.specs.Decisions.{ByChecking, ByFile, ByGame, ByGameFile, ByPair, ByReport, ByShowing, BySolving}
@@ -48,7 +48,7 @@ one_report P (Err fault) each = just 7
 -- ---- by a report
 
 -- a report that was read keeps the rules of its type
-formed : (bytes : List ℕ) (r : Report) → report_of bytes ≡ Ok r → IsFormed r
+formed : (bytes : List ℕ) (r : Report) → report_of bytes ≡ Ok r → IsReportValue r
 formed bytes r e = let is = (whole_forth bytes r e).0 in record { tickets = is.tickets.rules; value = is.value.reduced; upper = is.upper.reduced }
 
 -- by a report that is accepted with bounds that meet, with a gap, or refused
@@ -81,7 +81,7 @@ module _ (gap : ℕ) (g : Game) (r : Report) where
       one other (inr (inl h)) = absurd ((refusal_is_one g r).0 h.0.accepted line reason no_good)
       one other (inr (inr h)) = h.3
 
-  one_answer : IsFormed r → IsOne (ByAnswer gap g r)
+  one_answer : IsReportValue r → IsOne (ByAnswer gap g r)
   one_answer is = by (each_is_answered g r is)
     where
       by_ending : IsAccepted g r → (b : Bool) → is_optimal r.ending ≡ b → IsOne (ByAnswer gap g r)
@@ -94,7 +94,7 @@ module _ (gap : ℕ) (g : Game) (r : Report) where
 
 -- ---- by both files
 
-one_pair : (P : Game → Report → ℕ → Type 0) → ((g : Game) (r : Report) → IsFormed r → IsOne (P g r)) → (report : Option (List ℕ)) (g : Game) → IsOne (ByPair P report g)
+one_pair : (P : Game → Report → ℕ → Type 0) → ((g : Game) (r : Report) → IsReportValue r → IsOne (P g r)) → (report : Option (List ℕ)) (g : Game) → IsOne (ByPair P report g)
 one_pair P each report g =
     let by_bytes : List ℕ → ℕ → Type 0 = λ bytes. ByReport (P g) (report_of bytes) in
     either (length g.types == 1) (ByFile report_limit by_bytes report) (λ status. status ≡ 3)
@@ -104,6 +104,6 @@ one_game_file : (P : Game → ℕ → Type 0) → ((g : Game) → IsOne (P g)) �
 one_game_file P each file = one_file game_limit (λ bytes. ByGame P (game_of_bytes bytes)) (λ bytes. one_game P each (game_of_bytes bytes)) file
 
 pub one_status : OneStatusIsDecided
-one_status files (solve game) = one_game_file BySolving (λ g. either (is_scaled g) (λ status. status ≡ 0) (λ status. status ≡ 3) (just 0) (just 3)) (held files game)
-one_status files (check game report) = one_game_file (ByPair ByChecking (held files report)) (one_pair ByChecking (λ g r is. one_answer 10 g r is) (held files report)) (held files game)
-one_status files (show game report) = one_game_file (ByPair ByShowing (held files report)) (one_pair ByShowing (λ g r is. one_answer 0 g r is) (held files report)) (held files game)
+one_status files (solve game) = one_game_file BySolving (λ g. either (is_scaled g) (λ status. status ≡ 0) (λ status. status ≡ 3) (just 0) (just 3)) (bytes_under files game)
+one_status files (check game report) = one_game_file (ByPair ByChecking (bytes_under files report)) (one_pair ByChecking (λ g r is. one_answer 10 g r is) (bytes_under files report)) (bytes_under files game)
+one_status files (show game report) = one_game_file (ByPair ByShowing (bytes_under files report)) (one_pair ByShowing (λ g r is. one_answer 0 g r is) (bytes_under files report)) (bytes_under files game)

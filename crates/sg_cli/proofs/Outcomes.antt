@@ -7,7 +7,7 @@ use Rattle.sg_shelf.specs.declared.log.Outcome.TheVariants.{Given}
 use Rattle.sg_cli.specs.ShelfReads.{ReadsBoth, ReadsFront, ReadsGameFile, game_read, reads_asked, reads_of, report_read}
 use Rattle.sg_cli.specs.Scenes.{Scene, game_name, report_name}
 use Rattle.sg_cli.specs.Causes.{ComesOf}
-use Rattle.sg_cli.specs.Runs.{Tells, Answers}
+use Rattle.sg_cli.specs.Runs.{TellsRefusal, Answers}
 use Rattle.sg_cli.proofs.Logged.{all_read, front_named}
 use Rattle.sg_cli.specs.declared.refusal.Refusal.{Refusal}
 use Rattle.sg_cli.specs.declared.refusal.Refusal.TheVariants.{Words, GameNotRead, GameTooLong, GameRefused, NotYet, ReportNotRead, ReportTooLong, ReportRefused, ReportWrong, NotWritten, Memory}
@@ -51,7 +51,7 @@ memory_comes s NotWritten k c = absurd k
 memory_comes s Memory k c = absurd k
 
 pub tells_answer : (s : Scene) (fb fa : ℕ) (eb ea : Option (List ℕ)) (asked told : Refusal) (status : ℕ) → ComesOf s asked
-    → (told ≡ asked) ⊎ ((told ≡ Memory) × HasNumbers asked) → Tells fb fa eb ea told → status ≡ status_of told → Answers s fb fa eb ea status
+    → (told ≡ asked) ⊎ ((told ≡ Memory) × HasNumbers asked) → TellsRefusal fb fa eb ea told → status ≡ status_of told → Answers s fb fa eb ea status
 tells_answer s fb fa eb ea asked told status c (inl same) t e =
     inr (record { refusal = told; is_status = e; cause = subst (ComesOf s) (sym same) c; tells = t })
 tells_answer s fb fa eb ea asked told status c (inr memory) t e =

@@ -16,7 +16,7 @@ use Rattle.sg_bounds.specs.Trees.{node_of}
 use Rattle.sg_bounds.proofs.Nodes.{node_of-Closed}
 use Rattle.sg_bounds.proofs.Verdicts.{refusal_is_one}
 use Rattle.sg_check.specs.Covered.{has_cover, node_has_cover}
-use Rattle.sg_shelf.specs.Files.{Files, held}
+use Rattle.sg_shelf.specs.Files.{Files, bytes_under}
 use Rattle.sg_words.specs.Commands.{Asked, check, show}
 use Rattle.sg_cli.specs.Scenes.{game_limit, report_limit}
 use Rattle.sg_cli.specs.Solutions.{IsAnswer}
@@ -63,21 +63,21 @@ shown g r status a (inr (inl gap)) = gap.1
 shown g r status a (inr (inr wrong)) = absurd ((refusal_is_one g r).0 a.is_right.accepted wrong.0 wrong.1 wrong.2)
 
 -- what is decided by both files, once the game's is read
-by_both : (files : Files) (name report : List ℕ) (status : ℕ) (text : List ℕ) (s : Solves (Some files) name status text) → held files report ≡ Some text
-    → (Next : Game → Report → ℕ → Type 0) (due : ℕ) → ByGameFile (ByPair Next (held files report)) (held files name) due → Next s.game s.report due
+by_both : (files : Files) (name report : List ℕ) (status : ℕ) (text : List ℕ) (s : Solves (Some files) name status text) → bytes_under files report ≡ Some text
+    → (Next : Game → Report → ℕ → Type 0) (due : ℕ) → ByGameFile (ByPair Next (bytes_under files report)) (bytes_under files name) due → Next s.game s.report due
 by_both files name report status text s stands Next due h =
     let g = s.game in
     let r = s.report in
-    let game = of_game (ByPair Next (held files report)) (game_of_bytes s.says.bytes) g due s.says.game
-    (of_bytes game_limit (λ bytes. ByGame (ByPair Next (held files report)) (game_of_bytes bytes)) (held files name) s.says.bytes due s.says.reads.may_hold s.says.reads.within h) in
+    let game = of_game (ByPair Next (bytes_under files report)) (game_of_bytes s.says.bytes) g due s.says.game
+    (of_bytes game_limit (λ bytes. ByGame (ByPair Next (bytes_under files report)) (game_of_bytes bytes)) (bytes_under files name) s.says.bytes due s.says.reads.may_hold s.says.reads.within h) in
     let is = accepted s.says.bytes g s.says.game in
     let one : length g.types ≡ 1 = (origami g is s.is_solved).1.one_type in
     let le : length text ≤ report_limit = omega (arith, ap length s.written, short g is r s.answer) in
-    let file : ByFile report_limit (λ bytes. ByReport (Next g) (report_of bytes)) (held files report) due =
-    MatchBool-at_true (ByFile report_limit (λ bytes. ByReport (Next g) (report_of bytes)) (held files report) due) (due ≡ 3) (ap (λ (n : ℕ). n == 1) one) game in
+    let file : ByFile report_limit (λ bytes. ByReport (Next g) (report_of bytes)) (bytes_under files report) due =
+    MatchBool-at_true (ByFile report_limit (λ bytes. ByReport (Next g) (report_of bytes)) (bytes_under files report) due) (due ≡ 3) (ap (λ (n : ℕ). n == 1) one) game in
     let reads : report_of text ≡ Ok r = ap report_of s.written ∙ whole_again r s.answer.in_ranges in
     of_report (Next g) (report_of text) r due reads (no_cover g r s.answer)
-    (of_bytes report_limit (λ bytes. ByReport (Next g) (report_of bytes)) (held files report) text due stands le file)
+    (of_bytes report_limit (λ bytes. ByReport (Next g) (report_of bytes)) (bytes_under files report) text due stands le file)
 
 -- the one status that is decided is 0
 decided : (files : Files) (asked : Asked) → ((due : ℕ) → Decides files asked due → due ≡ 0) → Decides files asked 0

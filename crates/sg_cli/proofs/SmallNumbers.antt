@@ -21,10 +21,11 @@ use Rattle.sg_origami.specs.Fillings.{IsReasonOf}
 use Rattle.sg_tree.specs.declared.fact.Fact.TheVariants.{Water}
 use Rattle.sg_tree.specs.declared.tree.Tree.TheVariants.{Closed}
 use Rattle.sg_tree.specs.declared.report.Report.{Report}
-use Rattle.sg_cert.specs.Ranges.{Fits, IsCap, IsEnding, IsFact, IsFraction, IsLayer, IsLevel, IsNode, IsReport, IsTicket}
+use Rattle.sg_num.specs.Exact.{Fits}
+use Rattle.sg_cert.specs.Ranges.{IsCap, IsEnding, IsFact, IsFraction, IsLayer, IsLevel, IsRangedNode, IsReport, IsTicket}
 use Rattle.sg_cert.proofs.Trees.{out_closed}
 use Rattle.sg_solve.specs.Solutions.{IsOptimalReport}
-use Rattle.sg_cli.specs.Widths.{AreParts, HasParts, HasPartsLayer, IsSized}
+use Rattle.sg_cli.specs.Widths.{BothPartsFit, HasParts, HasPartsLayer, IsSized}
 
 -- a number from 1 to one that fits
 fits_below : (a b : ℤ) → pos 1 ≤ℤ a → a ≤ℤ b → Fits b → Fits a
@@ -87,22 +88,22 @@ short_play g h code is =
           (All-from_get_or (λ c. c ≤ 65535) code 0 (λ i lt. omega (arith, joint.in_list i lt, ap length (lists (i + 1)), length-numbers_from 1 (length g.goals), h.goals)));
     }
 
-fraction_in : (f : Fraction) → IsReduced f → AreParts f → IsFraction f
+fraction_in : (f : Fraction) → IsReduced f → BothPartsFit f → IsFraction f
 fraction_in f h p = record { num = p.0; den = p.1; reduced = h }
 
 level_in : (g : Game) → HasFew g → (num den : ℤ) (why : Level) → IsReasonOf g num den why → IsLevel why
 level_in g h num den Resources r = tt
 level_in g h num den (Target j) r = (r.floor.from_one, omega (arith, r.floor.in_range, h.goals))
 
-pub in_ranges : (g : Game) → IsGame g → is_scaled g ≡ true → (r : Report) → IsOptimalReport g r → IsSized r.tickets → AreParts r.value → HasParts r.tree → IsReport r
+pub in_ranges : (g : Game) → IsGame g → is_scaled g ≡ true → (r : Report) → IsOptimalReport g r → IsSized r.tickets → BothPartsFit r.value → HasParts r.tree → IsReport r
 in_ranges g is sc r h sized value level =
     let few = few_of g is sc in
     let k = r.tickets.tickets in
     let c = h.tickets.commitment in
-    let parts : AreParts h.level = subst HasPartsLayer (out_closed (Water h.level h.why)) (subst HasParts h.tree level) in
+    let parts : BothPartsFit h.level = subst HasPartsLayer (out_closed (Water h.level h.why)) (subst HasParts h.tree level) in
     let short = All-weaker (λ (x : Ticket). IsLegal g x.play.code) (λ (x : Ticket). IsShort x.play.code) (λ x. short_play g few x.play.code) k c.legal in
     let fact : IsFact (Water h.level h.why) = (fraction_in h.level h.right_level.reduced parts, level_in g few h.level.num h.level.den h.why h.right_level.reason) in
-    let node : IsNode 8 (Closed (Water h.level h.why)) = subst (IsLayer (IsNode 7)) (sym (out_closed (Water h.level h.why))) fact in
+    let node : IsRangedNode 8 (Closed (Water h.level h.why)) = subst (IsLayer (IsRangedNode 7)) (sym (out_closed (Water h.level h.why))) fact in
     record {
       tickets = record {
         rules = h.tickets.rising;
@@ -112,7 +113,7 @@ in_ranges g is sc r h sized value level =
       };
       value = fraction_in r.value h.reduced value;
       caps = subst (AllByRecursion IsCap) (sym h.caps) tt;
-      tree = subst (IsNode 8) (sym h.tree) node;
+      tree = subst (IsRangedNode 8) (sym h.tree) node;
       upper = subst IsFraction (sym h.upper) (fraction_in r.value h.reduced value);
       ending = subst IsEnding (sym h.ending) tt;
     }

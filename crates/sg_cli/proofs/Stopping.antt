@@ -9,7 +9,7 @@ use Rattle.sg_shelf.specs.Files.{Files}
 use Rattle.sg_words.specs.Commands.{Asked, solve, check, show}
 use Rattle.sg_cli.specs.ShelfReads.{ReadsBoth, ReadsGameFile, game_read, report_read}
 use Rattle.sg_cli.specs.Scenes.{SaysGame, SaysReport, game_name, scene}
-use Rattle.sg_cli.specs.Causes.{ComesOf, Fails, OfReport}
+use Rattle.sg_cli.specs.Causes.{ComesOf, IsCauseOf, OfReport}
 use Rattle.sg_cli.specs.Readings.{GameFileFails, HasChecked, JudgingFails, ReportFileFails, SolvingFails}
 use Rattle.sg_cli.proofs.Logged.{all_read, and_then, front_after, front_named}
 use Rattle.sg_cli.specs.declared.refusal.Refusal.{Refusal}
@@ -17,7 +17,7 @@ use Rattle.sg_cli.specs.declared.refusal.Refusal.TheVariants.{Words, GameNotRead
 
 module _ (files : Option Files) (before after : Trail) where
   -- a file that gives no game
-  pub game_fails : (asked : Asked) (e : Refusal) → GameFileFails files (game_name asked) before after e → Fails files before after asked e
+  pub game_fails : (asked : Asked) (e : Refusal) → GameFileFails files (game_name asked) before after e → IsCauseOf files before after asked e
   game_fails asked Words h = absurd h
   game_fails asked GameNotRead h = h
   game_fails asked GameTooLong h = h
@@ -31,7 +31,7 @@ module _ (files : Option Files) (before after : Trail) where
   game_fails asked Memory h = front_named asked before after h
 
   -- a game that is not solved
-  pub solving_fails : (name : List ℕ) (g : Game) (e : Refusal) → ReadsGameFile name Given before after → SaysGame files name (Ok g) → SolvingFails g e → Fails files before after (solve name) e
+  pub solving_fails : (name : List ℕ) (g : Game) (e : Refusal) → ReadsGameFile name Given before after → SaysGame files name (Ok g) → SolvingFails g e → IsCauseOf files before after (solve name) e
   solving_fails name g Words one s h = absurd h
   solving_fails name g GameNotRead one s h = absurd h
   solving_fails name g GameTooLong one s h = absurd h
@@ -46,13 +46,13 @@ module _ (files : Option Files) (before after : Trail) where
 
   -- a game on which reports are not checked
   pub unchecked_fails : (name report : List ℕ) (g : Game) → ReadsGameFile name Given before after → SaysGame files name (Ok g) → ¬ (length g.types ≡ 1)
-      → Fails files before after (check name report) NotYet
+      → IsCauseOf files before after (check name report) NotYet
   unchecked_fails name report g one s h = inl (one, record { game = g; says = s; not_taken = h })
 
   -- a file that gives no report, read after the game was
   pub report_fails : (name report : List ℕ) (g : Game) (between : Trail) (e : Refusal) → HasChecked files name g → ReadsGameFile name Given before between → before.faults ≤ between.faults
       → ReportFileFails files report between after e
-      → Fails files before after (check name report) e
+      → IsCauseOf files before after (check name report) e
   report_fails name report g between Words c one le h = absurd h
   report_fails name report g between GameNotRead c one le h = absurd h
   report_fails name report g between GameTooLong c one le h = absurd h
@@ -71,7 +71,7 @@ module _ (files : Option Files) (before after : Trail) where
 
   -- a report that is not accepted
   pub judging_fails : (name report : List ℕ) (g : Game) (r : Report) (e : Refusal) → HasChecked files name g → ReadsBoth name report Given before after → SaysReport files report (Ok r) → JudgingFails g r e
-      → Fails files before after (check name report) e
+      → IsCauseOf files before after (check name report) e
   judging_fails name report g r Words c two s h = absurd h
   judging_fails name report g r GameNotRead c two s h = absurd h
   judging_fails name report g r GameTooLong c two s h = absurd h
@@ -90,7 +90,7 @@ module _ (files : Option Files) (before after : Trail) where
   shown_of : (name report : List ℕ) (P : Game → List ℕ → Type 0) → OfReport files (check name report) P → OfReport files (show name report) P
   shown_of name report P h = record { game = h.game; takes = record { says = h.takes.says; taken = h.takes.taken }; report = h.report; names = h.names; holds = h.holds }
 
-  pub shown_fails : (name report : List ℕ) (e : Refusal) → Fails files before after (check name report) e → Fails files before after (show name report) e
+  pub shown_fails : (name report : List ℕ) (e : Refusal) → IsCauseOf files before after (check name report) e → IsCauseOf files before after (show name report) e
   shown_fails name report Words h = absurd h
   shown_fails name report GameNotRead h = h
   shown_fails name report GameTooLong h = h
@@ -105,7 +105,7 @@ module _ (files : Option Files) (before after : Trail) where
   shown_fails name report Memory h = h
 
   -- a command that fails before it writes
-  pub stops : (asked : Asked) (faults_before faults_after : ℕ) (out : Option (List ℕ)) (e : Refusal) → Fails files before after asked e
+  pub stops : (asked : Asked) (faults_before faults_after : ℕ) (out : Option (List ℕ)) (e : Refusal) → IsCauseOf files before after asked e
       → ComesOf (scene (Some asked) files before after faults_before faults_after out out) e
   stops asked fb fa out Words h = absurd h
   stops asked fb fa out GameNotRead h = record { asked = asked; asks = refl; cause = h; kept = refl }
@@ -120,5 +120,5 @@ module _ (files : Option Files) (before after : Trail) where
   stops asked fb fa out Memory h = (h, refl)
 
   -- no such refusal is the output's
-  pub not_by_writing : (asked : Asked) (e : Refusal) → Fails files before after asked e → e ≢ NotWritten
-  not_by_writing asked e h is = subst (Fails files before after asked) is h
+  pub not_by_writing : (asked : Asked) (e : Refusal) → IsCauseOf files before after asked e → e ≢ NotWritten
+  not_by_writing asked e h is = subst (IsCauseOf files before after asked) is h

@@ -5,7 +5,7 @@ use Rattle.sg_shelf.specs.Faults.{HasRisen, HasNotRisen}
 use Rattle.sg_shelf.specs.Taken.{Takes, TakesFront}
 use Rattle.sg_shelf.specs.declared.sink.SinkError.{SinkError}
 use Rattle.sg_cli.specs.Refusals.{line_of}
-use Rattle.sg_cli.specs.Runs.{Tells}
+use Rattle.sg_cli.specs.Runs.{TellsRefusal}
 use Rattle.sg_cli.specs.declared.refusal.Refusal.{Refusal}
 
 risen_not : (before after : ℕ) → HasRisen before after → HasNotRisen before after → ⊥
@@ -16,7 +16,7 @@ whole_front before after piece h = (length piece, subst (λ (p : List ℕ). Take
 
 pub told : (faults_before faults_after : ℕ) (before after : Option (List ℕ)) (refusal : Refusal) (piece : List ℕ) (r : Result (Unit {0}) SinkError)
     → piece ≡ line_of refusal → OnOk r (Takes before after piece) → OnErr r (TakesFront before after piece) → OnErr r (HasRisen faults_before faults_after)
-    → Tells faults_before faults_after before after refusal
+    → TellsRefusal faults_before faults_after before after refusal
 told fb fa before after refusal piece (Ok x) is taken front risen =
     record {
       whole = λ calm. subst (λ (p : List ℕ). Takes before after p) is taken;

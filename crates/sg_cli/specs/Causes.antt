@@ -17,10 +17,10 @@ use Rattle.sg_cli.specs.declared.refusal.Refusal.{Refusal}
 use Rattle.sg_cli.specs.declared.refusal.Refusal.TheVariants.{Words, GameNotRead, GameTooLong, GameRefused, NotYet, ReportNotRead, ReportTooLong, ReportRefused, ReportWrong, NotWritten, Memory}
 
 -- the games that a command takes so far
-abbrev pub IsTaken : Asked → Game → Type 0
-IsTaken (solve game) g = IsSolved g
-IsTaken (check game report) g = IsChecked g
-IsTaken (show game report) g = IsChecked g
+abbrev pub IsServed : Asked → Game → Type 0
+IsServed (solve game) g = IsSolved g
+IsServed (check game report) g = IsChecked g
+IsServed (show game report) g = IsChecked g
 
 -- the count of the shelf's faults rose, or the files are told and none has the name
 abbrev pub IsNotRead : Option Files → List ℕ → Trail → Trail → Type 0
@@ -39,7 +39,7 @@ IsReportLong (Some files) name = IsLong (Some files) name report_limit
 -- the command's game was read, and the command takes it
 pub record TakesGame (files : Option Files) (asked : Asked) (g : Game) : Type 0 where
   pub says : SaysGame files (game_name asked) (Ok g)
-  pub taken : IsTaken asked g
+  pub taken : IsServed asked g
 
 -- the command reads a report too, after a game that it takes, and this holds of the report's file
 pub record OfReport (files : Option Files) (asked : Asked) (P : Game → List ℕ → Type 0) : Type 0 where
@@ -53,7 +53,7 @@ pub record OfReport (files : Option Files) (asked : Asked) (P : Game → List �
 pub record IsGameNotYet (files : Option Files) (asked : Asked) : Type 0 where
   pub game : Game
   pub says : SaysGame files (game_name asked) (Ok game)
-  pub not_taken : ¬ (IsTaken asked game)
+  pub not_taken : ¬ (IsServed asked game)
 
 -- a report was read, and this holds of it
 pub record ReadsReport (files : Option Files) (P : Report → Type 0) (name : List ℕ) : Type 0 where
@@ -68,29 +68,29 @@ pub record IsWrong (g : Game) (line reason : ℕ) (r : Report) : Type 0 where
 
 -- what a refusal comes of before anything is written: of the game's file, which alone was read, or of the report's, which
 -- was read after it; want of memory may come at any time
-abbrev pub Fails : Option Files → Trail → Trail → Asked → Refusal → Type 0
-Fails files before after asked GameNotRead = ReadsGameFile (game_name asked) Failed before after × IsNotRead files (game_name asked) before after
-Fails files before after asked GameTooLong = ReadsGameFile (game_name asked) TooLong before after × IsGameLong files (game_name asked) before after
-Fails files before after asked (GameRefused fault) = ReadsGameFile (game_name asked) Given before after × SaysGame files (game_name asked) (Err fault)
-Fails files before after asked NotYet =
+abbrev pub IsCauseOf : Option Files → Trail → Trail → Asked → Refusal → Type 0
+IsCauseOf files before after asked GameNotRead = ReadsGameFile (game_name asked) Failed before after × IsNotRead files (game_name asked) before after
+IsCauseOf files before after asked GameTooLong = ReadsGameFile (game_name asked) TooLong before after × IsGameLong files (game_name asked) before after
+IsCauseOf files before after asked (GameRefused fault) = ReadsGameFile (game_name asked) Given before after × SaysGame files (game_name asked) (Err fault)
+IsCauseOf files before after asked NotYet =
     (ReadsGameFile (game_name asked) Given before after × IsGameNotYet files asked)
     ⊎ OfReport files asked (λ g report. ReadsBoth (game_name asked) report Given before after × ReadsReport files (λ r. ¬ (IsCheckable r)) report)
-Fails files before after asked ReportNotRead =
+IsCauseOf files before after asked ReportNotRead =
     OfReport files asked (λ g report. ReadsBoth (game_name asked) report Failed before after × IsNotRead files report before after)
-Fails files before after asked ReportTooLong = OfReport files asked (λ g report. ReadsBoth (game_name asked) report TooLong before after × IsReportLong files report)
-Fails files before after asked (ReportRefused fault) =
+IsCauseOf files before after asked ReportTooLong = OfReport files asked (λ g report. ReadsBoth (game_name asked) report TooLong before after × IsReportLong files report)
+IsCauseOf files before after asked (ReportRefused fault) =
     OfReport files asked (λ g report. ReadsBoth (game_name asked) report Given before after × SaysReport files report (Err fault))
-Fails files before after asked (ReportWrong line reason) =
+IsCauseOf files before after asked (ReportWrong line reason) =
     OfReport files asked (λ g report. ReadsBoth (game_name asked) report Given before after × ReadsReport files (IsWrong g line reason) report)
-Fails files before after asked Memory = ReadsFront (reads_of asked) before after
-Fails files before after asked Words = ⊥
-Fails files before after asked NotWritten = ⊥
+IsCauseOf files before after asked Memory = ReadsFront (reads_of asked) before after
+IsCauseOf files before after asked Words = ⊥
+IsCauseOf files before after asked NotWritten = ⊥
 
 -- the words ask for a command, which fails so, and the output is as it was
 pub record Stops (s : Scene) (refusal : Refusal) : Type 0 where
   pub asked : Asked
   pub asks : s.asked ≡ Some asked
-  pub cause : Fails s.files s.shelf_before s.shelf_after asked refusal
+  pub cause : IsCauseOf s.files s.shelf_before s.shelf_after asked refusal
   pub kept : s.out_after ≡ s.out_before
 
 -- the command's files were read, the count of the output's faults rose, and the output took a front of the text that the

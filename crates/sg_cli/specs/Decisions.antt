@@ -10,7 +10,7 @@ use Rattle.sg_cert.specs.Reading.{report_of}
 use Rattle.sg_bounds.specs.Checking.{IsRefused}
 use Rattle.sg_check.specs.Covered.{has_cover}
 use Rattle.sg_check.specs.Verdicts.{IsAcceptedOptimal, IsAcceptedGap}
-use Rattle.sg_shelf.specs.Files.{Files, held}
+use Rattle.sg_shelf.specs.Files.{Files, bytes_under}
 use Rattle.sg_words.specs.Commands.{Asked, solve, check, show}
 use Rattle.sg_cli.specs.Scenes.{game_limit, report_limit}
 
@@ -54,6 +54,6 @@ ByGameFile by_game file status = ByFile game_limit (λ bytes. ByGame by_game (ga
 
 -- the status that told files decide for a command
 abbrev pub Decides : Files → Asked → ℕ → Type 0
-Decides files (solve game) status = ByGameFile BySolving (held files game) status
-Decides files (check game report) status = ByGameFile (ByPair ByChecking (held files report)) (held files game) status
-Decides files (show game report) status = ByGameFile (ByPair ByShowing (held files report)) (held files game) status
+Decides files (solve game) status = ByGameFile BySolving (bytes_under files game) status
+Decides files (check game report) status = ByGameFile (ByPair ByChecking (bytes_under files report)) (bytes_under files game) status
+Decides files (show game report) status = ByGameFile (ByPair ByShowing (bytes_under files report)) (bytes_under files game) status

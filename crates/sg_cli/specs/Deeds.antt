@@ -5,7 +5,7 @@ use Rattle.sg_tree.specs.declared.report.Report.{Report}
 use Rattle.sg_cert.specs.Text.{report_text}
 use Rattle.sg_bounds.specs.Accepted.{IsAccepted}
 use Rattle.sg_bounds.specs.ReportLaws.{Means}
-use Rattle.sg_report.specs.Tables.{IsTable}
+use Rattle.sg_report.specs.Tables.{IsReportTable}
 use Rattle.sg_shelf.specs.Files.{Files}
 use Rattle.sg_words.specs.Commands.{Asked, solve, check, show}
 use Rattle.sg_cli.specs.Scenes.{SaysGame, SaysReport}
@@ -46,7 +46,7 @@ pub record Shows (files : Option Files) (name report : List ℕ) (status : ℕ) 
   pub read : Report
   pub accepts : Accepts files name report game read
   pub done : status ≡ 0
-  pub written : IsTable game read.tickets.tickets read.upper text
+  pub written : IsReportTable game read.tickets.tickets read.upper text
 
 -- what each command does
 abbrev pub Does : Option Files → Asked → ℕ → List ℕ → Type 0

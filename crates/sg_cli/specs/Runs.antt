@@ -23,7 +23,7 @@ pub record IsDone (s : Scene) (status : ℕ) : Type 0 where
   pub takes : Takes s.out_before s.out_after text
 
 -- what a run says of a refusal on the other output: exactly its line where no fault is counted there, and never more
-pub record Tells (faults_before faults_after : ℕ) (before after : Option (List ℕ)) (refusal : Refusal) : Type 0 where
+pub record TellsRefusal (faults_before faults_after : ℕ) (before after : Option (List ℕ)) (refusal : Refusal) : Type 0 where
   pub whole : HasNotRisen faults_before faults_after → Takes before after (line_of refusal)
   pub front : TakesFront before after (line_of refusal)
 
@@ -32,7 +32,7 @@ pub record Refuses (s : Scene) (err_faults_before err_faults_after : ℕ) (err_b
   pub refusal : Refusal
   pub is_status : status ≡ status_of refusal
   pub cause : ComesOf s refusal
-  pub tells : Tells err_faults_before err_faults_after err_before err_after refusal
+  pub tells : TellsRefusal err_faults_before err_faults_after err_before err_after refusal
 
 -- the command was done, and nothing told, or a refusal
 abbrev pub Answers : Scene → ℕ → ℕ → Option (List ℕ) → Option (List ℕ) → ℕ → Type 0

@@ -36,10 +36,6 @@ scene asked files shelf_before shelf_after out_faults_before out_faults_after ou
   out_after = out_after;
 }
 
--- words as lists of bytes
-abbrev pub texts : List (String Global) → List (List ℕ)
-texts words = map string_bytes words
-
 -- the name of the game's file
 abbrev pub game_name : Asked → List ℕ
 game_name (solve game) = game

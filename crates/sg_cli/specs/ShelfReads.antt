@@ -1,6 +1,6 @@
 -- Which files a run read, in which order, and how the shelf answered.
 use Rattle.std.specs.Prelude.{◌≡◌, ℕ, List, [], ◌∷◌, ◌++◌, Option, Some, None}
-use Rattle.sg_shelf.specs.Logs.{Entry, Log, Trail, entry}
+use Rattle.sg_shelf.specs.Logs.{Entry, Log, Trail, logged_read}
 use Rattle.sg_shelf.specs.declared.log.Outcome.{Outcome}
 use Rattle.sg_shelf.specs.declared.log.Outcome.TheVariants.{Given}
 use Rattle.sg_words.specs.Commands.{Asked, solve, check, show}
@@ -16,10 +16,10 @@ HasRead reads before after = after.log ≡ before.log ++ reads
 
 -- a read of a game's file, up to its limit, and one of a report's
 abbrev pub game_read : List ℕ → Outcome → Entry
-game_read name outcome = entry name game_limit outcome
+game_read name outcome = logged_read name game_limit outcome
 
 abbrev pub report_read : List ℕ → Outcome → Entry
-report_read name outcome = entry name report_limit outcome
+report_read name outcome = logged_read name report_limit outcome
 
 -- The game's file alone was read, and answered so.
 abbrev pub ReadsGameFile : List ℕ → Outcome → Trail → Trail → Type 0

@@ -4,7 +4,8 @@ ghost use Rattle.std.specs.Prelude.{◌≡◌, ◌≢◌, ◌≤◌, IfOk, IfErr
 ghost use Rattle.sg_shelf.specs.Faults.{raised};
 ghost use Rattle.sg_words.specs.Commands.{command_given};
 ghost use Rattle.sg_cli.specs.ShelfReads.{trail};
-ghost use Rattle.sg_cli.specs.Scenes.{scene, texts};
+ghost use Rattle.sg_cli.specs.Scenes.{scene};
+ghost use Rattle.sg_game.specs.Seen.{texts};
 ghost use Rattle.sg_cli.specs.Causes.{ComesOf};
 ghost use Rattle.sg_cli.specs.Runs.{Answers, IsComplete, IsDone};
 

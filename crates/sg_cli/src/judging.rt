@@ -5,7 +5,7 @@ ghost use Rattle.sg_words.specs.Commands as commands;
 ghost use Rattle.sg_shelf.specs.declared.log.Outcome.TheVariants.{Given};
 ghost use Rattle.sg_cli.specs.ShelfReads.{ReadsGameFile, ReadsBoth, trail};
 ghost use Rattle.sg_cli.specs.Scenes.{SaysReport};
-ghost use Rattle.sg_cli.specs.Causes.{Fails};
+ghost use Rattle.sg_cli.specs.Causes.{IsCauseOf};
 ghost use Rattle.sg_cli.specs.Deeds.{Accepts};
 ghost use Rattle.sg_cli.specs.Solutions.{IsChecked};
 ghost use Rattle.sg_cli.specs.Readings.{HasChecked, IsJudged, JudgingFails};
@@ -33,7 +33,7 @@ fn checked_game<S: Shelf>(alloc: Global, shelf: &mut S, name: &str) -> Result<Ga
     ensures one { OnOk result (ReadsGameFile name.now Given
         (trail (S.log shelf.old) (S.faults shelf.old))
         (trail (S.log shelf.new) (S.faults shelf.new))) }
-    ensures err { IfErr result (λ e. (report : List ℕ) → Fails (S.files shelf.old)
+    ensures err { IfErr result (λ e. (report : List ℕ) → IsCauseOf (S.files shelf.old)
         (trail (S.log shelf.old) (S.faults shelf.old))
         (trail (S.log shelf.new) (S.faults shelf.new)) (commands.check name.now report) e) }
 {
@@ -75,7 +75,7 @@ pub(crate) fn accepted_named<S: Shelf>(
     ensures two { OnOk result (ReadsBoth name.now report.now Given
         (trail (S.log shelf.old) (S.faults shelf.old))
         (trail (S.log shelf.new) (S.faults shelf.new))) }
-    ensures err { IfErr result (Fails (S.files shelf.old)
+    ensures err { IfErr result (IsCauseOf (S.files shelf.old)
         (trail (S.log shelf.old) (S.faults shelf.old))
         (trail (S.log shelf.new) (S.faults shelf.new)) (commands.check name.now report.now)) }
 {

@@ -3,7 +3,7 @@
 ghost use Rattle.sg_cert.specs.Ranges.{IsReport};
 ghost use Rattle.sg_solve.specs.Solutions.{IsOptimalReport};
 ghost use Rattle.sg_cli.specs.Solutions.{IsSolved};
-ghost use Rattle.sg_cli.specs.Widths.{AreParts, HasParts, IsSized};
+ghost use Rattle.sg_cli.specs.Widths.{BothPartsFit, HasParts, IsSized};
 
 use sg_frac::Frac;
 use sg_game::Game;
@@ -18,7 +18,7 @@ fn sizes_of(claim: &Claim) -> (usize, i128)
 
 /// Both parts of a fraction.
 fn parts_of(fraction: &Frac) -> (i128, i128)
-    ensures { AreParts fraction.now }
+    ensures { BothPartsFit fraction.now }
 {
     (fraction.num(), fraction.den())
 }

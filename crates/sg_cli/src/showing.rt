@@ -2,7 +2,7 @@
 
 ghost use Rattle.std.specs.Prelude.{◌≡◌, ◌≢◌, ◌≤◌, IfOk, IfErr, Some};
 ghost use Rattle.sg_bounds.specs.Accepted.{IsAccepted};
-ghost use Rattle.sg_report.specs.Tables.{IsTable};
+ghost use Rattle.sg_report.specs.Tables.{IsReportTable};
 ghost use Rattle.sg_words.specs.Commands as commands;
 ghost use Rattle.sg_cli.specs.ShelfReads.{trail};
 ghost use Rattle.sg_cli.specs.Scenes.{scene};
@@ -32,7 +32,7 @@ fn commitment_of(game: &Game, report: Report) -> Commitment
 /// The table of an accepted report.
 fn table_of(alloc: Global, pair: Accepted) -> Result<Vec<u8>, AllocError>
     requires { IsAccepted pair.game pair.report }
-    ensures { IfOk result (λ text. IsTable pair.game pair.report.tickets.tickets pair.report.upper text.items) }
+    ensures { IfOk result (λ text. IsReportTable pair.game pair.report.tickets.tickets pair.report.upper text.items) }
 {
     let Accepted { game, report } = pair;
     let upper = report.upper;

@@ -5,7 +5,7 @@ ghost use Rattle.sg_words.specs.Commands as commands;
 ghost use Rattle.sg_shelf.specs.declared.log.Outcome.TheVariants.{Given};
 ghost use Rattle.sg_cli.specs.ShelfReads.{ReadsGameFile, trail};
 ghost use Rattle.sg_cli.specs.Scenes.{scene};
-ghost use Rattle.sg_cli.specs.Causes.{ComesOf, Fails};
+ghost use Rattle.sg_cli.specs.Causes.{ComesOf, IsCauseOf};
 ghost use Rattle.sg_cli.specs.Solutions.{IsSolved, IsAnswer};
 ghost use Rattle.sg_cli.specs.Readings.{HasSolution, IsSolution, SolvingFails};
 ghost use Rattle.sg_cli.specs.Runs.{IsDone};
@@ -52,7 +52,7 @@ fn solution_named<S: Shelf>(alloc: Global, name: &str, shelf: &mut S) -> Result<
     ensures one { OnOk result (ReadsGameFile name.now Given
         (trail (S.log shelf.old) (S.faults shelf.old))
         (trail (S.log shelf.new) (S.faults shelf.new))) }
-    ensures err { IfErr result (Fails (S.files shelf.old)
+    ensures err { IfErr result (IsCauseOf (S.files shelf.old)
         (trail (S.log shelf.old) (S.faults shelf.old))
         (trail (S.log shelf.new) (S.faults shelf.new)) (commands.solve name.now)) }
 {

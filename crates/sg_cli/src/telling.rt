@@ -3,7 +3,7 @@
 ghost use Rattle.std.specs.Prelude.{◌≡◌, ◌≤◌, ◌⊎◌, IfOk, string_bytes};
 ghost use Rattle.sg_shelf.specs.Faults.{raised};
 ghost use Rattle.sg_cli.specs.Refusals.{HasNumbers, line_of};
-ghost use Rattle.sg_cli.specs.Runs.{Tells};
+ghost use Rattle.sg_cli.specs.Runs.{TellsRefusal};
 
 use crate::refusal::{Refusal, game_line, report_line, wrong_line};
 use sg_shelf::Sink;
@@ -15,7 +15,7 @@ fn tell_plain<E: Sink>(refusal: Refusal, err: &mut E) -> Refusal
     ensures count { E.faults err.old ≤ E.faults err.new }
     ensures one_piece { E.puts err.new ≡ raised (E.puts err.old) }
     ensures same { result ≡ refusal }
-    ensures tells { Tells (E.faults err.old) (E.faults err.new) (E.taken err.old) (E.taken err.new) refusal }
+    ensures tells { TellsRefusal (E.faults err.old) (E.faults err.new) (E.taken err.old) (E.taken err.new) refusal }
 {
     let _ = err.put(refusal.plain_line().as_bytes());
     refusal
@@ -27,7 +27,7 @@ fn tell_line<E: Sink>(refusal: Refusal, line: Result<String, AllocError>, err: &
     ensures count { E.faults err.old ≤ E.faults err.new }
     ensures one_piece { E.puts err.new ≡ raised (E.puts err.old) }
     ensures same { (result ≡ refusal) ⊎ (result ≡ Refusal.Memory) }
-    ensures tells { Tells (E.faults err.old) (E.faults err.new) (E.taken err.old) (E.taken err.new) result }
+    ensures tells { TellsRefusal (E.faults err.old) (E.faults err.new) (E.taken err.old) (E.taken err.new) result }
 {
     match line {
         Ok(line) => {
@@ -43,7 +43,7 @@ pub(crate) fn tell<E: Sink>(alloc: Global, refusal: Refusal, err: &mut E) -> Ref
     ensures count { E.faults err.old ≤ E.faults err.new }
     ensures one_piece { E.puts err.new ≡ raised (E.puts err.old) }
     ensures same { (result ≡ refusal) ⊎ ((result ≡ Refusal.Memory) × HasNumbers refusal) }
-    ensures tells { Tells (E.faults err.old) (E.faults err.new) (E.taken err.old) (E.taken err.new) result }
+    ensures tells { TellsRefusal (E.faults err.old) (E.faults err.new) (E.taken err.old) (E.taken err.new) result }
 {
     match refusal {
         Refusal::GameRefused(fault) => tell_line(refusal, game_line(alloc, fault), err),

@@ -7,7 +7,7 @@ use Rattle.sg_model.specs.declared.ticket.Ticket.{Ticket}
 use Rattle.sg_model.specs.Commitments.{weight_total}
 use Rattle.sg_num.specs.declared.step.Wide.{Wide}
 use Rattle.sg_num.specs.Exact.{and_then, fits}
-use Rattle.sg_commit.specs.Parts.{exact_total, fault_from, fault_of, first_below}
+use Rattle.sg_commit.specs.Parts.{exact_total, fault_from, part_fault, first_below}
 use Rattle.sg_model.proofs.Covers.{ArePositive}
 
 none_below : (i : ℕ) (k : List Ticket) → first_below i k ≡ None → ArePositive k
@@ -17,7 +17,7 @@ none_below i (x ∷ xs) e = elim (int_le (pos 1) x.weight) as (λ (b : Bool). in
   | false ↦ (λ low none. cc)
 ] refl e
 
-pub no_fault-some : (k : List Ticket) → fault_of k ≡ None → k ≢ []
+pub no_fault-some : (k : List Ticket) → part_fault k ≡ None → k ≢ []
 no_fault-some [] e = cc
 no_fault-some (x ∷ xs) e = λ q. cc
 
@@ -25,7 +25,7 @@ fault_from-none : (place : Option ℕ) (sum : Result ℤ Wide) → fault_from pl
 fault_from-none (Some i) sum e = cc
 fault_from-none None sum e = refl
 
-pub no_fault-positive : (k : List Ticket) → fault_of k ≡ None → ArePositive k
+pub no_fault-positive : (k : List Ticket) → part_fault k ≡ None → ArePositive k
 no_fault-positive [] e = All-nil (λ (x : Ticket). pos 1 ≤ℤ x.weight)
 no_fault-positive (x ∷ xs) e = none_below 0 (x ∷ xs) (fault_from-none (first_below 0 (x ∷ xs)) (exact_total (pos 0) (x ∷ xs)) e)
 

@@ -14,11 +14,11 @@ use Rattle.std.proofs.lemmas.Nat.Gcd.{IsGcd-from_mod, IsGcd-from_zero}
 use Rattle.std.proofs.lemmas.Slice.Eq.{bytes_eq-Decides}
 use Rattle.std.proofs.Math.Nat.{dvd-mul_right, dvd_of_mul-dvd-mul_left, mul-div_cancel', mul-dvd-mul_left}
 use Rattle.sg_model.specs.declared.ticket.Ticket.{Ticket}
-use Rattle.sg_model.specs.Commitments.{scaled, weight_on, weight_total}
+use Rattle.sg_model.specs.Commitments.{scaled, weight_on, weight_total, AreLowest}
 use Rattle.sg_model.specs.OptimalityLaws.{AreOneMix}
 use Rattle.sg_model.proofs.Ints.{cancel, v, plus, times, same_by}
 use Rattle.sg_num.proofs.Divisors.{dvd-coprime, some_from_IsGcd}
-use Rattle.sg_commit.specs.Committed.{AreLowest, Committed, IsCommitted, is_rising}
+use Rattle.sg_commit.specs.Committed.{Committed, IsCommitted, is_rising}
 use Rattle.sg_model.specs.Orders.{is_before}
 use Rattle.sg_commit.proofs.Kept.{before-trans, head_before, not_before_itself, rising-tail, weight_on-scaled}
 use Rattle.sg_model.proofs.Covers.{ArePositive}

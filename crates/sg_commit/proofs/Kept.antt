@@ -13,9 +13,9 @@ use Rattle.sg_model.specs.declared.ticket.Ticket.{Ticket}
 use Rattle.sg_model.specs.Sums.{total}
 use Rattle.sg_model.specs.Games.{Game}
 use Rattle.sg_model.specs.Plays.{IsLegal}
-use Rattle.sg_model.specs.Commitments.{IsCommitment, scaled, weight_on}
+use Rattle.sg_model.specs.Commitments.{IsCommitment, scaled, weight_on, AreLegal}
 use Rattle.sg_model.proofs.Ints.{v, n, plus, times, same_by}
-use Rattle.sg_commit.specs.Committed.{AreLegal, Committed, IsCommitted, is_rising}
+use Rattle.sg_commit.specs.Committed.{Committed, IsCommitted, is_rising}
 use Rattle.sg_model.specs.Orders.{is_before}
 use Rattle.sg_commit.specs.Parts.{AreMultiple}
 use Rattle.sg_commit.proofs.Orders.{comes_before}

@@ -15,13 +15,13 @@ use Rattle.sg_num.specs.declared.step.Op.TheVariants.{Times}
 use Rattle.sg_num.specs.Exact.{and_then, exact_dot_step}
 use Rattle.sg_commit.specs.ExactSums.{exact_sum_a, exact_sum_d}
 use Rattle.sg_game.specs.declared.cell.Cell.{Cell}
-use Rattle.sg_game.specs.Tallies.{IsCounted, IsTable, no_cell}
+use Rattle.sg_game.specs.Tallies.{IsCounted, IsTally, no_cell}
 use Rattle.sg_commit.specs.Tallies.{counted_sum}
 use Rattle.sg_model.proofs.Spans.{Within, product-within}
 use Rattle.sg_commit.proofs.Small.{dot_step-ok, exact_ok, few-sum_a, few-sum_d}
 use Rattle.sg_model.proofs.Covers.{ArePositive}
 
-pub from_table : (g : Game) (k : List Ticket) (cells : List Cell) (empty : Bool) → IsTable g k cells → empty ≡ (length cells == 0) → empty ≡ false → IsCounted g k cells
+pub from_table : (g : Game) (k : List Ticket) (cells : List Cell) (empty : Bool) → IsTally g k cells → empty ≡ (length cells == 0) → empty ≡ false → IsCounted g k cells
 from_table g k [] empty h e q = absurd (true≢false (sym e ∙ q))
 from_table g k (x ∷ xs) empty h e q = h (omega arith)
 

@@ -13,7 +13,7 @@ use Rattle.sg_model.specs.Commitments.{is_best, sum_a, sum_d, take_of}
 use Rattle.sg_model.proofs.Numbers.{numbers-some}
 use Rattle.sg_num.specs.declared.step.Wide.{Wide}
 use Rattle.sg_num.specs.Exact.{and_then}
-use Rattle.sg_commit.specs.ExactSums.{compared, exact_sum_a, exact_sum_d, exact_take, first_wide, refusal_or, unless}
+use Rattle.sg_commit.specs.ExactSums.{compared, exact_sum_a, exact_sum_d, exact_take, first_refusal, refusal_or, unless}
 use Rattle.sg_commit.specs.Responses.{settled, take_from, take_step, taken_with, top_from, top_sum}
 use Rattle.sg_commit.proofs.ExactSums.{exact_dot-is}
 
@@ -38,39 +38,39 @@ module _ (g : Game) (k : List Ticket) (l : ℕ) where
   sum_d-is a z e = let q = exact_dot-is (λ (x : Ticket). pay_d g l x.play.code a) (pos 0) k z e in omega (arith, ints, q)
 
   -- the greatest sum is found, unless one of them is refused
-  pub top_from-is : (top : ℤ) (rest : List ℕ) → top_from g k l top rest ≡ unless (first_wide (exact_sum_a g k l) rest) (Ok (fold int_max top (map (sum_a g k l) rest)))
+  pub top_from-is : (top : ℤ) (rest : List ℕ) → top_from g k l top rest ≡ unless (first_refusal (exact_sum_a g k l) rest) (Ok (fold int_max top (map (sum_a g k l) rest)))
   top_from-is top [] = refl
   top_from-is top (a ∷ rest) = by (exact_sum_a g k l a) refl (λ z. top_from-is (int_max top z) rest)
     where
       by : (r : Result ℤ Wide) → exact_sum_a g k l a ≡ r
-          → ((z : ℤ) → top_from g k l (int_max top z) rest ≡ unless (first_wide (exact_sum_a g k l) rest) (Ok (fold int_max (int_max top z) (map (sum_a g k l) rest))))
+          → ((z : ℤ) → top_from g k l (int_max top z) rest ≡ unless (first_refusal (exact_sum_a g k l) rest) (Ok (fold int_max (int_max top z) (map (sum_a g k l) rest))))
           → and_then r (λ sum. top_from g k l (int_max top sum) rest)
-          ≡ unless (refusal_or r (first_wide (exact_sum_a g k l) rest)) (Ok (fold int_max (int_max top (sum_a g k l a)) (map (sum_a g k l) rest)))
-      by (Ok z) e more = more z ∙ ap (λ (s : ℤ). unless (first_wide (exact_sum_a g k l) rest) (Ok (fold int_max (int_max top s) (map (sum_a g k l) rest)))) (sum_a-is a z e)
+          ≡ unless (refusal_or r (first_refusal (exact_sum_a g k l) rest)) (Ok (fold int_max (int_max top (sum_a g k l a)) (map (sum_a g k l) rest)))
+      by (Ok z) e more = more z ∙ ap (λ (s : ℤ). unless (first_refusal (exact_sum_a g k l) rest) (Ok (fold int_max (int_max top s) (map (sum_a g k l) rest)))) (sum_a-is a z e)
       by (Err w) e more = refl
 
   pub top_of-is : 1 ≤ action_count g l → (r : Result ℤ Wide) → exact_sum_a g k l 1 ≡ r
       → and_then r (λ first. top_from g k l first (numbers_from 2 (action_count g l - 1))) ≡ unless (compared g k l) (Ok (top_sum g k l))
   top_of-is some r e =
       by r e
-      ∙ ap (λ (all : List ℕ). unless (first_wide (exact_sum_a g k l) all) (Ok (greatest (map (sum_a g k l) all)))) (sym (numbers_first (action_count g l) some))
+      ∙ ap (λ (all : List ℕ). unless (first_refusal (exact_sum_a g k l) all) (Ok (greatest (map (sum_a g k l) all)))) (sym (numbers_first (action_count g l) some))
     where
       by : (r : Result ℤ Wide) → exact_sum_a g k l 1 ≡ r
           → and_then r (λ first. top_from g k l first (numbers_from 2 (action_count g l - 1)))
-          ≡ unless (refusal_or (exact_sum_a g k l 1) (first_wide (exact_sum_a g k l) (numbers_from 2 (action_count g l - 1)))) (Ok (fold int_max (sum_a g k l 1) (map (sum_a g k l) (numbers_from 2 (action_count g l - 1)))))
+          ≡ unless (refusal_or (exact_sum_a g k l 1) (first_refusal (exact_sum_a g k l) (numbers_from 2 (action_count g l - 1)))) (Ok (fold int_max (sum_a g k l 1) (map (sum_a g k l) (numbers_from 2 (action_count g l - 1)))))
       by (Ok z) e =
           top_from-is z (numbers_from 2 (action_count g l - 1))
-          ∙ (ap (λ (s : ℤ). unless (first_wide (exact_sum_a g k l) (numbers_from 2 (action_count g l - 1))) (Ok (fold int_max s (map (sum_a g k l) (numbers_from 2 (action_count g l - 1)))))) (sum_a-is 1 z e)
-          ∙ ap (λ r. unless (refusal_or r (first_wide (exact_sum_a g k l) (numbers_from 2 (action_count g l - 1)))) (Ok (fold int_max (sum_a g k l 1) (map (sum_a g k l) (numbers_from 2 (action_count g l - 1)))))) (sym e))
-      by (Err w) e = ap (λ r. unless (refusal_or r (first_wide (exact_sum_a g k l) (numbers_from 2 (action_count g l - 1)))) (Ok (fold int_max (sum_a g k l 1) (map (sum_a g k l) (numbers_from 2 (action_count g l - 1)))))) (sym e)
+          ∙ (ap (λ (s : ℤ). unless (first_refusal (exact_sum_a g k l) (numbers_from 2 (action_count g l - 1))) (Ok (fold int_max s (map (sum_a g k l) (numbers_from 2 (action_count g l - 1)))))) (sum_a-is 1 z e)
+          ∙ ap (λ r. unless (refusal_or r (first_refusal (exact_sum_a g k l) (numbers_from 2 (action_count g l - 1)))) (Ok (fold int_max (sum_a g k l 1) (map (sum_a g k l) (numbers_from 2 (action_count g l - 1)))))) (sym e))
+      by (Err w) e = ap (λ r. unless (refusal_or r (first_refusal (exact_sum_a g k l) (numbers_from 2 (action_count g l - 1)))) (Ok (fold int_max (sum_a g k l 1) (map (sum_a g k l) (numbers_from 2 (action_count g l - 1)))))) (sym e)
 
 -- where none is refused, each is formed
-pub none_wide : (form : ℕ → Result ℤ Wide) (a n : ℕ) → first_wide form (numbers_from a n) ≡ None → (b : ℕ) → a ≤ b → b < a + n → IsOk (form b)
+pub none_wide : (form : ℕ → Result ℤ Wide) (a n : ℕ) → first_refusal form (numbers_from a n) ≡ None → (b : ℕ) → a ≤ b → b < a + n → IsOk (form b)
 none_wide form a zero e b low high = absurd (omega (arith, low, high))
 none_wide form a (suc n) e b low high = by (none_wide form (a + 1) n) (form a) refl e
   where
-    by : (first_wide form (numbers_from (a + 1) n) ≡ None → (b : ℕ) → a + 1 ≤ b → b < (a + 1) + n → IsOk (form b))
-        → (r : Result ℤ Wide) → form a ≡ r → refusal_or r (first_wide form (numbers_from (a + 1) n)) ≡ None → IsOk (form b)
+    by : (first_refusal form (numbers_from (a + 1) n) ≡ None → (b : ℕ) → a + 1 ≤ b → b < (a + 1) + n → IsOk (form b))
+        → (r : Result ℤ Wide) → form a ≡ r → refusal_or r (first_refusal form (numbers_from (a + 1) n)) ≡ None → IsOk (form b)
     by later (Ok z) q none = elim (cases_eq b a) [
       | inl same ↦ subst (λ (c : ℕ). IsOk (form c)) (sym same) (ap is_ok q)
       | inr other ↦ later none b (omega arith) (omega (arith, high))
@@ -134,38 +134,38 @@ settled-unless None zs = settled-over zs
 
 module _ (g : Game) (k : List Ticket) (l : ℕ) where
   take_from-is : (taken : Option ℤ) (rest : List ℕ)
-      → take_from g k l taken rest ≡ unless (first_wide (exact_sum_d g k l) (filter (is_best g k l) rest)) (Ok (taken_over taken (map (sum_d g k l) (filter (is_best g k l) rest))))
+      → take_from g k l taken rest ≡ unless (first_refusal (exact_sum_d g k l) (filter (is_best g k l) rest)) (Ok (taken_over taken (map (sum_d g k l) (filter (is_best g k l) rest))))
   take_from-is taken [] = refl
   take_from-is taken (a ∷ rest) = by (λ next. take_from-is next rest) (is_best g k l a)
     where
-      of_sum : ((next : Option ℤ) → take_from g k l next rest ≡ unless (first_wide (exact_sum_d g k l) (filter (is_best g k l) rest)) (Ok (taken_over next (map (sum_d g k l) (filter (is_best g k l) rest)))))
+      of_sum : ((next : Option ℤ) → take_from g k l next rest ≡ unless (first_refusal (exact_sum_d g k l) (filter (is_best g k l) rest)) (Ok (taken_over next (map (sum_d g k l) (filter (is_best g k l) rest)))))
           → (r : Result ℤ Wide) → exact_sum_d g k l a ≡ r
           → and_then (and_then r (λ sum. Ok (Some (taken_with taken sum)))) (λ next. take_from g k l next rest)
-          ≡ unless (refusal_or r (first_wide (exact_sum_d g k l) (filter (is_best g k l) rest))) (Ok (taken_over (Some (taken_with taken (sum_d g k l a))) (map (sum_d g k l) (filter (is_best g k l) rest))))
+          ≡ unless (refusal_or r (first_refusal (exact_sum_d g k l) (filter (is_best g k l) rest))) (Ok (taken_over (Some (taken_with taken (sum_d g k l a))) (map (sum_d g k l) (filter (is_best g k l) rest))))
       of_sum more (Ok z) e =
           more (Some (taken_with taken z))
-          ∙ ap (λ (s : ℤ). unless (first_wide (exact_sum_d g k l) (filter (is_best g k l) rest)) (Ok (taken_over (Some (taken_with taken s)) (map (sum_d g k l) (filter (is_best g k l) rest))))) (sum_d-is g k l a z e)
+          ∙ ap (λ (s : ℤ). unless (first_refusal (exact_sum_d g k l) (filter (is_best g k l) rest)) (Ok (taken_over (Some (taken_with taken s)) (map (sum_d g k l) (filter (is_best g k l) rest))))) (sum_d-is g k l a z e)
       of_sum more (Err w) e = refl
 
-      by : ((next : Option ℤ) → take_from g k l next rest ≡ unless (first_wide (exact_sum_d g k l) (filter (is_best g k l) rest)) (Ok (taken_over next (map (sum_d g k l) (filter (is_best g k l) rest)))))
+      by : ((next : Option ℤ) → take_from g k l next rest ≡ unless (first_refusal (exact_sum_d g k l) (filter (is_best g k l) rest)) (Ok (taken_over next (map (sum_d g k l) (filter (is_best g k l) rest)))))
           → (b : Bool)
           → and_then (cond b (and_then (exact_sum_d g k l a) (λ sum. Ok (Some (taken_with taken sum)))) (Ok taken)) (λ next. take_from g k l next rest)
-          ≡ unless (first_wide (exact_sum_d g k l) (cond b (a ∷ filter (is_best g k l) rest) (filter (is_best g k l) rest))) (Ok (taken_over taken (map (sum_d g k l) (cond b (a ∷ filter (is_best g k l) rest) (filter (is_best g k l) rest)))))
+          ≡ unless (first_refusal (exact_sum_d g k l) (cond b (a ∷ filter (is_best g k l) rest) (filter (is_best g k l) rest))) (Ok (taken_over taken (map (sum_d g k l) (cond b (a ∷ filter (is_best g k l) rest) (filter (is_best g k l) rest)))))
       by more true = of_sum more (exact_sum_d g k l a) refl
       by more false = more taken
 
   -- the defender's greatest sum over the best actions is taken, unless one of them is refused
   pub settled-is : settled (take_from g k l None (numbers (action_count g l)))
-      ≡ unless (first_wide (exact_sum_d g k l) (filter (is_best g k l) (numbers (action_count g l)))) (Ok (take_of g k l))
+      ≡ unless (first_refusal (exact_sum_d g k l) (filter (is_best g k l) (numbers (action_count g l)))) (Ok (take_of g k l))
   settled-is =
       ap settled (take_from-is None (numbers (action_count g l)))
-      ∙ settled-unless (first_wide (exact_sum_d g k l) (filter (is_best g k l) (numbers (action_count g l)))) (map (sum_d g k l) (filter (is_best g k l) (numbers (action_count g l))))
+      ∙ settled-unless (first_refusal (exact_sum_d g k l) (filter (is_best g k l) (numbers (action_count g l)))) (map (sum_d g k l) (filter (is_best g k l) (numbers (action_count g l))))
 
 -- what is taken where the sums were compared
 pub settled-take : (g : Game) (k : List Ticket) (l : ℕ) → compared g k l ≡ None → settled (take_from g k l None (numbers (action_count g l))) ≡ exact_take g k l
 settled-take g k l e =
     settled-is g k l
-    ∙ ap (λ (w : Option Wide). unless w (unless (first_wide (exact_sum_d g k l) (filter (is_best g k l) (numbers (action_count g l)))) (Ok (take_of g k l)))) (sym e)
+    ∙ ap (λ (w : Option Wide). unless w (unless (first_refusal (exact_sum_d g k l) (filter (is_best g k l) (numbers (action_count g l)))) (Ok (take_of g k l)))) (sym e)
 
 -- what an answer says of the refusals before it
 pub unless-ok : {A : Type 0} (w : Option Wide) (x t : A) → Ok t ≡ unless w (Ok x) → (w ≡ None) × (t ≡ x)
@@ -208,7 +208,7 @@ not_err (Err w) wide h e = cc
 
 -- a number that is taken is the one that is meant
 pub taken-value : (g : Game) (k : List Ticket) (l : ℕ) (r : Result ℤ Wide) → r ≡ exact_take g k l → IfOk r (λ z. z ≡ take_of g k l)
-taken-value g k l r e = by (compared g k l) (first_wide (exact_sum_d g k l) (filter (is_best g k l) (numbers (action_count g l)))) r e
+taken-value g k l r e = by (compared g k l) (first_refusal (exact_sum_d g k l) (filter (is_best g k l) (numbers (action_count g l)))) r e
   where
     by : (v w : Option Wide) (r : Result ℤ Wide) → r ≡ unless v (unless w (Ok (take_of g k l))) → IfOk r (λ z. z ≡ take_of g k l)
     by v w (Err x) e = tt

@@ -7,12 +7,11 @@ use Rattle.std.proofs.lemmas.Nat.Gcd.{dvd_antisymm}
 use Rattle.std.proofs.lemmas.Int.{ints}
 use Rattle.std.proofs.lemmas.List.Elements.{All-head, All-tail}
 use Rattle.sg_model.specs.declared.ticket.Ticket.{Ticket}
-use Rattle.sg_model.specs.Commitments.{weight_total}
+use Rattle.sg_model.specs.Commitments.{weight_total, AreLowest}
 use Rattle.sg_num.specs.declared.step.Wide.{Wide}
 use Rattle.sg_num.specs.declared.step.Op.TheVariants.{Sum}
 use Rattle.sg_num.specs.Exact.{and_then, exact_sum, fits}
 use Rattle.sg_num.proofs.Steps.{exact-fits, fits-from_FitsSigned}
-use Rattle.sg_commit.specs.Committed.{AreLowest}
 use Rattle.sg_commit.specs.Joining.{IsCommonDivisor}
 use Rattle.sg_commit.specs.Parts.{exact_total}
 use Rattle.sg_commit.specs.Rising.{AreShares}

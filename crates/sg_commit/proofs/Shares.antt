@@ -13,12 +13,12 @@ use Rattle.std.proofs.Math.Nat.{mul-div_cancel', mul-dvd-mul_left, dvd_of_mul-dv
 use Rattle.sg_model.specs.declared.ticket.Ticket.{Ticket}
 use Rattle.sg_model.specs.declared.kind.Kind.TheVariants.{Security}
 use Rattle.sg_model.specs.Games.{Game}
-use Rattle.sg_model.specs.Commitments.{scaled, weight_on, weight_total}
+use Rattle.sg_model.specs.Commitments.{scaled, weight_on, weight_total, AreLowest}
 use Rattle.sg_model.specs.OptimalityLaws.{AreOneMix}
 use Rattle.sg_model.proofs.Ints.{factor_positive, v, times, same_by, cancel, product_nonneg}
 use Rattle.sg_model.proofs.Joined.{mix-permuted, same_weight_total}
 use Rattle.sg_model.proofs.Scaled.{weight_total-scaled}
-use Rattle.sg_commit.specs.Committed.{AreLowest, IsCommitted, is_rising}
+use Rattle.sg_commit.specs.Committed.{IsCommitted, is_rising}
 use Rattle.sg_model.specs.Orders.{is_before}
 use Rattle.sg_commit.specs.Joining.{IsCommonDivisor, joined, no_ticket}
 use Rattle.sg_commit.specs.Parts.{AreMultiple}

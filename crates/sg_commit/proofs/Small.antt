@@ -22,8 +22,8 @@ use Rattle.sg_num.specs.declared.step.Op.{Op}
 use Rattle.sg_num.specs.declared.step.Op.TheVariants.{Sum, Times}
 use Rattle.sg_num.specs.declared.step.Wide.{Wide}
 use Rattle.sg_num.specs.Exact.{and_then, exact, exact_dot_step, exact_sum, exact_times, result_of}
-use Rattle.sg_commit.specs.ExactSums.{exact_base, exact_dot, exact_sum_a, exact_sum_d, exact_take, exact_worth, first_wide, refusal_or, unless, worth_from, worth_step}
-use Rattle.sg_commit.specs.CommitmentLaws.{IsFormed, IsSmall}
+use Rattle.sg_commit.specs.ExactSums.{exact_base, exact_dot, exact_sum_a, exact_sum_d, exact_take, exact_worth, first_refusal, refusal_or, unless, worth_from, worth_step}
+use Rattle.sg_commit.specs.CommitmentLaws.{IsFormed, HasSmallTotal}
 use Rattle.sg_model.proofs.Spans.{Within, fits_span, pay-within, product-within, room}
 use Rattle.sg_num.proofs.Steps.{exact-fits, fits-from_FitsSigned}
 use Rattle.sg_commit.proofs.Responses.{not_err}
@@ -67,9 +67,9 @@ module _ (pay : Ticket → ℤ) (range : (x : Ticket) → IsPay (pay x)) where
       let p = product-within w c (pay x) some (pay-within (pay x) (range x)) in
       record { low = omega (arith, ints, p.low, rest.low, split); high = omega (arith, ints, p.high, rest.high, split) }
 
-none_refused : (form : ℕ → Result ℤ Wide) (f : ℕ → ℤ) → ((a : ℕ) → form a ≡ Ok (f a)) → (rest : List ℕ) → first_wide form rest ≡ None
+none_refused : (form : ℕ → Result ℤ Wide) (f : ℕ → ℤ) → ((a : ℕ) → form a ≡ Ok (f a)) → (rest : List ℕ) → first_refusal form rest ≡ None
 none_refused form f h [] = refl
-none_refused form f h (a ∷ rest) = ap (λ r. refusal_or r (first_wide form rest)) (h a) ∙ none_refused form f h rest
+none_refused form f h (a ∷ rest) = ap (λ r. refusal_or r (first_refusal form rest)) (h a) ∙ none_refused form f h rest
 
 -- ---- the priors
 
@@ -108,7 +108,7 @@ module _ (g : Game) (h : IsGame g) (k : List Ticket) (positive : ArePositive k) 
   pub few-sum_a : (l a : ℕ) → exact_sum_a g k l a ≡ Ok (sum_a g k l a)
   few-sum_a l a = dot-ok (λ (x : Ticket). pay_a g l x.play.code a) (λ x. pay_a-in_range g h l x.play.code a) (pos 0) k positive room_at_first ∙ ap Ok (omega (arith, ints))
 
-module _ (g : Game) (h : IsGame g) (k : List Ticket) (positive : ArePositive k) (small : IsSmall g k) where
+module _ (g : Game) (h : IsGame g) (k : List Ticket) (positive : ArePositive k) (small : HasSmallTotal g k) where
   people : IsPeopled g
   people = peopled g h
 
@@ -128,7 +128,7 @@ module _ (g : Game) (h : IsGame g) (k : List Ticket) (positive : ArePositive k) 
 
   take-ok : (l : ℕ) → exact_take g k l ≡ Ok (take_of g k l)
   take-ok l =
-      ap (λ w. unless w (unless (first_wide (exact_sum_d g k l) (filter (is_best g k l) (numbers (action_count g l)))) (Ok (take_of g k l))))
+      ap (λ w. unless w (unless (first_refusal (exact_sum_d g k l) (filter (is_best g k l) (numbers (action_count g l)))) (Ok (take_of g k l))))
       (none_refused (exact_sum_a g k l) (sum_a g k l) (sum_a-ok l) (numbers (action_count g l)))
       ∙ ap (λ w. unless w (Ok (take_of g k l))) (none_refused (exact_sum_d g k l) (sum_d g k l) (sum_d-ok l) (filter (is_best g k l) (numbers (action_count g l))))
 
@@ -182,7 +182,7 @@ module _ (g : Game) (h : IsGame g) (k : List Ticket) (positive : ArePositive k) 
   pub small-formed : IsFormed g k
   small-formed = record { defender = sum_d-ok; attacker = sum_a-ok; taken = take-ok; worth = worth_whole; base = base-ok }
 
-pub scaled-small : (g : Game) → IsGame g → pos 1 ≤ℤ g.scale → (k : List Ticket) → weight_total k ≤ℤ pos (2 ^ 96) → IsSmall g k
+pub scaled-small : (g : Game) → IsGame g → pos 1 ≤ℤ g.scale → (k : List Ticket) → weight_total k ≤ℤ pos (2 ^ 96) → HasSmallTotal g k
 scaled-small g h scaled k few =
     let o = origami g h (sym (omega (arith, ints, scaled))) in
     let p : prior_total g ≡ pos 1 = prior_is g o.0 o.1 in
@@ -190,5 +190,5 @@ scaled-small g h scaled k few =
     omega (arith, ints, one, few)
 
 -- so the value is no refusal
-pub small-value : (g : Game) → IsGame g → (k : List Ticket) → ArePositive k → IsSmall g k → (wide : Wide) → exact_base g k ≡ Err wide → ⊥
+pub small-value : (g : Game) → IsGame g → (k : List Ticket) → ArePositive k → HasSmallTotal g k → (wide : Wide) → exact_base g k ≡ Err wide → ⊥
 small-value g h k positive small wide e = not_err (exact_base g k) wide (ap is_ok (small-formed g h k positive small).base) e

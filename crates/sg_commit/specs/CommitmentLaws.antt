@@ -3,9 +3,9 @@ use Rattle.std.specs.Prelude.{◌≡◌, ◌^◌, ℕ, List, ℤ, pos, ◌*ℤ�
 use Rattle.sg_model.specs.declared.ticket.Ticket.{Ticket}
 use Rattle.sg_model.specs.Games.{Game, prior_total}
 use Rattle.sg_model.specs.Limits.{IsGame}
-use Rattle.sg_model.specs.Commitments.{IsCommitment, scaled, sum_a, sum_d, take_of, weight_total, worth}
+use Rattle.sg_model.specs.Commitments.{IsCommitment, scaled, sum_a, sum_d, take_of, weight_total, worth, AreLegal}
 use Rattle.sg_model.specs.OptimalityLaws.{AreOneMix}
-use Rattle.sg_commit.specs.Committed.{AreLegal, Committed, IsCommitted}
+use Rattle.sg_commit.specs.Committed.{Committed, IsCommitted}
 use Rattle.sg_commit.specs.Parts.{AreMultiple}
 use Rattle.sg_commit.specs.ExactSums.{exact_base, exact_sum_a, exact_sum_d, exact_take, exact_worth}
 
@@ -23,8 +23,8 @@ SharesFixKept = (c other : Committed) → IsCommitted c → IsCommitted other �
     → AreOneMix (scaled m c.tickets) (scaled n other.tickets) → c ≡ other
 
 -- the total, times the sum of the priors, is at most 2^96
-abbrev pub IsSmall : Game → List Ticket → Type 0
-IsSmall g k = (weight_total k *ℤ prior_total g) ≤ℤ pos (2 ^ 96)
+abbrev pub HasSmallTotal : Game → List Ticket → Type 0
+HasSmallTotal g k = (weight_total k *ℤ prior_total g) ≤ℤ pos (2 ^ 96)
 
 -- then all that is formed fits, and is what is meant
 pub record IsFormed (g : Game) (k : List Ticket) : Type 0 where
@@ -35,8 +35,8 @@ pub record IsFormed (g : Game) (k : List Ticket) : Type 0 where
   pub base : exact_base g k ≡ Ok (weight_total k *ℤ prior_total g)
 
 abbrev pub SmallIsFormed : Type 0
-SmallIsFormed = (g : Game) → IsGame g → (k : List Ticket) → All (λ (x : Ticket). pos 1 ≤ℤ x.weight) k → IsSmall g k → IsFormed g k
+SmallIsFormed = (g : Game) → IsGame g → (k : List Ticket) → All (λ (x : Ticket). pos 1 ≤ℤ x.weight) k → HasSmallTotal g k → IsFormed g k
 
 -- where a scale is declared, that is so of every total up to 2^96
 abbrev pub ScaledIsSmall : Type 0
-ScaledIsSmall = (g : Game) → IsGame g → pos 1 ≤ℤ g.scale → (k : List Ticket) → weight_total k ≤ℤ pos (2 ^ 96) → IsSmall g k
+ScaledIsSmall = (g : Game) → IsGame g → pos 1 ≤ℤ g.scale → (k : List Ticket) → weight_total k ≤ℤ pos (2 ^ 96) → HasSmallTotal g k

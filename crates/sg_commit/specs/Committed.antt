@@ -5,7 +5,7 @@ use Rattle.sg_model.specs.declared.ticket.Ticket.{Ticket}
 use Rattle.sg_model.specs.Games.{Game}
 use Rattle.sg_model.specs.Orders.{is_before}
 use Rattle.sg_model.specs.Plays.{IsLegal}
-use Rattle.sg_model.specs.Commitments.{weight_total}
+use Rattle.sg_model.specs.Commitments.{weight_total, AreLowest}
 
 -- tickets, and the sum of their weights
 pub record Committed : Type 0 where
@@ -18,10 +18,6 @@ is_rising [] = true
 is_rising (x ∷ []) = true
 is_rising (x ∷ y ∷ ys) = is_before x.play.code y.play.code && is_rising (y ∷ ys)
 
--- no number above 1 divides all weights
-abbrev pub AreLowest : List Ticket → Type 0
-AreLowest k = (d : ℕ) → All (λ (x : Ticket). d ∣ unsigned_abs x.weight) k → d ≡ 1
-
 -- at least one ticket, plays in strictly rising order, weights of at least 1 in lowest terms, and their sum
 pub record IsCommitted (c : Committed) : Type 0 where
   pub some : c.tickets ≢ []
@@ -29,7 +25,3 @@ pub record IsCommitted (c : Committed) : Type 0 where
   pub rising : is_rising c.tickets ≡ true
   pub lowest : AreLowest c.tickets
   pub sum : c.total ≡ weight_total c.tickets
-
--- the plays of the tickets are legal
-abbrev pub AreLegal : Game → List Ticket → Type 0
-AreLegal g k = All (λ (x : Ticket). IsLegal g x.play.code) k

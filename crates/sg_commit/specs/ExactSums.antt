@@ -28,9 +28,9 @@ refusal_or (Err wide) later = Some wide
 refusal_or (Ok z) later = later
 
 -- the first refusal where these are formed in turn
-abbrev pub first_wide : (ℕ → Result ℤ Wide) → List ℕ → Option Wide
-first_wide form [] = None
-first_wide form (a ∷ rest) = refusal_or (form a) (first_wide form rest)
+abbrev pub first_refusal : (ℕ → Result ℤ Wide) → List ℕ → Option Wide
+first_refusal form [] = None
+first_refusal form (a ∷ rest) = refusal_or (form a) (first_refusal form rest)
 
 -- a result, unless there was a refusal before it
 abbrev pub unless : {A : Type 0} → Option Wide → Result A Wide → Result A Wide
@@ -39,7 +39,7 @@ unless None result = result
 
 -- the sums that type l compares, of all its actions by rising action
 abbrev pub compared : Game → List Ticket → ℕ → Option Wide
-compared g k l = first_wide (exact_sum_a g k l) (numbers (action_count g l))
+compared g k l = first_refusal (exact_sum_a g k l) (numbers (action_count g l))
 
 -- whether a is best for type l, once the sums are compared
 abbrev pub exact_is_best : Game → List Ticket → ℕ → ℕ → Result Bool Wide
@@ -49,7 +49,7 @@ exact_is_best g k l a = unless (compared g k l) (Ok (is_best g k l a))
 abbrev pub exact_take : Game → List Ticket → ℕ → Result ℤ Wide
 exact_take g k l =
     unless (compared g k l)
-    (unless (first_wide (exact_sum_d g k l) (filter (is_best g k l) (numbers (action_count g l)))) (Ok (take_of g k l)))
+    (unless (first_refusal (exact_sum_d g k l) (filter (is_best g k l) (numbers (action_count g l)))) (Ok (take_of g k l)))
 
 -- acc and the prior of type l times what it leaves the defender
 abbrev pub worth_step : Game → List Ticket → ℤ → ℕ → Result ℤ Wide

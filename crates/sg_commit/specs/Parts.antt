@@ -25,9 +25,9 @@ fault_from None (Err wide) = Some (SumWide wide)
 fault_from None (Ok sum) = None
 
 -- the first fault of parts: that there is none of them, then those of some parts
-abbrev pub fault_of : List Ticket → Option PartFault
-fault_of [] = Some Empty
-fault_of (x ∷ xs) = fault_from (first_below 0 (x ∷ xs)) (exact_total (pos 0) (x ∷ xs))
+abbrev pub part_fault : List Ticket → Option PartFault
+part_fault [] = Some Empty
+part_fault (x ∷ xs) = fault_from (first_below 0 (x ∷ xs)) (exact_total (pos 0) (x ∷ xs))
 
 -- the parts are the tickets with all weights multiplied by one number of at least 1, joined and in another order
 abbrev pub AreMultiple : List Ticket → List Ticket → Type 0

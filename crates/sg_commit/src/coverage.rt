@@ -4,9 +4,8 @@ ghost use Rattle.std.specs.Prelude.{◌≡◌, ◌-◌, ◌^◌, false, if◌the
 ghost use Rattle.sg_model.specs.declared.ticket.Ticket.{Ticket};
 ghost use Rattle.sg_model.specs.Games.{is_matrix};
 ghost use Rattle.sg_model.specs.Plays.{IsLegal, covers};
-ghost use Rattle.sg_model.specs.Commitments.{cover_count, weight_total};
+ghost use Rattle.sg_model.specs.Commitments.{cover_count, weight_total, AreLegal};
 ghost use Rattle.sg_game.specs.Counts.{IsGoalOf};
-ghost use Rattle.sg_commit.specs.Committed.{AreLegal};
 
 use crate::commitment::Commitment;
 use sg_game::{Game, covers};

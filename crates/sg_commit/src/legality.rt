@@ -1,7 +1,7 @@
 //! Whether tickets are plays of a game.
 
 ghost use Rattle.std.specs.Prelude.{◌↔◌, IsTrue};
-ghost use Rattle.sg_commit.specs.Committed.{AreLegal};
+ghost use Rattle.sg_model.specs.Commitments.{AreLegal};
 
 use sg_game::{Game, legal};
 use sg_model::Ticket;

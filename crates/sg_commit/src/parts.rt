@@ -2,7 +2,7 @@
 
 ghost use Rattle.std.specs.Prelude.{◌≡◌, pos, Some, None, IfOk, MatchResult};
 ghost use Rattle.sg_num.specs.Exact.{exact_sum};
-ghost use Rattle.sg_commit.specs.Parts.{AreMultiple, exact_total, fault_of, first_below};
+ghost use Rattle.sg_commit.specs.Parts.{AreMultiple, exact_total, part_fault, first_below};
 
 use crate::commitment::Commitment;
 use crate::joining::tickets_of;
@@ -30,7 +30,7 @@ impl Commitment {
     ///
     /// The first of: no part, a weight below 1, a running sum of the weights, in the given order, that does not fit.
     pub fn of(parts: Vec<Ticket>) -> Result<Commitment, PartFault>
-        ensures faults { MatchResult result (λ _. fault_of parts.items ≡ None) (λ fault. fault_of parts.items ≡ Some fault) }
+        ensures faults { MatchResult result (λ _. part_fault parts.items ≡ None) (λ fault. part_fault parts.items ≡ Some fault) }
         ensures shares { IfOk result (λ k. AreMultiple parts.items k.tickets) }
     {
         let total = sum_of(parts.as_slice())?;
@@ -66,7 +66,7 @@ pub(crate) fn running_sum(parts: &[Ticket]) -> Result<i128, Wide>
 
 // The sum of the weights, where the parts have no fault.
 fn sum_of(parts: &[Ticket]) -> Result<i128, PartFault>
-    ensures { MatchResult result (λ total. (fault_of parts.now ≡ None) × (exact_total (pos 0) parts.now ≡ Ok total)) (λ fault. fault_of parts.now ≡ Some fault) }
+    ensures { MatchResult result (λ total. (part_fault parts.now ≡ None) × (exact_total (pos 0) parts.now ≡ Ok total)) (λ fault. part_fault parts.now ≡ Some fault) }
 {
     if parts.is_empty() {
         return Err(PartFault::Empty);

@@ -4,11 +4,10 @@ ghost use Rattle.std.specs.Prelude.{◌≡◌, ◌≤◌, ◌-◌, ◌^◌, fals
 ghost use Rattle.std.specs.Int.{int_max};
 ghost use Rattle.sg_model.specs.Sums.{numbers, numbers_from};
 ghost use Rattle.sg_model.specs.Games.{action_count, is_matrix};
-ghost use Rattle.sg_model.specs.Commitments.{is_best, take_of};
+ghost use Rattle.sg_model.specs.Commitments.{is_best, take_of, AreLegal};
 ghost use Rattle.sg_game.specs.Counts.{IsActionOf, IsTypeOf};
-ghost use Rattle.sg_commit.specs.Committed.{AreLegal};
 ghost use Rattle.sg_commit.specs.ExactSums.{compared, exact_is_best, exact_take, unless};
-ghost use Rattle.sg_game.specs.Tallies.{IsTable};
+ghost use Rattle.sg_game.specs.Tallies.{IsTally};
 ghost use Rattle.sg_commit.specs.Responses.{settled, take_from, take_step, taken_with, top_from, top_sum};
 
 use crate::commitment::Commitment;
@@ -29,7 +28,7 @@ fn greater(a: i128, b: i128) -> i128
 // The greatest of a first sum of type `l` and those of its actions from 2 on.
 fn top_after(game: &Game, k: &Commitment, table: &[Cell], l: u8, first: i128) -> Result<i128, Wide>
     requires legal { AreLegal game.now k.now.tickets }
-    requires table { IsTable game.now k.now.tickets table.now }
+    requires table { IsTally game.now k.now.tickets table.now }
     requires known_type { IsTypeOf game.now l }
     ensures { result ≡ top_from game.now k.now.tickets l first (numbers_from 2 (action_count game.now l - 1)) }
 {
@@ -54,7 +53,7 @@ fn has_action(game: &Game, l: u8)
 // The greatest sum of type `l` over its actions.
 fn top_of(game: &Game, k: &Commitment, table: &[Cell], l: u8) -> Result<i128, Wide>
     requires legal { AreLegal game.now k.now.tickets }
-    requires table { IsTable game.now k.now.tickets table.now }
+    requires table { IsTally game.now k.now.tickets table.now }
     requires known_type { IsTypeOf game.now l }
     ensures { result ≡ unless (compared game.now k.now.tickets l) (Ok (top_sum game.now k.now.tickets l)) }
 {
@@ -68,7 +67,7 @@ fn top_of(game: &Game, k: &Commitment, table: &[Cell], l: u8) -> Result<i128, Wi
 // Whether the sum of action `a` is the greatest, where all are known to fit.
 fn attains(game: &Game, k: &Commitment, table: &[Cell], l: u8, a: u16, top: i128) -> bool
     requires legal { AreLegal game.now k.now.tickets }
-    requires table { IsTable game.now k.now.tickets table.now }
+    requires table { IsTally game.now k.now.tickets table.now }
     requires known_type { IsTypeOf game.now l }
     requires known_action { IsActionOf game.now l a }
     requires compared { compared game.now k.now.tickets l ≡ None }
@@ -102,7 +101,7 @@ fn look(
     taken: Option<i128>,
 ) -> Result<Option<i128>, Wide>
     requires legal { AreLegal game.now k.now.tickets }
-    requires table { IsTable game.now k.now.tickets table.now }
+    requires table { IsTally game.now k.now.tickets table.now }
     requires known_type { IsTypeOf game.now l }
     requires known_action { IsActionOf game.now l a }
     requires compared { compared game.now k.now.tickets l ≡ None }
@@ -127,7 +126,7 @@ fn look_at_all(
     top: i128,
 ) -> Result<Option<i128>, Wide>
     requires legal { AreLegal game.now k.now.tickets }
-    requires table { IsTable game.now k.now.tickets table.now }
+    requires table { IsTally game.now k.now.tickets table.now }
     requires known_type { IsTypeOf game.now l }
     requires compared { compared game.now k.now.tickets l ≡ None }
     requires top { top ≡ top_sum game.now k.now.tickets l }
@@ -157,7 +156,7 @@ fn settle(taken: Result<Option<i128>, Wide>) -> Result<i128, Wide>
 // `is_best`, by the table of counts where there is one.
 fn table_is_best(game: &Game, k: &Commitment, table: &[Cell], l: u8, a: u16) -> Result<bool, Wide>
     requires legal { AreLegal game.now k.now.tickets }
-    requires table { IsTable game.now k.now.tickets table.now }
+    requires table { IsTally game.now k.now.tickets table.now }
     requires known_type { IsTypeOf game.now l }
     requires known_action { IsActionOf game.now l a }
     ensures { result ≡ exact_is_best game.now k.now.tickets l a }
@@ -171,7 +170,7 @@ fn table_is_best(game: &Game, k: &Commitment, table: &[Cell], l: u8, a: u16) -> 
 // `take`, by the table of counts where there is one.
 fn table_take(game: &Game, k: &Commitment, table: &[Cell], l: u8) -> Result<i128, Wide>
     requires legal { AreLegal game.now k.now.tickets }
-    requires table { IsTable game.now k.now.tickets table.now }
+    requires table { IsTally game.now k.now.tickets table.now }
     requires known_type { IsTypeOf game.now l }
     ensures { result ≡ exact_take game.now k.now.tickets l }
 {

@@ -2,8 +2,8 @@
 
 ghost use Rattle.std.specs.Prelude.{◌≡◌, ◌≢◌, ◌↔◌, ◌≤◌, [], true, length, pos, ◌≤ℤ◌, All, IfSome, IsNone, IsTrue};
 ghost use Rattle.sg_model.specs.declared.ticket.Ticket.{Ticket};
-ghost use Rattle.sg_model.specs.Commitments.{weight_total};
-ghost use Rattle.sg_commit.specs.Committed.{AreLowest, is_rising};
+ghost use Rattle.sg_model.specs.Commitments.{weight_total, AreLowest};
+ghost use Rattle.sg_commit.specs.Committed.{is_rising};
 ghost use Rattle.sg_commit.specs.Rising.{AreShares};
 
 use crate::commitment::Commitment;

@@ -1,11 +1,10 @@
 //! What plays pay, summed over the tickets of a commitment.
 
 ghost use Rattle.std.specs.Prelude.{◌≡◌, IfOk};
-ghost use Rattle.sg_model.specs.Commitments.{sum_a, sum_d};
+ghost use Rattle.sg_model.specs.Commitments.{sum_a, sum_d, AreLegal};
 ghost use Rattle.sg_model.specs.Plays.{IsLegal, pay_a, pay_d};
 ghost use Rattle.sg_num.specs.Exact.{exact_dot_step};
 ghost use Rattle.sg_game.specs.Counts.{IsActionOf, IsTypeOf};
-ghost use Rattle.sg_commit.specs.Committed.{AreLegal};
 ghost use Rattle.sg_commit.specs.ExactSums.{exact_sum_a, exact_sum_d};
 
 use crate::commitment::Commitment;

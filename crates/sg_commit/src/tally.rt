@@ -4,9 +4,9 @@ ghost use Rattle.std.specs.Prelude.{◌≡◌, ◌≤◌, ◌<◌, ◌^◌, fals
 ghost use Rattle.sg_model.specs.Games.{is_matrix, payoff, resource_schedules, schedule_targets};
 ghost use Rattle.sg_model.specs.Plays.{IsLegal};
 ghost use Rattle.sg_model.specs.Sums.{nth};
-ghost use Rattle.sg_game.specs.Tallies.{IsTable, marked, no_cell, tallied, touched, touched_all, touched_from};
+ghost use Rattle.sg_game.specs.Tallies.{IsTally, marked, no_cell, tallied, touched, touched_all, touched_from};
 ghost use Rattle.sg_game.specs.Counts.{IsActionOf, IsGoalOf, IsResourceOf, IsTypeOf};
-ghost use Rattle.sg_commit.specs.Committed.{AreLegal};
+ghost use Rattle.sg_model.specs.Commitments.{AreLegal};
 ghost use Rattle.sg_commit.specs.ExactSums.{exact_sum_a, exact_sum_d};
 ghost use Rattle.sg_commit.specs.Tallies.{counted_sum};
 
@@ -104,7 +104,7 @@ pub(crate) fn count_all(game: &Game, k: &Commitment, cells: &mut [Cell])
     requires legal { AreLegal game.now k.now.tickets }
     requires room { 10000 < length cells.old }
     requires fresh { cells.old ≡ replicate (length cells.old) no_cell }
-    ensures { IsTable game.now k.now.tickets cells.new }
+    ensures { IsTally game.now k.now.tickets cells.new }
 {
     let _targets = game.targets();
     tally(game, k.tickets(), cells);
@@ -160,7 +160,7 @@ pub(crate) fn table_sum_d(
     a: u16,
 ) -> Result<i128, Wide>
     requires legal { AreLegal game.now k.now.tickets }
-    requires table { IsTable game.now k.now.tickets table.now }
+    requires table { IsTally game.now k.now.tickets table.now }
     requires known_type { IsTypeOf game.now l }
     requires known_action { IsActionOf game.now l a }
     ensures { result ≡ exact_sum_d game.now k.now.tickets l a }
@@ -183,7 +183,7 @@ pub(crate) fn table_sum_a(
     a: u16,
 ) -> Result<i128, Wide>
     requires legal { AreLegal game.now k.now.tickets }
-    requires table { IsTable game.now k.now.tickets table.now }
+    requires table { IsTally game.now k.now.tickets table.now }
     requires known_type { IsTypeOf game.now l }
     requires known_action { IsActionOf game.now l a }
     ensures { result ≡ exact_sum_a game.now k.now.tickets l a }

@@ -1,13 +1,12 @@
 //! What a commitment is worth to the defender.
 
 ghost use Rattle.std.specs.Prelude.{◌≡◌, pos, ◌≤ℤ◌, IfOk, IsOk};
-ghost use Rattle.sg_model.specs.Commitments.{weight_total, worth};
+ghost use Rattle.sg_model.specs.Commitments.{weight_total, worth, AreLegal};
 ghost use Rattle.sg_model.specs.Games.{prior_total};
 ghost use Rattle.sg_num.specs.Exact.{exact_times};
 ghost use Rattle.sg_frac.specs.Fractions.{IsReducedForm};
 ghost use Rattle.sg_game.specs.Counts.{IsTypeOf};
-ghost use Rattle.sg_commit.specs.Committed.{AreLegal};
-ghost use Rattle.sg_commit.specs.CommitmentLaws.{IsSmall};
+ghost use Rattle.sg_commit.specs.CommitmentLaws.{HasSmallTotal};
 ghost use Rattle.sg_commit.specs.ExactSums.{IsExactValue, exact_base, exact_worth, worth_step};
 
 use crate::commitment::Commitment;
@@ -78,7 +77,7 @@ fn fraction(num: i128, den: i128) -> Frac
 pub fn value(game: &Game, k: &Commitment) -> Result<Frac, Wide>
     requires legal { AreLegal game.now k.now.tickets }
     ensures value { IsExactValue game.now k.now.tickets result }
-    ensures small { IsSmall game.now k.now.tickets → IsOk result }
+    ensures small { HasSmallTotal game.now k.now.tickets → IsOk result }
 {
     game.promises();
     let _tickets = k.tickets();

@@ -1,6 +1,6 @@
 //! Worked commitments: the sums of each action, the best ones, what they leave the defender, worth, value and counts.
 //! Where weights are so great that something does not fit, it is the first such operation.
-ghost use Rattle.sg_commit.specs.Committed.{AreLegal};
+ghost use Rattle.sg_model.specs.Commitments.{AreLegal};
 ghost use Rattle.std.specs.Prelude.{◌≡◌, false};
 ghost use Rattle.sg_model.specs.Games.{is_matrix};
 ghost use Rattle.sg_game.specs.Counts.{IsActionOf, IsTypeOf};

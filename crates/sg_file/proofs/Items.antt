@@ -9,7 +9,7 @@ use Rattle.sg_model.specs.declared.fault.GameFault.{GameFault}
 use Rattle.sg_format.specs.Lists.{item_count, each}
 use Rattle.sg_file.specs.declared.fault.GameError.{GameError}
 use Rattle.sg_file.specs.declared.fault.GameError.TheVariants.{Refused, Memory}
-use Rattle.sg_file.specs.Answers.{Fails}
+use Rattle.sg_file.specs.Answers.{FailsPart}
 
 pub item_count_view : (vs : List Value) → item_count (items_view vs) ≡ length vs
 item_count_view [] = refl
@@ -22,7 +22,7 @@ module _ {A : Type 0} (read : List A → Data → Result A GameFault) (before : 
   each-failed v f within e = rw (items_view-drop vs i v within, e) refl
 
   -- an item that isn't read, for whatever error
-  pub each-Fails : (v : Value) (e : GameError) → i < length vs → Fails e (read before (data_of (get_or vs i v))) → Fails e (each read before (items_view (drop i vs)))
+  pub each-Fails : (v : Value) (e : GameError) → i < length vs → FailsPart e (read before (data_of (get_or vs i v))) → FailsPart e (each read before (items_view (drop i vs)))
   each-Fails v Memory within h = tt
   each-Fails v (Refused f) within h = each-failed v f within h
 
@@ -43,8 +43,8 @@ module _ {X A : Type 0} (show : X → A) (read : ℕ → List A → Data → Res
   number = ap (λ (n : ℕ). n + 1) (length-map xs show ∙ count)
 
   -- an item that isn't read
-  pub numbered-Fails : (v : Value) (e : GameError) → i < length vs → Fails e (read (i + 1) (map show xs) (data_of (get_or vs i v)))
-      → Fails e (each (λ before. read (length before + 1) before) (map show xs) (items_view (drop i vs)))
+  pub numbered-Fails : (v : Value) (e : GameError) → i < length vs → FailsPart e (read (i + 1) (map show xs) (data_of (get_or vs i v)))
+      → FailsPart e (each (λ before. read (length before + 1) before) (map show xs) (items_view (drop i vs)))
   numbered-Fails v e within h = each-Fails (λ (before : List A). read (length before + 1) before) (map show xs) vs i v e within (rw number h)
 
   -- an item that is read and kept

@@ -28,10 +28,10 @@ is_key_of SecurityType = is_security_type_key
 is_key_of MatrixType = is_matrix_type_key
 
 -- where the faults of a list of names as a whole stand
-abbrev pub whole_of : Listing → Place
-whole_of Targets = place_of.Document
-whole_of Rows = place_of.Document
-whole_of (Actions l) = place_of.Attacker l
+abbrev pub listing_place : Listing → Place
+listing_place Targets = place_of.Document
+listing_place Rows = place_of.Document
+listing_place (Actions l) = place_of.Attacker l
 
 -- where its n-th name stands
 abbrev pub entry_of : Listing → ℕ → Place

@@ -4,7 +4,7 @@ ghost use Rattle.std.specs.Prelude.{◌≡◌, option_map, is_some};
 ghost use Rattle.toml.specs.View.{view as data_of, table_view};
 ghost use Rattle.toml.specs.Data.{get_member};
 ghost use Rattle.sg_format.specs.Documents.{document_of, needed_at};
-ghost use Rattle.sg_file.specs.Answers.{Gives, Tells};
+ghost use Rattle.sg_file.specs.Answers.{GivesPart, TellsPart};
 
 use crate::fault::{GameError, MISSING_KEY, NOT_TOML, fault};
 use sg_game::{GameFault, Place};
@@ -13,7 +13,7 @@ use toml::{Table, Value};
 
 #[tactic(auto, unfolding(sg_format::specs::Documents::document_of))]
 pub(crate) fn document(alloc: Global, bytes: &[u8]) -> Result<Table, GameError>
-    ensures { Gives table_view result (document_of bytes.now) }
+    ensures { GivesPart table_view result (document_of bytes.now) }
 {
     match toml::table_from_slice(alloc, bytes) {
         Ok(table) => Ok(table),
@@ -43,7 +43,7 @@ pub(crate) fn has_key(table: &Table, key: &str) -> bool
 }
 
 pub(crate) fn needed<'a>(place: Place, key: &str, table: &'a Table) -> Result<&'a Value, GameFault>
-    ensures { Tells (λ v. data_of v.now) result (needed_at place key.now (table_view table.now)) }
+    ensures { TellsPart (λ v. data_of v.now) result (needed_at place key.now (table_view table.now)) }
 {
     match value_at(table, key) {
         Some(value) => Ok(value),

@@ -4,7 +4,7 @@ ghost use Rattle.std.specs.Prelude.{◌≡◌, pos, if◌then◌else◌, codes, 
 ghost use Rattle.toml.specs.View.{view as data_of, table_view};
 ghost use Rattle.sg_game.specs.Seen.{game_of};
 ghost use Rattle.sg_format.specs.GameFiles.{version_of, form_of, kind_of, scale_at, patrols_game, listed_game, resources_game, matrix_game, game_of_form, game_of_table, game_of_bytes};
-ghost use Rattle.sg_file.specs.Answers.{Gives, Tells};
+ghost use Rattle.sg_file.specs.Answers.{GivesPart, TellsPart};
 ghost use Rattle.toml.specs.Data.{get_member};
 
 use crate::document::{document, has_key, needed, value_at};
@@ -95,7 +95,7 @@ fn most_patrols(scaled: bool) -> i64
 /// A game of identical patrols, whose number is given.
 #[tactic(auto, unfolding(sg_format::specs::GameFiles::patrols_game))]
 fn patrols_game(alloc: Global, given: &Value, table: &Table) -> Result<Parts, GameError>
-    ensures { Gives game_of result (patrols_game (data_of given.now) (table_view table.now)) }
+    ensures { GivesPart game_of result (patrols_game (data_of given.now) (table_view table.now)) }
 {
     known_keys(Place::Document, Section::Patrols, table)?;
     let listed = needed(Place::Document, "targets", table)?;
@@ -127,7 +127,7 @@ fn listed_game(
     manned: &Value,
     attackers: &Value,
 ) -> Result<Parts, GameError>
-    ensures { Gives game_of result (listed_game (data_of listed.now) (data_of given.now) (data_of manned.now) (data_of attackers.now)) }
+    ensures { GivesPart game_of result (listed_game (data_of listed.now) (data_of given.now) (data_of manned.now) (data_of attackers.now)) }
 {
     let targets = names(alloc, Listing::Targets, 200, listed)?;
     let schedules = lists(alloc, Group::Schedules, &targets.index, given)?;
@@ -149,7 +149,7 @@ fn listed_game(
 /// A game of listed schedules and resources.
 #[tactic(auto, unfolding(sg_format::specs::GameFiles::resources_game))]
 fn resources_game(alloc: Global, table: &Table) -> Result<Parts, GameError>
-    ensures { Gives game_of result (resources_game (table_view table.now)) }
+    ensures { GivesPart game_of result (resources_game (table_view table.now)) }
 {
     known_keys(Place::Document, Section::Resources, table)?;
     let listed = needed(Place::Document, "targets", table)?;
@@ -163,7 +163,7 @@ fn resources_game(alloc: Global, table: &Table) -> Result<Parts, GameError>
 /// A game in matrix form.
 #[tactic(auto, unfolding(sg_format::specs::GameFiles::matrix_game))]
 fn matrix_game(alloc: Global, table: &Table) -> Result<Parts, GameError>
-    ensures { Gives game_of result (matrix_game (table_view table.now)) }
+    ensures { GivesPart game_of result (matrix_game (table_view table.now)) }
 {
     known_keys(Place::Document, Section::Matrix, table)?;
     let listed = needed(Place::Document, "rows", table)?;
@@ -184,7 +184,7 @@ fn matrix_game(alloc: Global, table: &Table) -> Result<Parts, GameError>
 }
 
 fn game_of_form(alloc: Global, kind: Kind, table: &Table) -> Result<Parts, GameError>
-    ensures { Gives game_of result (game_of_form kind (table_view table.now)) }
+    ensures { GivesPart game_of result (game_of_form kind (table_view table.now)) }
 {
     match kind {
         Kind::Matrix => matrix_game(alloc, table),
@@ -197,7 +197,7 @@ fn game_of_form(alloc: Global, kind: Kind, table: &Table) -> Result<Parts, GameE
 
 #[tactic(auto, unfolding(sg_format::specs::GameFiles::game_of_table))]
 fn game_of_table(alloc: Global, table: &Table) -> Result<Parts, GameError>
-    ensures { Gives game_of result (game_of_table (table_view table.now)) }
+    ensures { GivesPart game_of result (game_of_table (table_view table.now)) }
 {
     version(table)?;
     let kind = form(table)?;
@@ -207,7 +207,7 @@ fn game_of_table(alloc: Global, table: &Table) -> Result<Parts, GameError>
 /// The parts of the game that the bytes of a file are, or the first rule of game files that they break, with its place.
 #[tactic(auto, unfolding(sg_format::specs::GameFiles::game_of_bytes))]
 fn read_parts(alloc: Global, bytes: &[u8]) -> Result<Parts, GameError>
-    ensures { Gives game_of result (game_of_bytes bytes.now) }
+    ensures { GivesPart game_of result (game_of_bytes bytes.now) }
 {
     let table = document(alloc, bytes)?;
     game_of_table(alloc, &table)
@@ -219,7 +219,7 @@ fn read_parts(alloc: Global, bytes: &[u8]) -> Result<Parts, GameError>
 ///
 /// `Refused` with the first rule of game files that they break, and its place. `Memory` where memory ran out.
 pub fn read_game(alloc: Global, bytes: &[u8]) -> Result<Game, GameError>
-    ensures { Gives (λ g. g) result (game_of_bytes bytes.now) }
+    ensures { GivesPart (λ g. g) result (game_of_bytes bytes.now) }
 {
     let parts = read_parts(alloc, bytes)?;
     Ok(Game::made(alloc, parts)?)

@@ -3,9 +3,9 @@
 ghost use Rattle.std.specs.Prelude.{◌≡◌, ◌+◌, ◌-◌, ◌*◌, ◌^◌, ◌<◌, ◌≤◌, ℕ, List, length, map, sum_by, ℤ, pos, slice_index_or, Vec, ◌<ℤ◌, ◌-ℤ◌, int_rem};
 ghost use Rattle.std.specs.List.{list_all};
 ghost use Rattle.std.specs.declared.alloc.Global.{Global};
-ghost use Rattle.sg_model.specs.Games.{Attacker, resource_count};
+ghost use Rattle.sg_model.specs.Games.{Attacker, resource_count, payoff_of};
 ghost use Rattle.sg_model.specs.Limits.{program_rows};
-ghost use Rattle.sg_game.specs.Seen.{rows, payoff_of, attacker_of, game_of};
+ghost use Rattle.sg_game.specs.Seen.{number_lists, attacker_of, game_of};
 ghost use Rattle.sg_game.specs.declared.parts.TypeParts.{TypeParts};
 ghost use Rattle.sg_format.specs.GameFiles.{is_zero, fits_scale, limits_of};
 

@@ -6,7 +6,7 @@ ghost use Rattle.sg_model.specs.Games.{Named};
 ghost use Rattle.sg_game.specs.Seen.{named_of};
 ghost use Rattle.sg_format.specs.Documents.{needed_at};
 ghost use Rattle.sg_format.specs.Lists.{each, known_at, member_at, members_at, named_at, named_lists_at};
-ghost use Rattle.sg_file.specs.Answers.{Gives, Tells};
+ghost use Rattle.sg_file.specs.Answers.{GivesPart, TellsPart};
 ghost use Rattle.sg_file.specs.Numbers.{Numbers, Marks};
 ghost use Rattle.sg_file.specs.Sections.{key_of, member_place, limit_of, members_limit, section_of};
 
@@ -79,7 +79,7 @@ pub(crate) struct NamedLists {
 
 /// The value at the key of the members.
 fn needed_members(group: Group, place: Place, table: &Table) -> Result<&Value, GameFault>
-    ensures { Tells (λ v. data_of v.now) result (needed_at place (key_of group) (table_view table.now)) }
+    ensures { TellsPart (λ v. data_of v.now) result (needed_at place (key_of group) (table_view table.now)) }
 {
     match group {
         Group::Schedules => needed(place, "targets", table),
@@ -108,7 +108,7 @@ fn add_member(
     value: &Value,
 ) -> Result<u32, GameError>
     ensures gives { (names : List (List ℕ)) (before : List ℕ) → Numbers known.now names → Marks seen.old before
-        → Gives (λ n. n) result (member_at place names before (data_of value.now)) }
+        → GivesPart (λ n. n) result (member_at place names before (data_of value.now)) }
     ensures marked { (before : List ℕ) → Marks seen.old before → IfOk result (λ n. Marks seen.new (before ++ n ∷ [])) }
 {
     let number = known_number(known, place, value)?;
@@ -127,7 +127,7 @@ fn members_of(
     values: &[Value],
 ) -> Result<Vec<u32>, GameError>
     ensures { (names : List (List ℕ)) → Numbers known.now names
-        → Gives (λ v. v.items) result (each (member_at place names) [] (items_view values.now)) }
+        → GivesPart (λ v. v.items) result (each (member_at place names) [] (items_view values.now)) }
 {
     let mut members: Vec<u32> = Vec::new(alloc);
     let mut seen: BTreeSet<u32> = BTreeSet::new(alloc);
@@ -150,7 +150,7 @@ fn members(
     value: &Value,
 ) -> Result<Vec<u32>, GameError>
     ensures { (names : List (List ℕ)) → Numbers known.now names
-        → Gives (λ v. v.items) result (members_at place names limit (data_of value.now)) }
+        → GivesPart (λ v. v.items) result (members_at place names limit (data_of value.now)) }
 {
     let values = some(place, limit, value)?;
     members_of(alloc, known, place, values)
@@ -168,7 +168,7 @@ fn named(
 ) -> Result<ListParts, GameError>
     ensures gives { (names : List (List ℕ)) (before : List Named) → Numbers known.now names
         → Numbers index.old (map (λ (x : Named). x.name) before)
-        → Gives named_of result (named_at (member_place group number) (key_of group) names (members_limit group) before (data_of value.now)) }
+        → GivesPart named_of result (named_at (member_place group number) (key_of group) names (members_limit group) before (data_of value.now)) }
     ensures indexed { (before : List (List ℕ)) → Numbers index.old before → number ≡ length before + 1
         → IfOk result (λ x. Numbers index.new (before ++ string_bytes x.name ∷ [])) }
 {
@@ -190,7 +190,7 @@ fn lists_of(
 ) -> Result<NamedLists, GameError>
     requires { length values.now < 2 ^ 32 - 1 }
     ensures gives { (names : List (List ℕ)) → Numbers known.now names
-        → Gives (λ v. map named_of v.parts.items) result
+        → GivesPart (λ v. map named_of v.parts.items) result
         (each (λ before. named_at (member_place group (length before + 1)) (key_of group) names (members_limit group) before) [] (items_view values.now)) }
     ensures indexed { IfOk result (λ v. Numbers v.index (map (λ (x : Named). x.name) (map named_of v.parts.items))) }
 {
@@ -215,7 +215,7 @@ pub(crate) fn lists(
     value: &Value,
 ) -> Result<NamedLists, GameError>
     ensures gives { (names : List (List ℕ)) → Numbers known.now names
-        → Gives (λ v. map named_of v.parts.items) result
+        → GivesPart (λ v. map named_of v.parts.items) result
         (named_lists_at (member_place group) (key_of group) names (limit_of group) (members_limit group) (data_of value.now)) }
     ensures indexed { IfOk result (λ v. Numbers v.index (map (λ (x : Named). x.name) (map named_of v.parts.items))) }
 {

@@ -5,9 +5,9 @@ ghost use Rattle.std.specs.BTreeMap.{get_by_text};
 ghost use Rattle.toml.specs.View.{view as data_of, items_view};
 ghost use Rattle.sg_game.specs.Seen.{texts};
 ghost use Rattle.sg_format.specs.Lists.{each, new_name, names_at};
-ghost use Rattle.sg_file.specs.Answers.{Gives, Tells};
+ghost use Rattle.sg_file.specs.Answers.{GivesPart, TellsPart};
 ghost use Rattle.sg_file.specs.Numbers.{Numbers};
-ghost use Rattle.sg_file.specs.Sections.{whole_of, entry_of};
+ghost use Rattle.sg_file.specs.Sections.{listing_place, entry_of};
 
 use crate::fault::{GameError, REPEATED_NAME, fault};
 use crate::value::{name, some};
@@ -41,7 +41,7 @@ pub(crate) enum Listing {
 
 impl Listing {
     fn whole(self) -> Place
-        ensures { result ≡ whole_of self }
+        ensures { result ≡ listing_place self }
     {
         match self {
             Listing::Targets => Place::Document,
@@ -72,7 +72,7 @@ pub(crate) fn find(index: &Index, name: &str) -> Option<u32>
 #[tactic(auto, unfolding(sg_format::specs::Lists::new_name))]
 fn new_name<'a>(index: &Index, place: Place, value: &'a Value) -> Result<&'a str, GameFault>
     ensures gives { (before : List (List ℕ)) → Numbers index.now before
-        → Tells (λ text. text.now) result (new_name place before (data_of value.now)) }
+        → TellsPart (λ text. text.now) result (new_name place before (data_of value.now)) }
     ensures absent { IfOk result (λ text. get_by_text index.now text.now ≡ None) }
 {
     let name = name(place, value)?;
@@ -105,7 +105,7 @@ pub(crate) fn add_name(
     value: &Value,
 ) -> Result<String, GameError>
     ensures gives { (before : List (List ℕ)) → Numbers index.old before
-        → Gives string_bytes result (new_name place before (data_of value.now)) }
+        → GivesPart string_bytes result (new_name place before (data_of value.now)) }
     ensures indexed { (before : List (List ℕ)) → Numbers index.old before → number ≡ length before + 1
         → IfOk result (λ text. Numbers index.new (before ++ string_bytes text ∷ [])) }
 {
@@ -115,7 +115,7 @@ pub(crate) fn add_name(
 
 fn names_of(alloc: Global, listing: Listing, values: &[Value]) -> Result<NameList, GameError>
     requires { length values.now < 2 ^ 32 - 1 }
-    ensures gives { Gives (λ v. texts v.list.items) result
+    ensures gives { GivesPart (λ v. texts v.list.items) result
         (each (λ before entry. new_name (entry_of listing (length before + 1)) before entry) [] (items_view values.now)) }
     ensures indexed { IfOk result (λ v. Numbers v.index (texts v.list.items)) }
 {
@@ -141,7 +141,7 @@ pub(crate) fn names(
     value: &Value,
 ) -> Result<NameList, GameError>
     requires { limit < 2 ^ 32 - 1 }
-    ensures gives { Gives (λ v. texts v.list.items) result (names_at (whole_of listing) (entry_of listing) limit (data_of value.now)) }
+    ensures gives { GivesPart (λ v. texts v.list.items) result (names_at (listing_place listing) (entry_of listing) limit (data_of value.now)) }
     ensures indexed { IfOk result (λ v. Numbers v.index (texts v.list.items)) }
 {
     let values = some(listing.whole(), limit as usize, value)?;

@@ -4,10 +4,10 @@ ghost use Rattle.std.specs.Prelude.{◌≡◌, ◌+◌, ◌-◌, ◌^◌, ◌<�
 ghost use Rattle.toml.specs.View.{view as data_of, items_view};
 ghost use Rattle.sg_model.specs.Games.{Attacker};
 ghost use Rattle.sg_model.specs.declared.fault.Place.TheVariants as place_of;
-ghost use Rattle.sg_game.specs.Seen.{rows, attacker_of};
+ghost use Rattle.sg_game.specs.Seen.{number_lists, attacker_of};
 ghost use Rattle.sg_format.specs.Lists.{each};
 ghost use Rattle.sg_format.specs.Types.{pay_at, pays_at, pay_table_at, prior_at, security_type_at, matrix_type_at, security_types_at, matrix_types_at};
-ghost use Rattle.sg_file.specs.Answers.{Gives};
+ghost use Rattle.sg_file.specs.Answers.{GivesPart};
 ghost use Rattle.sg_file.specs.Numbers.{Numbers};
 ghost use Rattle.sg_file.specs.Sections.{type_at};
 
@@ -28,7 +28,7 @@ fn pay(place: Place, value: &Value) -> Result<i64, GameFault>
 }
 
 fn pays_of(alloc: Global, place: Place, values: &[Value]) -> Result<Vec<i64>, GameError>
-    ensures { Gives (λ v. v.items) result (each (λ before. pay_at place) [] (items_view values.now)) }
+    ensures { GivesPart (λ v. v.items) result (each (λ before. pay_at place) [] (items_view values.now)) }
 {
     let mut pays: Vec<i64> = Vec::new(alloc);
     for (i, value) in values.iter().enumerate() {
@@ -43,7 +43,7 @@ fn pays_of(alloc: Global, place: Place, values: &[Value]) -> Result<Vec<i64>, Ga
 /// So many payoffs.
 #[tactic(auto, using(crate::proofs::Items::item_count_view), unfolding(sg_format::specs::Types::pays_at))]
 fn pays(alloc: Global, place: Place, count: usize, value: &Value) -> Result<Vec<i64>, GameError>
-    ensures { Gives (λ v. v.items) result (pays_at place count (data_of value.now)) }
+    ensures { GivesPart (λ v. v.items) result (pays_at place count (data_of value.now)) }
 {
     let values = items(place, value)?;
     check(values.len() == count, OUT_OF_RANGE, place)?;
@@ -56,7 +56,7 @@ fn pay_rows(
     columns: usize,
     values: &[Value],
 ) -> Result<Vec<Vec<i64>>, GameError>
-    ensures { Gives (λ v. rows v.items) result (each (λ before. pays_at place columns) [] (items_view values.now)) }
+    ensures { GivesPart (λ v. number_lists v.items) result (each (λ before. pays_at place columns) [] (items_view values.now)) }
 {
     let mut table: Vec<Vec<i64>> = Vec::new(alloc);
     for (i, value) in values.iter().enumerate() {
@@ -77,7 +77,7 @@ fn pay_table(
     columns: usize,
     value: &Value,
 ) -> Result<Vec<Vec<i64>>, GameError>
-    ensures { Gives (λ v. rows v.items) result (pay_table_at place row_count columns (data_of value.now)) }
+    ensures { GivesPart (λ v. number_lists v.items) result (pay_table_at place row_count columns (data_of value.now)) }
 {
     let values = items(place, value)?;
     check(values.len() == row_count, OUT_OF_RANGE, place)?;
@@ -107,7 +107,7 @@ fn security_type(
     value: &Value,
 ) -> Result<TypeParts, GameError>
     ensures gives { (before : List Attacker) → Numbers index.old (map (λ (x : Attacker). x.name) before)
-        → Gives attacker_of result (security_type_at (place_of.Attacker number) scaled targets before (data_of value.now)) }
+        → GivesPart attacker_of result (security_type_at (place_of.Attacker number) scaled targets before (data_of value.now)) }
     ensures indexed { (before : List (List ℕ)) → Numbers index.old before → number ≡ length before + 1
         → IfOk result (λ x. Numbers index.new (before ++ string_bytes x.name ∷ [])) }
 {
@@ -140,7 +140,7 @@ fn matrix_type(
     value: &Value,
 ) -> Result<TypeParts, GameError>
     ensures gives { (before : List Attacker) → Numbers index.old (map (λ (x : Attacker). x.name) before)
-        → Gives attacker_of result (matrix_type_at (place_of.Attacker number) rows before (data_of value.now)) }
+        → GivesPart attacker_of result (matrix_type_at (place_of.Attacker number) number_lists before (data_of value.now)) }
     ensures indexed { (before : List (List ℕ)) → Numbers index.old before → number ≡ length before + 1
         → IfOk result (λ x. Numbers index.new (before ++ string_bytes x.name ∷ [])) }
 {
@@ -185,7 +185,7 @@ fn attacker_type(
     value: &Value,
 ) -> Result<TypeParts, GameError>
     ensures gives { (before : List Attacker) → Numbers index.old (map (λ (x : Attacker). x.name) before)
-        → Gives attacker_of result (type_at form number before (data_of value.now)) }
+        → GivesPart attacker_of result (type_at form number before (data_of value.now)) }
     ensures indexed { (before : List (List ℕ)) → Numbers index.old before → number ≡ length before + 1
         → IfOk result (λ x. Numbers index.new (before ++ string_bytes x.name ∷ [])) }
 {
@@ -199,7 +199,7 @@ fn attacker_type(
 
 fn types_of(alloc: Global, form: TypeForm, values: &[Value]) -> Result<Vec<TypeParts>, GameError>
     requires { length values.now < 2 ^ 32 - 1 }
-    ensures { Gives (λ v. map attacker_of v.items) result (each (λ before. type_at form (length before + 1) before) [] (items_view values.now)) }
+    ensures { GivesPart (λ v. map attacker_of v.items) result (each (λ before. type_at form (length before + 1) before) [] (items_view values.now)) }
 {
     let mut types: Vec<TypeParts> = Vec::new(alloc);
     let mut index: Index = BTreeMap::new(alloc);
@@ -227,7 +227,7 @@ pub(crate) fn security_types(
     targets: usize,
     value: &Value,
 ) -> Result<Vec<TypeParts>, GameError>
-    ensures { Gives (λ v. map attacker_of v.items) result (security_types_at scaled targets (data_of value.now)) }
+    ensures { GivesPart (λ v. map attacker_of v.items) result (security_types_at scaled targets (data_of value.now)) }
 {
     let values = some(Place::Document, most_types(scaled), value)?;
     types_of(alloc, TypeForm::Security(scaled, targets), values)
@@ -240,7 +240,7 @@ pub(crate) fn matrix_types(
     rows: usize,
     value: &Value,
 ) -> Result<Vec<TypeParts>, GameError>
-    ensures { Gives (λ v. map attacker_of v.items) result (matrix_types_at rows (data_of value.now)) }
+    ensures { GivesPart (λ v. map attacker_of v.items) result (matrix_types_at number_lists (data_of value.now)) }
 {
     let values = some(Place::Document, 8, value)?;
     types_of(alloc, TypeForm::Matrix(rows), values)

@@ -6,7 +6,7 @@ ghost use Rattle.toml.specs.View.{view as data_of, items_view, table_view};
 ghost use Rattle.sg_model.specs.Names.{is_name, is_name_byte};
 ghost use Rattle.sg_format.specs.Documents.{integer_at, text_at, items_at, table_at, number_at, name_at};
 ghost use Rattle.sg_format.specs.Lists.{few_at, some_at};
-ghost use Rattle.sg_file.specs.Answers.{Tells};
+ghost use Rattle.sg_file.specs.Answers.{TellsPart};
 
 use crate::fault::{EMPTY_LIST, OUT_OF_RANGE, TOO_LARGE, WRONG_KIND, check, fault};
 use sg_game::{GameFault, Place};
@@ -22,7 +22,7 @@ pub(crate) fn integer(place: Place, value: &Value) -> Result<i64, GameFault>
 }
 
 pub(crate) fn text(place: Place, value: &Value) -> Result<&str, GameFault>
-    ensures { Tells (λ text. text.now) result (text_at place (data_of value.now)) }
+    ensures { TellsPart (λ text. text.now) result (text_at place (data_of value.now)) }
 {
     match value.as_str() {
         Some(text) => Ok(text),
@@ -31,7 +31,7 @@ pub(crate) fn text(place: Place, value: &Value) -> Result<&str, GameFault>
 }
 
 pub(crate) fn items(place: Place, value: &Value) -> Result<&[Value], GameFault>
-    ensures { Tells (λ xs. items_view xs.now) result (items_at place (data_of value.now)) }
+    ensures { TellsPart (λ xs. items_view xs.now) result (items_at place (data_of value.now)) }
 {
     match value.as_array() {
         Some(items) => Ok(items.as_slice()),
@@ -40,7 +40,7 @@ pub(crate) fn items(place: Place, value: &Value) -> Result<&[Value], GameFault>
 }
 
 pub(crate) fn table(place: Place, value: &Value) -> Result<&Table, GameFault>
-    ensures { Tells (λ t. table_view t.now) result (table_at place (data_of value.now)) }
+    ensures { TellsPart (λ t. table_view t.now) result (table_at place (data_of value.now)) }
 {
     match value.as_table() {
         Some(table) => Ok(table),
@@ -77,7 +77,7 @@ fn is_name(text: &str) -> bool
 
 #[tactic(auto, unfolding(sg_format::specs::Documents::name_at))]
 pub(crate) fn name(place: Place, value: &Value) -> Result<&str, GameFault>
-    ensures { Tells (λ text. text.now) result (name_at place (data_of value.now)) }
+    ensures { TellsPart (λ text. text.now) result (name_at place (data_of value.now)) }
 {
     let text = text(place, value)?;
     if is_name(text) {
@@ -90,7 +90,7 @@ pub(crate) fn name(place: Place, value: &Value) -> Result<&str, GameFault>
 /// The items of an array of at most `limit`.
 #[tactic(auto, using(crate::proofs::Items::item_count_view), unfolding(sg_format::specs::Lists::few_at))]
 pub(crate) fn few(place: Place, limit: usize, value: &Value) -> Result<&[Value], GameFault>
-    ensures gives { Tells (λ xs. items_view xs.now) result (few_at place limit (data_of value.now)) }
+    ensures gives { TellsPart (λ xs. items_view xs.now) result (few_at place limit (data_of value.now)) }
     ensures short { IfOk result (λ xs. length xs.now ≤ limit) }
 {
     let items = items(place, value)?;
@@ -104,7 +104,7 @@ pub(crate) fn few(place: Place, limit: usize, value: &Value) -> Result<&[Value],
 /// The items of an array of one to `limit`.
 #[tactic(auto, using(crate::proofs::Items::item_count_view), unfolding(sg_format::specs::Lists::some_at))]
 pub(crate) fn some(place: Place, limit: usize, value: &Value) -> Result<&[Value], GameFault>
-    ensures gives { Tells (λ xs. items_view xs.now) result (some_at place limit (data_of value.now)) }
+    ensures gives { TellsPart (λ xs. items_view xs.now) result (some_at place limit (data_of value.now)) }
     ensures short { IfOk result (λ xs. length xs.now ≤ limit) }
 {
     let items = items(place, value)?;

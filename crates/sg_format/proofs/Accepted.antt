@@ -12,7 +12,8 @@ use Rattle.sg_model.specs.Origami.{IsScaled, gap}
 use Rattle.sg_model.specs.Limits.{AreLists, IsGame, IsMatrixGame, IsSecurityGame, IsWithin, program_rows}
 use Rattle.sg_model.proofs.Deciding.{all_pass, at_most}
 use Rattle.sg_format.specs.Documents.{document_of}
-use Rattle.sg_format.specs.GameFiles.{count_of, fits_scale, game_of_bytes, game_of_table, is_zero, limits_of}
+use Rattle.sg_model.specs.Sums.{positive_part}
+use Rattle.sg_format.specs.GameFiles.{fits_scale, game_of_bytes, game_of_table, is_zero, limits_of}
 use Rattle.sg_format.proofs.Inversion.{after, passed_is}
 use Rattle.sg_format.proofs.Values.{number_at-within, scale_at-scale}
 use Rattle.sg_format.proofs.Files.{IsListedFile, IsMatrixFile, IsPatrolsFile, by_file, patrolled, scheduled, tabled}
@@ -46,11 +47,11 @@ limits_of-limited g true u h =
     }
 limits_of-limited g false u h = record { fits = λ e. absurd (cc); small = λ e. at_most (passed_is (nat_le (program_rows g) 1536) _ _ u h) }
 
-count_of-le : (z : ℤ) (n : ℕ) → z ≤ℤ pos n → count_of z ≤ n
+count_of-le : (z : ℤ) (n : ℕ) → z ≤ℤ pos n → positive_part z ≤ n
 count_of-le (pos m) n h = omega (arith, ints, h)
 count_of-le (negsuc m) n h = omega arith
 
-few_patrols : (scaled : Bool) (z : ℤ) → IsWithin (pos 0) (pos (if scaled then 200 else 32)) z → count_of z ≤ (if scaled then 200 else 32)
+few_patrols : (scaled : Bool) (z : ℤ) → IsWithin (pos 0) (pos (if scaled then 200 else 32)) z → positive_part z ≤ (if scaled then 200 else 32)
 few_patrols scaled z h = count_of-le z (if scaled then 200 else 32) h.at_most
 
 scale_off : (scaled : Bool) (z : ℤ) → int_lt (pos 0) z ≡ scaled → z ≡ pos 0 → scaled ≡ false
@@ -62,7 +63,7 @@ scale_on scaled z e low = let yes : true ≡ int_lt (pos 0) z = omega (arith, in
 patrols_promised : (given : Data) (table : Members) (g : Game) → IsPatrolsFile given table g → IsGame g
 patrols_promised given table g p =
     let scaled : Bool = is_some (get_member (codes "scale") table) in
-    let y = patrolled (unwrap_or p.scale (pos 0)) (count_of p.count) g.goals g.types in
+    let y = patrolled (unwrap_or p.scale (pos 0)) (positive_part p.count) g.goals g.types in
     let names = names_at-names place_of.Document place_of.Target (if scaled then 10000 else 200) p.listed g.goals p.targets in
     let is_scale = scale_at-scale (get_member (codes "scale") table) p.scale p.scale_read in
     let count = few_patrols scaled p.count (number_at-within place_of.Document (pos 0) (pos (if scaled then 200 else 32)) given p.count p.count_read) in

@@ -6,7 +6,8 @@ use Rattle.toml.specs.Data.{Data, Members, as_array, as_integer, as_str, as_tabl
 use Rattle.sg_model.specs.declared.fault.Place.{Place}
 use Rattle.sg_model.specs.declared.fault.GameFault.{GameFault}
 use Rattle.sg_model.specs.Names.{is_name}
-use Rattle.sg_format.specs.Steps.{◌>>=◌, needed, passed, refused, missing_key, wrong_kind, unknown_key, empty_list, unknown_name, repeated_name, out_of_range, too_large}
+use Rattle.sg_model.specs.Steps.{◌>>=◌}
+use Rattle.sg_format.specs.Steps.{needed, passed, refused, missing_key, wrong_kind, unknown_key, empty_list, unknown_name, repeated_name, out_of_range, too_large}
 use Rattle.sg_format.specs.Documents.{has_only, name_at, number_at}
 use Rattle.sg_format.specs.Lists.{few_at, item_count, new_name, some_at}
 use Rattle.sg_format.specs.Parts.{Rule, no_rule, number_within, name_besides, known_besides, few_entries, some_entries, entries_exactly, table_with}

@@ -8,7 +8,8 @@ use Rattle.sg_model.specs.declared.fault.Place.TheVariants as place_of
 use Rattle.sg_model.specs.declared.fault.GameFault.{GameFault}
 use Rattle.sg_model.specs.Sums.{nth}
 use Rattle.sg_model.specs.Games.{Attacker, Named, nobody, unnamed}
-use Rattle.sg_format.specs.Steps.{◌>>=◌, refused}
+use Rattle.sg_model.specs.Steps.{◌>>=◌}
+use Rattle.sg_format.specs.Steps.{refused}
 use Rattle.sg_format.specs.Lists.{each, few_at, named_at, named_lists_at, some_at}
 use Rattle.sg_format.specs.Types.{matrix_type_at, matrix_types_at, security_type_at, security_types_at}
 use Rattle.sg_format.specs.Parts.{Agrees, at_number, Group, NamedPart, TypePart, before, matrix_type_rule, members_key, named_path, named_rule, names_of, security_type_rule, type_path}

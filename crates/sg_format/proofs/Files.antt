@@ -11,7 +11,8 @@ use Rattle.sg_model.specs.Limits.{is_scaled}
 use Rattle.sg_format.specs.Documents.{has_only, needed_at, number_at}
 use Rattle.sg_format.specs.Lists.{names_at, resources_at, schedules_at}
 use Rattle.sg_format.specs.Types.{matrix_types_at, security_types_at}
-use Rattle.sg_format.specs.GameFiles.{count_of, form_of, game_of_form, game_of_table, is_matrix_key, is_patrols_key, is_resources_key, limits_of, listed_game, matrix_game, patrols_game, resources_game, scale_at, security_game, version_of}
+use Rattle.sg_model.specs.Sums.{positive_part}
+use Rattle.sg_format.specs.GameFiles.{form_of, game_of_form, game_of_table, is_matrix_key, is_patrols_key, is_resources_key, limits_of, listed_game, matrix_game, patrols_game, resources_game, scale_at, security_game, version_of}
 use Rattle.sg_format.proofs.Inversion.{after, after_test, needed_is}
 use Rattle.sg_format.proofs.Values.{scale_at-scale}
 
@@ -72,7 +73,7 @@ pub record IsPatrolsFile (given : Data) (table : Members) (g : Game) : Type 0 wh
   pub identical : g.patrols ≡ Some patrols
   pub scale : Option ℤ
   pub count : ℤ
-  pub counted : patrols ≡ count_of count
+  pub counted : patrols ≡ positive_part count
   pub scale_is : g.scale ≡ unwrap_or scale (pos 0)
   pub scaled : is_scaled g ≡ is_some (get_member (codes "scale") table)
   pub known : has_only is_patrols_key table ≡ true
@@ -82,8 +83,8 @@ pub record IsPatrolsFile (given : Data) (table : Members) (g : Game) : Type 0 wh
   pub scale_read : scale_at (get_member (codes "scale") table) ≡ Ok scale
   pub count_read : number_at place_of.Document (pos 0) (pos (if is_some (get_member (codes "scale") table) then 200 else 32)) given ≡ Ok count
   pub types : security_types_at (is_some (get_member (codes "scale") table)) (length g.goals) attackers ≡ Ok g.types
-  pub whole : patrolled (unwrap_or scale (pos 0)) (count_of count) g.goals g.types ≡ g
-  pub limits : limits_of (patrolled (unwrap_or scale (pos 0)) (count_of count) g.goals g.types) (is_some (get_member (codes "scale") table)) ≡ Ok tt
+  pub whole : patrolled (unwrap_or scale (pos 0)) (positive_part count) g.goals g.types ≡ g
+  pub limits : limits_of (patrolled (unwrap_or scale (pos 0)) (positive_part count) g.goals g.types) (is_some (get_member (codes "scale") table)) ≡ Ok tt
 
 patrols_file : (given : Data) (table : Members) (g : Game) → patrols_game given table ≡ Ok g → IsPatrolsFile given table g
 unfolding patrols_game
@@ -97,13 +98,13 @@ patrols_file given table g h =
     after (scale_at declared) h4 (λ scale e5 h5.
     after (number_at place_of.Document (pos 0) (pos (if scaled then 200 else 32)) given) h5 (λ patrols e6 h6.
     after (security_types_at scaled (length targets) attackers) h6 (λ types e7 h7.
-    let y = patrolled (unwrap_or scale (pos 0)) (count_of patrols) targets types in
+    let y = patrolled (unwrap_or scale (pos 0)) (positive_part patrols) targets types in
     after (limits_of y scaled) h7 (λ u e8 last.
     let same : y ≡ g = cc in
     let is : IsPatrolsFile given table y = record {
       listed = listed;
       attackers = attackers;
-      patrols = count_of patrols;
+      patrols = positive_part patrols;
       scale = scale;
       count = patrols;
       counted = refl;

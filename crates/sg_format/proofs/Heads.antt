@@ -9,7 +9,7 @@ use Rattle.sg_model.specs.declared.kind.Kind.TheVariants.{Security, Matrix}
 use Rattle.sg_format.specs.Steps.{refused, missing_key, wrong_kind, unknown_key, out_of_range}
 use Rattle.sg_format.specs.Documents.{has_only}
 use Rattle.sg_format.specs.GameFiles.{form_of, game_of_form, game_of_table, is_matrix_key, is_patrols_key, is_resources_key, matrix_game, patrols_game, resources_game, version_of}
-use Rattle.sg_format.specs.Changes.{is_key_of}
+use Rattle.sg_format.specs.Changes.{is_top_key}
 use Rattle.sg_format.specs.HeadLaws.{HeadIsRefused, IsFirstVersion, IsOfForm, is_own_key}
 use Rattle.sg_format.proofs.Keys.{same, unknown_found}
 use Rattle.sg_format.proofs.Faults.{differs, listed_unknown, matrix_unknown, no_matrix_types, no_patrols_targets, no_patrols_types, no_resources, no_rows, no_schedules, no_targets, no_types, patrols_unknown}
@@ -165,12 +165,12 @@ listed_missing document key h known own unscaled none =
       ])
     ])
 
-own_keys : (given with_patrols : Bool) → given ≡ with_patrols → (document : Members) → has_only (is_key_of Security (if given then Some 0 else None)) document ≡ true
-    → has_only (is_key_of Security (if with_patrols then Some 0 else None)) document ≡ true
+own_keys : (given with_patrols : Bool) → given ≡ with_patrols → (document : Members) → has_only (is_top_key Security (if given then Some 0 else None)) document ≡ true
+    → has_only (is_top_key Security (if with_patrols then Some 0 else None)) document ≡ true
 own_keys given with_patrols e document h = rw e at h
 
-own_one : (given with_patrols : Bool) → given ≡ with_patrols → (key : List ℕ) → is_key_of Security (if given then Some 0 else None) key ≡ true
-    → is_key_of Security (if with_patrols then Some 0 else None) key ≡ true
+own_one : (given with_patrols : Bool) → given ≡ with_patrols → (key : List ℕ) → is_top_key Security (if given then Some 0 else None) key ≡ true
+    → is_top_key Security (if with_patrols then Some 0 else None) key ≡ true
 own_one given with_patrols e key h = rw e at h
 
 security_missing : (document : Members) (key : List ℕ) (o : Option Data) → get_member (codes "patrols") document ≡ o → IsOfForm Security document → has_only (is_own_key Security document) document ≡ true

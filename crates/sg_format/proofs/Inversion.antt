@@ -2,7 +2,8 @@
 use Rattle.std.proofs.Common.{◌≡◌, ℕ, Bool, true, false, Option, Some, None, Result, Ok, Err, refl}
 use Rattle.sg_model.specs.declared.fault.Place.{Place}
 use Rattle.sg_model.specs.declared.fault.GameFault.{GameFault}
-use Rattle.sg_format.specs.Steps.{◌>>=◌, needed, passed}
+use Rattle.sg_model.specs.Steps.{◌>>=◌}
+use Rattle.sg_format.specs.Steps.{needed, passed}
 
 -- a step that gave a value, with which the next one gave the answer
 pub after : {A B Goal : Type 0} (step : Result A GameFault) {next : A → Result B GameFault} {answer : B} → (step >>= next) ≡ Ok answer

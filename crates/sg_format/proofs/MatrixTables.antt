@@ -6,7 +6,8 @@ use Rattle.toml.specs.Data.{Data, Members, as_table, get_member, table}
 use Rattle.sg_model.specs.declared.fault.Place.{Place}
 use Rattle.sg_model.specs.declared.fault.GameFault.{GameFault}
 use Rattle.sg_model.specs.Games.{Attacker}
-use Rattle.sg_format.specs.Steps.{◌>>=◌, refused, wrong_kind, unknown_key}
+use Rattle.sg_model.specs.Steps.{◌>>=◌}
+use Rattle.sg_format.specs.Steps.{refused, wrong_kind, unknown_key}
 use Rattle.sg_format.specs.Documents.{has_only, needed_at}
 use Rattle.sg_format.specs.Lists.{names_at, new_name}
 use Rattle.sg_format.specs.Types.{is_matrix_type_key, matrix_type_at, pay_table_at, prior_at}

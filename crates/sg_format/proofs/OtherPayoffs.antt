@@ -10,14 +10,15 @@ use Rattle.toml.specs.Data.{Data, Items, Members, array, get_item, get_member, i
 use Rattle.sg_model.specs.declared.fault.Place.{Place}
 use Rattle.sg_model.specs.declared.fault.Place.TheVariants as place_of
 use Rattle.sg_model.specs.declared.fault.GameFault.{GameFault}
-use Rattle.sg_model.specs.Games.{Attacker, Payoff, nothing}
+use Rattle.sg_model.specs.Games.{Attacker, Payoff, nothing, payoff_of}
 use Rattle.sg_model.specs.Limits.{IsPayoff, IsWithin}
-use Rattle.sg_format.specs.Steps.{◌>>=◌, out_of_range}
+use Rattle.sg_model.specs.Steps.{◌>>=◌}
+use Rattle.sg_format.specs.Steps.{out_of_range}
 use Rattle.sg_format.specs.Documents.{has_only, items_at, number_at}
 use Rattle.sg_format.specs.Lists.{each, item_count, new_name, some_at}
-use Rattle.sg_format.specs.Types.{is_security_type_key, pay_table_at, payoff_of, pays_at, prior_at, security_type_at, security_types_at}
+use Rattle.sg_format.specs.Types.{is_security_type_key, pay_table_at, pays_at, prior_at, security_type_at, security_types_at}
 use Rattle.sg_format.specs.Parts.{Changes, at_key, at_number, set_item}
-use Rattle.sg_format.specs.PartLaws.{row_of}
+use Rattle.sg_format.specs.PartLaws.{payoff_array}
 use Rattle.sg_format.proofs.Inversion.{after, after_test}
 use Rattle.sg_format.proofs.Keys.{changed_only}
 use Rattle.sg_format.proofs.Listed.{length-each, some_at-count}
@@ -138,7 +139,7 @@ other_row place rows columns items xs k old new row h there e =
       within = omega (arith, size, still, item_within k items old there);
     })
 
-row_right : (place : Place) (p : Payoff) → IsPayoff p → pays_at place 4 (row_of p) ≡ Ok (p.dc ∷ p.du ∷ p.ac ∷ p.au ∷ [])
+row_right : (place : Place) (p : Payoff) → IsPayoff p → pays_at place 4 (payoff_array p) ≡ Ok (p.dc ∷ p.du ∷ p.ac ∷ p.au ∷ [])
 unfolding pays_at each
 row_right place p is =
     let low = pos 0 -ℤ pos (2 ^ 30) in
@@ -171,12 +172,12 @@ row_payoff values k p within there =
     at ∙ ap payoff_of (there [])
 
 other_payoffs : (place : Place) (scaled : Bool) (targets : ℕ) (others : List Attacker) (first second : Data) (x : Attacker) (t : ℕ) (p : Payoff) → security_type_at place scaled targets others first ≡ Ok x
-    → Changes (at_key (codes "payoffs") ∷ at_number t ∷ []) (row_of p) (Some first) second → IsPayoff p → (k : ℕ) × (HasPayoffs place scaled targets others second k p)
+    → Changes (at_key (codes "payoffs") ∷ at_number t ∷ []) (payoff_array p) (Some first) second → IsPayoff p → (k : ℕ) × (HasPayoffs place scaled targets others second k p)
 other_payoffs place scaled targets others first second x t p h c is =
     let key = codes "payoffs" in
     let was : first ≡ table c.old = only first (table c.old) c.was in
     let s = security_table place scaled targets others c.old x (rw was at h) in
-    let change : Changes (at_number t ∷ []) (row_of p) (Some s.listed) c.value = rw s.listed_there at c.change in
+    let change : Changes (at_number t ∷ []) (payoff_array p) (Some s.listed) c.value = rw s.listed_there at c.change in
     let array_is : s.listed ≡ array change.items = only s.listed (array change.items) change.was in
     let right : pays_at place 4 change.value ≡ Ok (p.dc ∷ p.du ∷ p.ac ∷ p.au ∷ []) = rw change.change (row_right place p is) in
     let row = other_row place targets 4 change.items s.rows change.index change.entry change.value (p.dc ∷ p.du ∷ p.ac ∷ p.au ∷ []) (rw array_is at s.rows_read) change.there right in
@@ -213,7 +214,7 @@ unfolding some_at
 some_single place value = refl
 
 pub one_type_set : (targets : ℕ) (first second : Data) (types : List Attacker) (p : Payoff) (t : ℕ) → security_types_at true targets first ≡ Ok types
-    → Changes (at_number 1 ∷ at_key (codes "payoffs") ∷ at_number t ∷ []) (row_of p) (Some first) second → IsPayoff p → HasOneType targets second p
+    → Changes (at_number 1 ∷ at_key (codes "payoffs") ∷ at_number t ∷ []) (payoff_array p) (Some first) second → IsPayoff p → HasOneType targets second p
 unfolding security_types_at
 one_type_set targets first second types p t h c is =
     let read : List Attacker → Data → Result Attacker GameFault = λ others. security_type_at (place_of.Attacker (length others + 1)) true targets others in

@@ -11,7 +11,8 @@ use Rattle.sg_model.specs.declared.fault.Place.{Place}
 use Rattle.sg_model.specs.declared.fault.GameFault.{GameFault}
 use Rattle.sg_model.specs.Sums.{nth}
 use Rattle.sg_model.specs.Limits.{IsCount}
-use Rattle.sg_format.specs.Steps.{◌>>=◌, needed, passed, refused, wrong_kind, unknown_name, repeated_name, out_of_range}
+use Rattle.sg_model.specs.Steps.{◌>>=◌}
+use Rattle.sg_format.specs.Steps.{needed, passed, refused, wrong_kind, unknown_name, repeated_name, out_of_range}
 use Rattle.sg_format.specs.Documents.{items_at}
 use Rattle.sg_format.specs.Lists.{each, item_count, known_at, member_at, members_at, names_at, new_name, number_of, some_at}
 use Rattle.sg_format.specs.Types.{pay_at, pay_table_at, pays_at}

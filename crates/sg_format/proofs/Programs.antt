@@ -12,7 +12,8 @@ use Rattle.sg_model.specs.Limits.{is_scaled, program_rows}
 use Rattle.sg_format.specs.Steps.{refused, too_large}
 use Rattle.sg_format.specs.Lists.{each, few_at, item_count, named_at, named_lists_at, names_at, resources_at, schedules_at, some_at}
 use Rattle.sg_format.specs.Types.{security_type_at, security_types_at}
-use Rattle.sg_format.specs.GameFiles.{count_of, game_of_table, is_patrols_key, is_resources_key, limits_of, listed_game}
+use Rattle.sg_model.specs.Sums.{positive_part}
+use Rattle.sg_format.specs.GameFiles.{game_of_table, is_patrols_key, is_resources_key, limits_of, listed_game}
 use Rattle.sg_format.specs.Changes.{DiffersAt, fault_in}
 use Rattle.sg_format.specs.PartLaws.{LongProgramIsRefused, rows_for}
 use Rattle.sg_format.proofs.Inversion.{after}
@@ -77,7 +78,7 @@ patrols_program first second g given items head there p off d fine many =
       types_read = types_off (is_some declared) (length g.goals) (array items) types none read_types.1;
     } in
     let size = types_count (length g.goals) items types read_types.1 in
-    let hands : resource_count g ≡ count_of p.count = patrols_count g p.patrols p.identical ∙ p.counted in
+    let hands : resource_count g ≡ positive_part p.count = patrols_count g p.patrols p.identical ∙ p.counted in
     let long : 1536 < program_rows game = rw (hands, sym size) at many in
     headed key (Some (array items)) first second Security d head (apart (codes "version") key refl) (apart (codes "form") key refl)
     ∙ (rw still (limits_fail given second declared p.listed (array items) g.goals p.scale p.count types (record { reason = too_large; place = place_of.Document }) read

@@ -9,18 +9,18 @@ use Rattle.sg_model.specs.declared.fault.Place.{Place}
 use Rattle.sg_model.specs.declared.fault.Place.TheVariants as place_of
 use Rattle.sg_model.specs.declared.fault.GameFault.{GameFault}
 use Rattle.sg_model.specs.declared.kind.Kind.TheVariants.{Security}
-use Rattle.sg_model.specs.Sums.{nth}
-use Rattle.sg_model.specs.Games.{Attacker, Game, Payoff, attacker, nobody, nothing, payoff}
+use Rattle.sg_model.specs.Sums.{nth, positive_part}
+use Rattle.sg_model.specs.Games.{Attacker, Game, Payoff, attacker, nobody, nothing, payoff, payoff_of}
 use Rattle.sg_model.specs.Limits.{IsGame, IsPayoff, IsSecurityGame, IsWithin, is_scaled}
 use Rattle.sg_model.specs.Origami.{IsScaled}
 use Rattle.sg_model.proofs.Deciding.{all_pass}
 use Rattle.sg_format.specs.Steps.{refused, bad_scale}
 use Rattle.sg_format.specs.Documents.{has_only, integer_at, needed_at, number_at, table_at}
 use Rattle.sg_format.specs.Lists.{item_count, names_at, new_name, some_at}
-use Rattle.sg_format.specs.Types.{is_security_type_key, pay_table_at, payoff_of, prior_at, security_type_at, security_types_at}
-use Rattle.sg_format.specs.GameFiles.{count_of, fits_scale, game_of_table, is_patrols_key, limits_of, patrols_game, scale_at}
+use Rattle.sg_format.specs.Types.{is_security_type_key, pay_table_at, prior_at, security_type_at, security_types_at}
+use Rattle.sg_format.specs.GameFiles.{fits_scale, game_of_table, is_patrols_key, limits_of, patrols_game, scale_at}
 use Rattle.sg_format.specs.Parts.{DiffersIn, at_key, at_number, of_targets, pay_row, scale, type_pays, typed}
-use Rattle.sg_format.specs.PartLaws.{BadScaleIsRefused, row_of}
+use Rattle.sg_format.specs.PartLaws.{BadScaleIsRefused, payoff_array}
 use Rattle.sg_format.proofs.Accepted.{fits_scale-scaled, game_of_table-game}
 use Rattle.sg_format.proofs.Inversion.{after, after_test}
 use Rattle.sg_format.proofs.Keys.{apart, changed_only}
@@ -48,7 +48,7 @@ abbrev pub read_game : List (List ℕ) → Option ℤ → ℤ → List Attacker 
 read_game targets z count types = record {
   kind = Security;
   scale = unwrap_or z (pos 0);
-  patrols = Some (count_of count);
+  patrols = Some (positive_part count);
   goals = targets;
   schedules = [];
   resources = [];
@@ -204,7 +204,7 @@ off_at : (a b : ℤ) (p q : Payoff) → a ≡ b → q ≡ p → ¬ (IsScaled a p
 off_at a b p q e f off = λ is. off (subst (λ (z : ℤ). IsScaled z p) (sym e) (subst (IsScaled b) f is))
 
 payoffs_fail : (first second : Members) (g : Game) (given : Data) (t : ℕ) (p : Payoff) → IsHeaded first Security → get_member (codes "patrols") first ≡ Some given → IsPatrolsFile given first g
-    → is_scaled g ≡ true → IsTopChange (codes "type") (at_number 1 ∷ at_key (codes "payoffs") ∷ at_number t ∷ []) (row_of p) first second → IsPayoff p → ¬ (IsScaled g.scale p)
+    → is_scaled g ≡ true → IsTopChange (codes "type") (at_number 1 ∷ at_key (codes "payoffs") ∷ at_number t ∷ []) (payoff_array p) first second → IsPayoff p → ¬ (IsScaled g.scale p)
     → game_of_table second ≡ refused bad_scale (place_of.Attacker 1)
 payoffs_fail first second g given t p head there f scaled c is off =
     let key = codes "type" in
@@ -234,13 +234,13 @@ scale_off : (g : Game) → g.scale ≡ pos 0 → is_scaled g ≡ false
 scale_off g e = ap (int_lt (pos 0)) e
 
 other_payoffs_scale : (first second : Members) (g : Game) (t : ℕ) (p : Payoff) → game_of_table first ≡ Ok g → is_scaled g ≡ true
-    → DiffersIn g (typed 1 (type_pays of_targets (pay_row t))) (row_of p) first second → IsPayoff p → ¬ (IsScaled g.scale p) → game_of_table second ≡ refused bad_scale (place_of.Attacker 1)
+    → DiffersIn g (typed 1 (type_pays of_targets (pay_row t))) (payoff_array p) first second → IsPayoff p → ¬ (IsScaled g.scale p) → game_of_table second ≡ refused bad_scale (place_of.Attacker 1)
 other_payoffs_scale first second g t p h scaled d is off =
     let game = game_of_table-game first g h in
     by_file first g (game_of_table second ≡ refused bad_scale (place_of.Attacker 1)) h
     (λ head m. absurd (true≢false (sym scaled ∙ scale_off g (matrix_form g game m.kind).no_scale)))
     (λ head given there f. payoffs_fail first second g given t p head there f scaled
-    (top_change (codes "type") (at_number 1 ∷ at_key (codes "payoffs") ∷ at_number t ∷ []) (row_of p) first second d) is off)
+    (top_change (codes "type") (at_number 1 ∷ at_key (codes "payoffs") ∷ at_number t ∷ []) (payoff_array p) first second d) is off)
     (λ head there l. absurd (true≢false (sym scaled ∙ scale_off g l.scale_is)))
 
 pub scales : BadScaleIsRefused

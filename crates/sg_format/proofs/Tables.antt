@@ -8,7 +8,8 @@ use Rattle.toml.specs.Data.{Data, Members, no_members, member, as_table, get_mem
 use Rattle.sg_model.specs.declared.fault.Place.{Place}
 use Rattle.sg_model.specs.declared.fault.GameFault.{GameFault}
 use Rattle.sg_model.specs.Games.{Named}
-use Rattle.sg_format.specs.Steps.{◌>>=◌, needed, refused, missing_key, wrong_kind, unknown_key}
+use Rattle.sg_model.specs.Steps.{◌>>=◌}
+use Rattle.sg_format.specs.Steps.{needed, refused, missing_key, wrong_kind, unknown_key}
 use Rattle.sg_format.specs.Documents.{has_only, needed_at}
 use Rattle.sg_format.specs.Lists.{is_named_key, members_at, named_at, new_name}
 use Rattle.sg_format.specs.Changes.{DiffersAt}

@@ -10,12 +10,12 @@ use Rattle.toml.specs.Data.{Data}
 use Rattle.sg_model.specs.declared.fault.Place.{Place}
 use Rattle.sg_model.specs.declared.fault.Place.TheVariants as place_of
 use Rattle.sg_model.specs.declared.fault.GameFault.{GameFault}
-use Rattle.sg_model.specs.Games.{Attacker}
+use Rattle.sg_model.specs.Games.{Attacker, payoff_of}
 use Rattle.sg_model.specs.Names.{AreNames}
 use Rattle.sg_model.specs.Limits.{AreTypes, IsCount, IsMatrixType, IsPay, IsPayoff, IsSecurityType, IsTable, IsWithin}
 use Rattle.sg_format.specs.Documents.{has_only, items_at, needed_at, table_at}
 use Rattle.sg_format.specs.Lists.{item_count, names_at, new_name, some_at}
-use Rattle.sg_format.specs.Types.{is_matrix_type_key, is_security_type_key, matrix_type_at, matrix_types_at, pay_at, pay_table_at, payoff_of, pays_at, prior_at, security_type_at, security_types_at}
+use Rattle.sg_format.specs.Types.{is_matrix_type_key, is_security_type_key, matrix_type_at, matrix_types_at, pay_at, pay_table_at, pays_at, prior_at, security_type_at, security_types_at}
 use Rattle.sg_format.proofs.Inversion.{after, after_test}
 use Rattle.sg_format.proofs.Values.{AreNames-nil, AreNames-push, IsNewName, new_name-new, number_at-within}
 use Rattle.sg_format.proofs.Listed.{each-count, each-keeps, length-each, names_at-names, some_at-count}

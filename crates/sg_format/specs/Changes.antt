@@ -17,10 +17,10 @@ pub record DiffersAt (key : List ℕ) (value : Option Data) (first second : Memb
   pub elsewhere : (other : List ℕ) → other ≢ key → get_member other second ≡ get_member other first
 
 -- the top keys of a game of this form, with patrols or without
-abbrev pub is_key_of : Kind → Option ℕ → List ℕ → Bool
-is_key_of Matrix patrols key = is_matrix_key key
-is_key_of Security (Some n) key = is_patrols_key key
-is_key_of Security None key = is_resources_key key
+abbrev pub is_top_key : Kind → Option ℕ → List ℕ → Bool
+is_top_key Matrix patrols key = is_matrix_key key
+is_top_key Security (Some n) key = is_patrols_key key
+is_top_key Security None key = is_resources_key key
 
 -- the fault with which a reading ends, if it does
 abbrev pub fault_in : {A : Type 0} → Result A GameFault → Option GameFault

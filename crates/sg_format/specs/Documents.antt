@@ -7,7 +7,8 @@ use Rattle.sg_model.specs.declared.fault.Place.{Place}
 use Rattle.sg_model.specs.declared.fault.Place.TheVariants.{Document}
 use Rattle.sg_model.specs.declared.fault.GameFault.{GameFault}
 use Rattle.sg_model.specs.Names.{is_name}
-use Rattle.sg_format.specs.Steps.{◌>>=◌, needed, passed, not_toml, missing_key, wrong_kind, out_of_range}
+use Rattle.sg_model.specs.Steps.{◌>>=◌}
+use Rattle.sg_format.specs.Steps.{needed, passed, not_toml, missing_key, wrong_kind, out_of_range}
 
 -- the top table of the TOML document that the bytes are
 unfoldable pub document_of : List ℕ → Result Members GameFault

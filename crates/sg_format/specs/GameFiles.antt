@@ -9,7 +9,9 @@ use Rattle.sg_model.specs.declared.kind.Kind.TheVariants.{Security, Matrix}
 use Rattle.sg_model.specs.Games.{Payoff, Attacker, Game}
 use Rattle.sg_model.specs.Limits.{program_rows}
 use Rattle.sg_model.specs.Origami.{gap}
-use Rattle.sg_format.specs.Steps.{◌>>=◌, needed, passed, bad_version, missing_key, unknown_key, out_of_range, too_large, bad_scale}
+use Rattle.sg_model.specs.Steps.{◌>>=◌}
+use Rattle.sg_model.specs.Sums.{positive_part}
+use Rattle.sg_format.specs.Steps.{needed, passed, bad_version, missing_key, unknown_key, out_of_range, too_large, bad_scale}
 use Rattle.sg_format.specs.Documents.{document_of, has_only, needed_at, integer_at, text_at, number_at}
 use Rattle.sg_format.specs.Lists.{names_at, schedules_at, resources_at}
 use Rattle.sg_format.specs.Types.{security_types_at, matrix_types_at}
@@ -58,11 +60,6 @@ scale_at (Some value) = do
   scale ← number_at place_of.Document (pos 1) (pos (2 ^ 32)) value
   Ok (Some scale)
 
--- a number that isn't below 0
-abbrev pub count_of : ℤ → ℕ
-count_of (pos n) = n
-count_of (negsuc n) = 0
-
 -- the number is 0
 abbrev pub is_zero : ℤ → Bool
 is_zero (pos n) = n == 0
@@ -93,7 +90,7 @@ patrols_game given table = do
   let g : Game = record {
     kind = Security;
     scale = unwrap_or scale (pos 0);
-    patrols = Some (count_of patrols);
+    patrols = Some (positive_part patrols);
     goals = targets;
     schedules = [];
     resources = [];

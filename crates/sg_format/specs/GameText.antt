@@ -8,8 +8,8 @@ use Rattle.sg_model.specs.Games.{Payoff, Attacker, Named, Game, is_matrix}
 use Rattle.sg_model.specs.Limits.{is_scaled}
 
 -- a line that gives a key its value
-abbrev pub line : List ℕ → List ℕ → List ℕ
-line key value = key ++ (codes " = " ++ (value ++ codes "\n"))
+abbrev pub key_line : List ℕ → List ℕ → List ℕ
+key_line key value = key ++ (codes " = " ++ (value ++ codes "\n"))
 
 -- the head of a table in an array of tables, after an empty line
 abbrev pub head : List ℕ → List ℕ
@@ -20,13 +20,13 @@ abbrev pub quoted : List ℕ → List ℕ
 quoted name = codes "\"" ++ (name ++ codes "\"")
 
 -- texts with a comma and a space between each two
-abbrev pub joined : List (List ℕ) → List ℕ
-joined [] = []
-joined (first ∷ rest) = first ++ flat_map (λ item. codes ", " ++ item) rest
+abbrev pub comma_joined : List (List ℕ) → List ℕ
+comma_joined [] = []
+comma_joined (first ∷ rest) = first ++ flat_map (λ item. codes ", " ++ item) rest
 
 -- an array of items
 abbrev pub array : List (List ℕ) → List ℕ
-array items = codes "[" ++ (joined items ++ codes "]")
+array items = codes "[" ++ (comma_joined items ++ codes "]")
 
 -- an array of names
 abbrev pub names_array : List (List ℕ) → List ℕ
@@ -56,21 +56,21 @@ goals_key Matrix = codes "rows"
 
 -- the line of the scale, where one is declared
 abbrev pub scale_line : Game → List ℕ
-scale_line g = if is_scaled g then line (codes "scale") (signed_decimal g.scale) else []
+scale_line g = if is_scaled g then key_line (codes "scale") (signed_decimal g.scale) else []
 
 -- the line of the patrols, where their number is given
 abbrev pub patrols_line : Option ℕ → List ℕ
-patrols_line (Some n) = line (codes "patrols") (decimal n)
+patrols_line (Some n) = key_line (codes "patrols") (decimal n)
 patrols_line None = []
 
 -- the lines of the top keys whose values are no tables
 abbrev pub top_lines : Game → List ℕ
 top_lines g =
-    line (codes "version") (codes "1")
-    ++ (line (codes "form") (quoted (form_name g.kind))
+    key_line (codes "version") (codes "1")
+    ++ (key_line (codes "form") (quoted (form_name g.kind))
     ++ (scale_line g
     ++ (patrols_line g.patrols
-    ++ line (goals_key g.kind) (names_array g.goals))))
+    ++ key_line (goals_key g.kind) (names_array g.goals))))
 
 -- whether the game lists its schedules and its resources
 abbrev pub is_listed : Game → Bool
@@ -78,7 +78,7 @@ is_listed g = not (is_matrix g) && is_none g.patrols
 
 -- the line of a list of tables that has none
 abbrev pub empty_line : List ℕ → List Named → List ℕ
-empty_line key [] = line key (codes "[]")
+empty_line key [] = key_line key (codes "[]")
 empty_line key (first ∷ rest) = []
 
 -- the lines of the lists of tables that have none
@@ -89,8 +89,8 @@ empty_lines g = if is_listed g then empty_line (codes "schedule") g.schedules ++
 abbrev pub named_table : List ℕ → List ℕ → List (List ℕ) → Named → List ℕ
 named_table key members_key names x =
     head key
-    ++ (line (codes "name") (quoted x.name)
-    ++ line members_key (names_array (map (λ m. nth names m []) x.members)))
+    ++ (key_line (codes "name") (quoted x.name)
+    ++ key_line members_key (names_array (map (λ m. nth names m []) x.members)))
 
 -- the tables of the schedules
 abbrev pub schedule_tables : Game → List ℕ
@@ -102,18 +102,18 @@ resource_tables g = flat_map (named_table (codes "resource") (codes "schedules")
 
 -- the lines of what a type gets: four payoffs for each target, or its actions with its two tables
 abbrev pub pay_lines : Kind → Attacker → List ℕ
-pay_lines Security x = line (codes "payoffs") (table_array (map four_pays x.payoffs))
+pay_lines Security x = key_line (codes "payoffs") (table_array (map four_pays x.payoffs))
 pay_lines Matrix x =
-    line (codes "actions") (names_array x.actions)
-    ++ (line (codes "leader") (table_array x.leader)
-    ++ line (codes "follower") (table_array x.follower))
+    key_line (codes "actions") (names_array x.actions)
+    ++ (key_line (codes "leader") (table_array x.leader)
+    ++ key_line (codes "follower") (table_array x.follower))
 
 -- the table of a type of attacker
 abbrev pub type_table : Kind → Attacker → List ℕ
 type_table kind x =
     head (codes "type")
-    ++ (line (codes "name") (quoted x.name)
-    ++ (line (codes "prior") (signed_decimal x.prior)
+    ++ (key_line (codes "name") (quoted x.name)
+    ++ (key_line (codes "prior") (signed_decimal x.prior)
     ++ pay_lines kind x))
 
 -- the canonical text of a game

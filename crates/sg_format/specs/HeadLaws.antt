@@ -8,7 +8,7 @@ use Rattle.sg_format.specs.Steps.{refused, missing_key, wrong_kind, unknown_key,
 use Rattle.sg_format.specs.Documents.{has_only}
 use Rattle.sg_format.specs.GameText.{form_name}
 use Rattle.sg_format.specs.GameFiles.{game_of_table}
-use Rattle.sg_format.specs.Changes.{is_key_of}
+use Rattle.sg_format.specs.Changes.{is_top_key}
 
 -- the version is 1
 abbrev pub IsFirstVersion : Members → Type 0
@@ -21,7 +21,7 @@ pub record IsOfForm (kind : Kind) (document : Members) : Type 0 where
 
 -- whether a key is one of the top keys of the document's form, which are others where the number of patrols is given
 abbrev pub is_own_key : Kind → Members → List ℕ → Bool
-is_own_key kind document key = is_key_of kind (if is_some (get_member (codes "patrols") document) then Some 0 else None) key
+is_own_key kind document key = is_top_key kind (if is_some (get_member (codes "patrols") document) then Some 0 else None) key
 
 -- the tests before those of the values, in their order: each asks that those before it pass
 pub record HeadIsRefused : Type 0 where

@@ -6,7 +6,8 @@ use Rattle.sg_model.specs.declared.fault.Place.{Place}
 use Rattle.sg_model.specs.declared.fault.Place.TheVariants.{Document, Schedule, Resource}
 use Rattle.sg_model.specs.declared.fault.GameFault.{GameFault}
 use Rattle.sg_model.specs.Games.{Named}
-use Rattle.sg_format.specs.Steps.{◌>>=◌, needed, passed, unknown_key, empty_list, unknown_name, repeated_name, too_large}
+use Rattle.sg_model.specs.Steps.{◌>>=◌}
+use Rattle.sg_format.specs.Steps.{needed, passed, unknown_key, empty_list, unknown_name, repeated_name, too_large}
 use Rattle.sg_format.specs.Documents.{has_only, needed_at, text_at, items_at, table_at, name_at}
 
 -- how many items there are

@@ -103,8 +103,8 @@ LongPartIsRefused = (first second : Members) (g : Game) (part : Part) (limit : �
     → most_entries (part_rule g part) ≡ Some limit → limit < item_count items → IsRefusedAt g part too_large second
 
 -- the payoffs at a target as they stand in a file
-abbrev pub row_of : Payoff → Data
-row_of p = array (item (integer p.dc) (item (integer p.du) (item (integer p.ac) (item (integer p.au) no_items))))
+abbrev pub payoff_array : Payoff → Data
+payoff_array p = array (item (integer p.dc) (item (integer p.du) (item (integer p.ac) (item (integer p.au) no_items))))
 
 -- a scale that the payoffs at some target don't fit, or payoffs at a target that don't fit the scale
 pub record BadScaleIsRefused : Type 0 where
@@ -114,7 +114,7 @@ pub record BadScaleIsRefused : Type 0 where
       → game_of_table second ≡ refused bad_scale (place_of.Attacker 1)
   -- other payoffs at target t
   pub payoffs : (first second : Members) (g : Game) (t : ℕ) (p : Payoff) → game_of_table first ≡ Ok g → is_scaled g ≡ true
-      → DiffersIn g (typed 1 (type_pays of_targets (pay_row t))) (row_of p) first second → IsPayoff p → ¬ (IsScaled g.scale p) → game_of_table second ≡ refused bad_scale (place_of.Attacker 1)
+      → DiffersIn g (typed 1 (type_pays of_targets (pay_row t))) (payoff_array p) first second → IsPayoff p → ¬ (IsScaled g.scale p) → game_of_table second ≡ refused bad_scale (place_of.Attacker 1)
 
 -- the rows of the largest linear program of a game in security form, of so many resources, targets and types
 abbrev pub rows_for : ℕ → ℕ → ℕ → ℕ

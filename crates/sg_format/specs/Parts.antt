@@ -9,6 +9,7 @@ use Rattle.sg_model.specs.declared.kind.Kind.TheVariants.{Security, Matrix}
 use Rattle.sg_model.specs.Sums.{nth}
 use Rattle.sg_model.specs.Games.{Attacker, Game, Named, attacker, unnamed}
 use Rattle.sg_model.specs.Limits.{is_scaled}
+use Rattle.sg_model.specs.Places.{goal_place}
 use Rattle.sg_format.specs.GameText.{goals_key}
 use Rattle.sg_format.specs.Changes.{DiffersAt}
 
@@ -116,11 +117,6 @@ part_path kind (groups group) = at_key (group_key group) ∷ []
 part_path kind (grouped group n part) = at_key (group_key group) ∷ at_number n ∷ named_path group part
 part_path kind types = at_key (codes "type") ∷ []
 part_path kind (typed n part) = at_key (codes "type") ∷ at_number n ∷ type_path part
-
--- the place of the n-th target or row
-abbrev pub goal_place : Kind → ℕ → Place
-goal_place Security n = place_of.Target n
-goal_place Matrix n = place_of.Row n
 
 -- the place of the n-th schedule or resource
 abbrev pub group_place : Group → ℕ → Place

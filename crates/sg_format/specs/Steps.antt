@@ -47,12 +47,6 @@ too_large = 10
 abbrev pub bad_scale : ℕ
 bad_scale = 11
 
-infixl 10 ◌>>=◌
--- a step, and then the next one with its value
-abbrev pub ◌>>=◌ : {A B : Type 0} → Result A GameFault → (A → Result B GameFault) → Result B GameFault
-(Ok x) >>= next = next x
-(Err e) >>= next = Err e
-
 -- a fault of this reason at this place
 abbrev pub refused : {A : Type 0} → ℕ → Place → Result A GameFault
 refused reason place = Err (record { reason = reason; place = place })

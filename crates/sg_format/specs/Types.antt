@@ -4,8 +4,9 @@ use Rattle.toml.specs.Data.{Data}
 use Rattle.sg_model.specs.declared.fault.Place.{Place}
 use Rattle.sg_model.specs.declared.fault.Place.TheVariants as place_of
 use Rattle.sg_model.specs.declared.fault.GameFault.{GameFault}
-use Rattle.sg_model.specs.Games.{Payoff, Attacker}
-use Rattle.sg_format.specs.Steps.{◌>>=◌, passed, unknown_key, out_of_range}
+use Rattle.sg_model.specs.Games.{Payoff, Attacker, payoff_of}
+use Rattle.sg_model.specs.Steps.{◌>>=◌}
+use Rattle.sg_format.specs.Steps.{passed, unknown_key, out_of_range}
 use Rattle.sg_format.specs.Documents.{has_only, needed_at, items_at, table_at, number_at}
 use Rattle.sg_format.specs.Lists.{item_count, each, some_at, new_name, names_at}
 
@@ -26,10 +27,6 @@ pay_table_at place rows columns value = do
   items ← items_at place value
   long ← passed (item_count items == rows) out_of_range place
   each (λ before. pays_at place columns) [] items
-
--- the payoffs at a target in the order of the file: defender covered and uncovered, attacker covered and uncovered
-abbrev pub payoff_of : List ℤ → Payoff
-payoff_of xs = record { dc = slice_index_or xs 0 (pos 0); du = slice_index_or xs 1 (pos 0); ac = slice_index_or xs 2 (pos 0); au = slice_index_or xs 3 (pos 0) }
 
 -- the keys of a type in security form
 abbrev pub is_security_type_key : List ℕ → Bool

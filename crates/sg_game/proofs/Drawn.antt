@@ -14,15 +14,16 @@ use Rattle.sg_game.specs.declared.parts.ListParts.{ListParts}
 use Rattle.sg_game.specs.declared.parts.TypeParts.{TypeParts}
 use Rattle.sg_game.specs.Building.{HasOwnFields}
 use Rattle.sg_game.specs.Converting.{FitAll}
-use Rattle.sg_game.specs.Drafts.{FitsDraft, IsFewPatrols, IsSmall}
+use Rattle.sg_game.specs.Drafts.{FitsDraft, IsFewPatrols, IsCountable}
 use Rattle.sg_game.specs.Faults.{goal_limit, patrol_limit, prior_limit}
-use Rattle.sg_game.specs.Seen.{attacker_of, count_of, game_of, named_of}
+use Rattle.sg_game.specs.Seen.{attacker_of, game_of, named_of}
+use Rattle.sg_model.specs.Sums.{positive_part}
 use Rattle.sg_game.proofs.Listed.{All-unmap}
 use Rattle.sg_game.proofs.Fielded.{AreFielded, IsOptionWithin, IsTyped}
 use Rattle.sg_game.proofs.Told.{count_of-within, matrix_from, prior_limit-le, security_from}
 use Rattle.sg_game.proofs.Sound.{types_from}
 
-few : (b : Bool) (o : Option ℤ) → IsOptionWithin (pos 0) (patrol_limit b) o → IsFewPatrols (option_map count_of o)
+few : (b : Bool) (o : Option ℤ) → IsOptionWithin (pos 0) (patrol_limit b) o → IsFewPatrols (option_map positive_part o)
 few b None h = tt
 few true (Some z) h = count_of-within z (pos 200) 200 refl h
 few false (Some z) h = let le = count_of-within z (pos 32) 32 refl h in omega (arith, le)
@@ -70,7 +71,7 @@ module _ (p : Parts) (own : HasOwnFields p) (h : AreFielded p) where
           (subst (λ (k : Kind). IsTyped k (prior_limit (is_some p.scale)) (length p.goals.items) x) e (h.types i d lt)) ((own.matrix e).payoffs i d lt) in
           record { actions = t.action_count.at_most; payoffs = rw t.no_payoffs (λ j q within. absurd (omega arith)) }
 
-  pub small : IsSmall (game_of p)
+  pub small : IsCountable (game_of p)
   small =
       let n = length-map p.goals.items string_bytes in
       record {

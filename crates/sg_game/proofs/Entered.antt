@@ -10,7 +10,7 @@ use Rattle.sg_model.specs.declared.fault.GameFault.{GameFault}
 use Rattle.sg_model.specs.declared.fault.Place.{Place}
 use Rattle.sg_model.specs.Limits.{IsCount}
 use Rattle.sg_model.specs.Names.{AreNames, is_name}
-use Rattle.sg_game.specs.Faults.{◌orelse◌, unless, each_member_fault, entries_fault, member_fault, name_fault}
+use Rattle.sg_game.specs.Faults.{◌orelse◌, fault_unless, each_member_fault, entries_fault, member_fault, name_fault}
 use Rattle.sg_game.proofs.Fresh.{AreFresh, stands, fresh_tail, fresh_cons, fresh_nil, fresh_first}
 use Rattle.sg_game.proofs.Steps.{neither, both, holds, fine, and_both}
 
@@ -27,7 +27,7 @@ module _ {X : Type 0} (name : X → List ℕ) (rest : Place → X → Option Gam
       let here : Place = place (length before + 1) in
       let parts = neither (name_fault before here (name x) orelse rest here x) (entries_fault name rest place (before ++ name x ∷ []) xs) h in
       let first = neither (name_fault before here (name x)) (rest here x) parts.0 in
-      let names = neither (unless (is_name (name x)) 9 here) (unless (not (stands bytes_eq before (name x))) 8 here) first.0 in
+      let names = neither (fault_unless (is_name (name x)) 9 here) (fault_unless (not (stands bytes_eq before (name x))) 8 here) first.0 in
       let tail = entered sound (before ++ name x ∷ []) xs parts.1 in
       record {
         spelled = All-cons (λ (n : List ℕ). is_name n ≡ true) (name x) (map name xs) (holds (is_name (name x)) 9 here names.0) tail.spelled;
@@ -49,7 +49,7 @@ module _ {X : Type 0} (name : X → List ℕ) (rest : Place → X → Option Gam
       } in
       both (name_fault before here (name x) orelse rest here x) (entries_fault name rest place (before ++ name x ∷ []) xs)
       (both (name_fault before here (name x)) (rest here x)
-      (both (unless (is_name (name x)) 9 here) (unless (not (stands bytes_eq before (name x))) 8 here)
+      (both (fault_unless (is_name (name x)) 9 here) (fault_unless (not (stands bytes_eq before (name x))) 8 here)
       (fine (is_name (name x)) 9 here spelled) (fine (not (stands bytes_eq before (name x))) 8 here (not_from_false (stands bytes_eq before (name x)) new)))
       (complete here x (All-head P x xs h.each)))
       (enters complete (before ++ name x ∷ []) xs tail)
@@ -76,7 +76,7 @@ module _ (count : ℕ) (place : Place) where
   known before [] h = record { known = All-nil (IsCount 1 count); fresh = fresh_nil nat_eq Decides-eqb before }
   known before (m ∷ ms) h =
       let parts = neither (member_fault count place before m) (each_member_fault count place (before ++ m ∷ []) ms) h in
-      let first = neither (unless (nat_le 1 m && nat_le m count) 7 place) (unless (not (stands nat_eq before m)) 8 place) parts.0 in
+      let first = neither (fault_unless (nat_le 1 m && nat_le m count) 7 place) (fault_unless (not (stands nat_eq before m)) 8 place) parts.0 in
       let tail = known (before ++ m ∷ []) ms parts.1 in
       record {
         known = All-cons (IsCount 1 count) m ms (counted count m (holds (nat_le 1 m && nat_le m count) 7 place first.0)) tail.known;
@@ -89,7 +89,7 @@ module _ (count : ℕ) (place : Place) where
       let new : stands nat_eq before m ≡ false = All-head (λ (n : ℕ). stands nat_eq before n ≡ false) m ms h.fresh.new in
       let tail : AreKnown count (before ++ m ∷ []) ms = record { known = All-tail (IsCount 1 count) m ms h.known; fresh = fresh_tail nat_eq Decides-eqb before m ms h.fresh } in
       both (member_fault count place before m) (each_member_fault count place (before ++ m ∷ []) ms)
-      (both (unless (nat_le 1 m && nat_le m count) 7 place) (unless (not (stands nat_eq before m)) 8 place)
+      (both (fault_unless (nat_le 1 m && nat_le m count) 7 place) (fault_unless (not (stands nat_eq before m)) 8 place)
       (fine (nat_le 1 m && nat_le m count) 7 place (counts count m (All-head (IsCount 1 count) m ms h.known)))
       (fine (not (stands nat_eq before m)) 8 place (not_from_false (stands nat_eq before m) new)))
       (knows (before ++ m ∷ []) ms tail)

@@ -12,8 +12,9 @@ use Rattle.sg_model.specs.Limits.{IsCount, IsWithin, IsTable, AreLists}
 use Rattle.sg_model.specs.Names.{AreNames}
 use Rattle.sg_game.specs.declared.parts.Parts.{Parts}
 use Rattle.sg_game.specs.declared.parts.TypeParts.{TypeParts}
-use Rattle.sg_game.specs.Seen.{rows, texts, named_of}
-use Rattle.sg_game.specs.Faults.{◌orelse◌, unless, is_within, is_table, names_fault, entries_fault, lists_fault, tables_fault, pays_fault, type_fault, types_fault, goal_place, goal_limit, goals_fault, option_fault, prior_limit, patrol_limit, type_limit, numbers_fault, fields_fault}
+use Rattle.sg_game.specs.Seen.{number_lists, texts, named_of}
+use Rattle.sg_game.specs.Faults.{◌orelse◌, fault_unless, is_within, is_table, names_fault, entries_fault, lists_fault, tables_fault, pays_fault, type_fault, types_fault, goal_limit, goals_fault, option_fault, prior_limit, patrol_limit, type_limit, numbers_fault, fields_fault}
+use Rattle.sg_model.specs.Places.{goal_place}
 use Rattle.sg_game.proofs.Steps.{neither, both, holds, fine}
 use Rattle.sg_game.proofs.Entered.{entered, enters, names_entered}
 use Rattle.sg_game.proofs.Listed.{within, is-within, counted, table, is-table, named, names, listed, are-lists}
@@ -22,12 +23,12 @@ use Rattle.sg_game.proofs.Listed.{within, is-within, counted, table, is-table, n
 pub record HasTables (goals : ℕ) (x : TypeParts) : Type 0 where
   pub count : IsCount 1 64 (length x.actions.items)
   pub names : AreNames (texts x.actions.items)
-  pub leader : IsTable goals (length x.actions.items) (rows x.leader.items)
-  pub follower : IsTable goals (length x.actions.items) (rows x.follower.items)
+  pub leader : IsTable goals (length x.actions.items) (number_lists x.leader.items)
+  pub follower : IsTable goals (length x.actions.items) (number_lists x.follower.items)
 
 -- what a type gets
 abbrev pub HasPays : Kind → ℕ → TypeParts → Type 0
-HasPays Security goals x = IsTable goals 4 (rows x.payoffs.items)
+HasPays Security goals x = IsTable goals 4 (number_lists x.payoffs.items)
 HasPays Matrix goals x = HasTables goals x
 
 -- a type but for its name
@@ -40,11 +41,11 @@ module _ (goals : ℕ) (place : Place) (x : TypeParts) where
   unfolding tables_fault
   tables h =
       let n : ℕ = length x.actions.items in
-      let a = unless (nat_le 1 n) 6 place in
-      let b = unless (nat_le n 64) 10 place in
+      let a = fault_unless (nat_le 1 n) 6 place in
+      let b = fault_unless (nat_le n 64) 10 place in
       let c = names_fault (λ n. place) x.actions.items in
-      let d = unless (is_table goals n x.leader.items) 9 place in
-      let e = unless (is_table goals n x.follower.items) 9 place in
+      let d = fault_unless (is_table goals n x.leader.items) 9 place in
+      let e = fault_unless (is_table goals n x.follower.items) 9 place in
       let p = neither (((a orelse b) orelse c) orelse d) e h in
       let q = neither ((a orelse b) orelse c) d p.0 in
       let r = neither (a orelse b) c q.0 in
@@ -60,11 +61,11 @@ module _ (goals : ℕ) (place : Place) (x : TypeParts) where
   unfolding tables_fault
   has-tables h =
       let n : ℕ = length x.actions.items in
-      let a = unless (nat_le 1 n) 6 place in
-      let b = unless (nat_le n 64) 10 place in
+      let a = fault_unless (nat_le 1 n) 6 place in
+      let b = fault_unless (nat_le n 64) 10 place in
       let c = names_fault (λ n. place) x.actions.items in
-      let d = unless (is_table goals n x.leader.items) 9 place in
-      let e = unless (is_table goals n x.follower.items) 9 place in
+      let d = fault_unless (is_table goals n x.leader.items) 9 place in
+      let e = fault_unless (is_table goals n x.follower.items) 9 place in
       both (((a orelse b) orelse c) orelse d) e
       (both ((a orelse b) orelse c) d
       (both (a orelse b) c
@@ -84,12 +85,12 @@ has-pays Matrix goals place x h = has-tables goals place x h
 module _ (kind : Kind) (limit : ℤ) (goals : ℕ) where
   typed : (place : Place) (x : TypeParts) → type_fault kind limit goals place x ≡ None → IsTyped kind limit goals x
   typed place x h =
-      let p = neither (unless (is_within (pos 1) limit x.prior) 9 place) (pays_fault kind goals place x) h in
+      let p = neither (fault_unless (is_within (pos 1) limit x.prior) 9 place) (pays_fault kind goals place x) h in
       record { prior = within (pos 1) limit x.prior (holds (is_within (pos 1) limit x.prior) 9 place p.0); pays = pays kind goals place x p.1 }
 
   is-typed : (place : Place) (x : TypeParts) → IsTyped kind limit goals x → type_fault kind limit goals place x ≡ None
   is-typed place x h =
-      both (unless (is_within (pos 1) limit x.prior) 9 place) (pays_fault kind goals place x)
+      both (fault_unless (is_within (pos 1) limit x.prior) 9 place) (pays_fault kind goals place x)
       (fine (is_within (pos 1) limit x.prior) 9 place (is-within (pos 1) limit x.prior h.prior)) (has-pays kind goals place x h.pays)
 
 -- there is no number, or it is in range
@@ -134,17 +135,17 @@ module _ (p : Parts) where
   fielded h =
       let n : ℕ = length p.goals.items in
       let limit : ℕ = goal_limit p.kind (is_some p.scale) in
-      let a = unless (is_none p.scale || is_some p.patrols) 3 Document in
-      let b0 = unless (nat_le 1 n) 6 Document in
-      let b1 = unless (nat_le n limit) 10 Document in
+      let a = fault_unless (is_none p.scale || is_some p.patrols) 3 Document in
+      let b0 = fault_unless (nat_le 1 n) 6 Document in
+      let b1 = fault_unless (nat_le n limit) 10 Document in
       let b2 = names_fault (goal_place p.kind) p.goals.items in
       let c0 = option_fault (pos 1) (pos (2 ^ 32)) p.scale in
       let c1 = option_fault (pos 0) (patrol_limit (is_some p.scale)) p.patrols in
       let d = lists_fault n 500 200 Schedule p.schedules.items in
       let e = lists_fault (length p.schedules.items) 32 500 Resource p.resources.items in
       let m : ℕ = length p.types.items in
-      let f0 = unless (nat_le 1 m) 6 Document in
-      let f1 = unless (nat_le m (type_limit (is_some p.scale))) 10 Document in
+      let f0 = fault_unless (nat_le 1 m) 6 Document in
+      let f1 = fault_unless (nat_le m (type_limit (is_some p.scale))) 10 Document in
       let f2 = entries_fault type_name type_rest Attacker [] p.types.items in
       let b = (b0 orelse b1) orelse b2 in
       let c = c0 orelse c1 in
@@ -179,17 +180,17 @@ module _ (p : Parts) where
   are-fielded h =
       let n : ℕ = length p.goals.items in
       let limit : ℕ = goal_limit p.kind (is_some p.scale) in
-      let a = unless (is_none p.scale || is_some p.patrols) 3 Document in
-      let b0 = unless (nat_le 1 n) 6 Document in
-      let b1 = unless (nat_le n limit) 10 Document in
+      let a = fault_unless (is_none p.scale || is_some p.patrols) 3 Document in
+      let b0 = fault_unless (nat_le 1 n) 6 Document in
+      let b1 = fault_unless (nat_le n limit) 10 Document in
       let b2 = names_fault (goal_place p.kind) p.goals.items in
       let c0 = option_fault (pos 1) (pos (2 ^ 32)) p.scale in
       let c1 = option_fault (pos 0) (patrol_limit (is_some p.scale)) p.patrols in
       let d = lists_fault n 500 200 Schedule p.schedules.items in
       let e = lists_fault (length p.schedules.items) 32 500 Resource p.resources.items in
       let m : ℕ = length p.types.items in
-      let f0 = unless (nat_le 1 m) 6 Document in
-      let f1 = unless (nat_le m (type_limit (is_some p.scale))) 10 Document in
+      let f0 = fault_unless (nat_le 1 m) 6 Document in
+      let f1 = fault_unless (nat_le m (type_limit (is_some p.scale))) 10 Document in
       let f2 = entries_fault type_name type_rest Attacker [] p.types.items in
       let b = (b0 orelse b1) orelse b2 in
       let c = c0 orelse c1 in

@@ -13,8 +13,8 @@ use Rattle.sg_model.specs.Games.{Named}
 use Rattle.sg_model.specs.Limits.{IsCount, IsWithin, IsPay, IsTable, AreMembers, AreLists}
 use Rattle.sg_model.specs.Names.{AreNames}
 use Rattle.sg_game.specs.declared.parts.ListParts.{ListParts}
-use Rattle.sg_game.specs.Seen.{rows, texts, named_of}
-use Rattle.sg_game.specs.Faults.{◌orelse◌, unless, is_within, is_pay, is_table, names_fault, entries_fault, each_member_fault, members_fault, lists_fault}
+use Rattle.sg_game.specs.Seen.{number_lists, texts, named_of}
+use Rattle.sg_game.specs.Faults.{◌orelse◌, fault_unless, is_within, is_pay, is_table, names_fault, entries_fault, each_member_fault, members_fault, lists_fault}
 use Rattle.sg_game.proofs.Fresh.{fresh_first}
 use Rattle.sg_game.proofs.Steps.{neither, both, holds, fine, and_both}
 use Rattle.sg_game.proofs.Entered.{entered, enters, entered_names, names_entered, known, knows}
@@ -44,7 +44,7 @@ are-pays row h = list_all-from_AllPass is_pay row (All-weaker IsPay (λ (z : ℤ
 abbrev row_passes : ℕ → Vec ℤ Global → Bool
 row_passes n row = nat_eq (length row.items) n && list_all is_pay row.items
 
-pub table : (m n : ℕ) (lists : List (Vec ℤ Global)) → is_table m n lists ≡ true → IsTable m n (rows lists)
+pub table : (m n : ℕ) (lists : List (Vec ℤ Global)) → is_table m n lists ≡ true → IsTable m n (number_lists lists)
 table m n lists h =
     let p = and_both (nat_eq (length lists) m) (list_all (row_passes n) lists) h in
     let each = AllPass-from_list_all (row_passes n) lists p.1 in
@@ -60,7 +60,7 @@ pub All-unmap : {X Y : Type 0} (P : Y → Type 0) (f : X → Y) (xs : List X) �
 All-unmap P f [] h = All-nil (λ x. P (f x))
 All-unmap P f (x ∷ xs) h = All-cons (λ x. P (f x)) x xs (All-head P (f x) (map f xs) h) (All-unmap P f xs (All-tail P (f x) (map f xs) h))
 
-pub is-table : (m n : ℕ) (lists : List (Vec ℤ Global)) → IsTable m n (rows lists) → is_table m n lists ≡ true
+pub is-table : (m n : ℕ) (lists : List (Vec ℤ Global)) → IsTable m n (number_lists lists) → is_table m n lists ≡ true
 is-table m n lists h =
     let columns = All-unmap (λ (row : List ℤ). length row ≡ n) (λ (v : Vec ℤ Global). v.items) lists h.columns in
     let each = All-unmap (λ (row : List ℤ). All IsPay row) (λ (v : Vec ℤ Global). v.items) lists h.pays in
@@ -84,8 +84,8 @@ names place strings h =
 pub members : (count limit : ℕ) (place : Place) (x : ListParts) → members_fault count limit place x ≡ None → AreMembers count limit x.members.items
 members count limit place x h =
     let ms : List ℕ = x.members.items in
-    let some = unless (nat_le 1 (length ms)) 6 place in
-    let few = unless (nat_le (length ms) limit) 10 place in
+    let some = fault_unless (nat_le 1 (length ms)) 6 place in
+    let few = fault_unless (nat_le (length ms) limit) 10 place in
     let p = neither (some orelse few) (each_member_fault count place [] ms) h in
     let q = neither some few p.0 in
     let each = known count place [] ms p.1 in
@@ -94,8 +94,8 @@ members count limit place x h =
 pub are-members : (count limit : ℕ) (place : Place) (x : ListParts) → AreMembers count limit x.members.items → members_fault count limit place x ≡ None
 are-members count limit place x h =
     let ms : List ℕ = x.members.items in
-    let some = unless (nat_le 1 (length ms)) 6 place in
-    let few = unless (nat_le (length ms) limit) 10 place in
+    let some = fault_unless (nat_le 1 (length ms)) 6 place in
+    let few = fault_unless (nat_le (length ms) limit) 10 place in
     both (some orelse few) (each_member_fault count place [] ms)
     (both some few (fine (nat_le 1 (length ms)) 6 place (le-leb 1 (length ms) h.size.at_least)) (fine (nat_le (length ms) limit) 10 place (le-leb (length ms) limit h.size.at_most)))
     (knows count place [] ms (record { known = h.known; fresh = fresh_first nat_eq Decides-eqb ms h.distinct }))
@@ -111,7 +111,7 @@ module _ (count limit members_limit : ℕ) (place : ℕ → Place) (lists : List
   pub listed : lists_fault count limit members_limit place lists ≡ None → AreLists count limit members_limit (map named_of lists)
   unfolding lists_fault
   listed h =
-      let few = unless (nat_le (length lists) limit) 10 Document in
+      let few = fault_unless (nat_le (length lists) limit) 10 Document in
       let p = neither few (entries_fault (λ (x : ListParts). string_bytes x.name) (members_fault count members_limit) place [] lists) h in
       let all = entered (λ (x : ListParts). string_bytes x.name) (members_fault count members_limit) place (λ (x : ListParts). AreMembers count members_limit x.members.items) (members count members_limit) [] lists p.1 in
       let names : AreNames (map (λ (x : ListParts). string_bytes x.name) lists) = record { spelled = all.spelled; distinct = all.fresh.distinct } in
@@ -124,7 +124,7 @@ module _ (count limit members_limit : ℕ) (place : ℕ → Place) (lists : List
   pub are-lists : AreLists count limit members_limit (map named_of lists) → lists_fault count limit members_limit place lists ≡ None
   unfolding lists_fault
   are-lists h =
-      let few = unless (nat_le (length lists) limit) 10 Document in
+      let few = fault_unless (nat_le (length lists) limit) 10 Document in
       let names : AreNames (map (λ (x : ListParts). string_bytes x.name) lists) = rw (← same_names lists) h.names in
       let each = All-unmap (λ (x : Named). AreMembers count members_limit x.members) named_of lists h.members in
       both few (entries_fault (λ (x : ListParts). string_bytes x.name) (members_fault count members_limit) place [] lists)

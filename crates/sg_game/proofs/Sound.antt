@@ -21,7 +21,8 @@ use Rattle.sg_game.specs.declared.parts.Parts.{Parts}
 use Rattle.sg_game.specs.declared.parts.TypeParts.{TypeParts}
 use Rattle.sg_game.specs.Building.{HasOwnFields, IsAtLeast, IsTold}
 use Rattle.sg_game.specs.Faults.{◌orelse◌, fault_of, fields_fault, goal_limit, is_scaled_game, is_scaled_payoff, patrol_limit, prior_limit, type_limit, whole_fault}
-use Rattle.sg_game.specs.Seen.{attacker_of, count_of, game_of, named_of}
+use Rattle.sg_game.specs.Seen.{attacker_of, game_of, named_of}
+use Rattle.sg_model.specs.Sums.{positive_part}
 use Rattle.sg_game.proofs.Steps.{neither, both, holds, fine, and_both}
 use Rattle.sg_game.proofs.Listed.{All-unmap}
 use Rattle.sg_game.proofs.Fielded.{AreFielded, IsOptionWithin, IsTyped, are-fielded, fielded}
@@ -41,30 +42,30 @@ module _ (g : Game) (b : Bool) (same : is_scaled g ≡ b) where
   limit_is = ap few_patrols same
 
   defended_from : (o : Option ℤ) → IsOptionWithin (pos 0) (patrol_limit b) o → AreLists (length g.goals) 500 200 g.schedules → AreLists (length g.schedules) 32 500 g.resources
-      → (o ≢ None → g.schedules ≡ []) → (o ≢ None → g.resources ≡ []) → IsDefended g (option_map count_of o)
+      → (o ≢ None → g.schedules ≡ []) → (o ≢ None → g.resources ≡ []) → IsDefended g (option_map positive_part o)
   defended_from None h schedules resources own_schedules own_resources = record { schedules = schedules; resources = resources }
   defended_from (Some z) h schedules resources own_schedules own_resources =
       let some : Some z ≢ None = (λ e. cc) in
       record { few = omega (arith, limit_is, count_of-within z (patrol_limit b) (few_patrols b) (patrol_limit-is b) h); no_schedules = own_schedules some; no_resources = own_resources some }
 
-  defended_within : (o : Option ℤ) → IsAtLeast (pos 0) o → IsDefended g (option_map count_of o) → IsOptionWithin (pos 0) (patrol_limit b) o
+  defended_within : (o : Option ℤ) → IsAtLeast (pos 0) o → IsDefended g (option_map positive_part o) → IsOptionWithin (pos 0) (patrol_limit b) o
   defended_within None h d = tt
   defended_within (Some z) h d = within-count_of z (patrol_limit b) (few_patrols b) (patrol_limit-is b) h (omega (arith, limit_is, d.few))
 
-  defended_schedules : (o : Option ℤ) → IsDefended g (option_map count_of o) → AreLists (length g.goals) 500 200 g.schedules
+  defended_schedules : (o : Option ℤ) → IsDefended g (option_map positive_part o) → AreLists (length g.goals) 500 200 g.schedules
   defended_schedules None d = d.schedules
   defended_schedules (Some z) d = rw (d.no_schedules) (no_lists (length g.goals) 500 200)
 
-  defended_resources : (o : Option ℤ) → IsDefended g (option_map count_of o) → AreLists (length g.schedules) 32 500 g.resources
+  defended_resources : (o : Option ℤ) → IsDefended g (option_map positive_part o) → AreLists (length g.schedules) 32 500 g.resources
   defended_resources None d = d.resources
   defended_resources (Some z) d = rw (d.no_resources) (no_lists (length g.schedules) 32 500)
 
-patrolled_some : (s o : Option ℤ) → is_some s ≡ true → (is_none s || is_some o) ≡ true → option_map count_of o ≢ None
+patrolled_some : (s o : Option ℤ) → is_some s ≡ true → (is_none s || is_some o) ≡ true → option_map positive_part o ≢ None
 patrolled_some None o h i = absurd (cc)
 patrolled_some (Some z) None h i = absurd (cc)
 patrolled_some (Some z) (Some n) h i = (λ e. cc)
 
-patrolled_from : (s o : Option ℤ) → (is_some s ≡ true → option_map count_of o ≢ None) → (is_none s || is_some o) ≡ true
+patrolled_from : (s o : Option ℤ) → (is_some s ≡ true → option_map positive_part o ≢ None) → (is_none s || is_some o) ≡ true
 patrolled_from None o h = refl
 patrolled_from (Some z) None h = absurd (h refl refl)
 patrolled_from (Some z) (Some n) h = refl
@@ -179,7 +180,7 @@ module _ (p : Parts) where
         rows = h.goals;
         row_count = record { at_least = omega (arith, n, h.goal_count.at_least); at_most = omega (arith, n, limit, h.goal_count.at_most) };
         no_scale = none_scale p.scale off;
-        no_patrols = ap (option_map count_of) mine.patrols;
+        no_patrols = ap (option_map positive_part) mine.patrols;
         no_schedules = ap (map named_of) mine.schedules;
         no_resources = ap (map named_of) mine.resources;
         types = types_from h;

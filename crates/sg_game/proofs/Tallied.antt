@@ -14,7 +14,7 @@ use Rattle.sg_model.specs.Games.{Game, action_count, attacker, is_matrix, resour
 use Rattle.sg_model.specs.Plays.{covers, covers_from}
 use Rattle.sg_model.specs.Commitments.{cover_count, weight_total}
 use Rattle.sg_game.specs.declared.cell.Cell.{Cell}
-use Rattle.sg_game.specs.Tallies.{IsCount, IsCounted, IsTable, marked, no_cell, tallied, touched, touched_all, touched_from}
+use Rattle.sg_game.specs.Tallies.{IsTicketCount, IsCounted, IsTally, marked, no_cell, tallied, touched, touched_all, touched_from}
 use Rattle.sg_model.proofs.Covers.{ArePositive, cover_count-bounds, weight_total-nonneg}
 
 -- a cell after a test of whether the ticket covers its target
@@ -117,7 +117,7 @@ length-tallied g cells n (x ∷ xs) = length-tallied g (touched_from g 1 cells x
 
 -- from cells in which nothing is counted comes a table
 pub tallied-table : (g : Game) (k : List Ticket) (m : ℕ) (cells new : List Cell) → is_matrix g ≡ false → ArePositive k → weight_total k ≤ℤ pos (2 ^ 95) → length g.goals < m
-    → cells ≡ replicate m no_cell → new ≡ tallied g cells 1 k → IsTable g k new
+    → cells ≡ replicate m no_cell → new ≡ tallied g cells 1 k → IsTally g k new
 tallied-table g k m cells new security positive few size fresh is =
     λ some. record {
       security = security;
@@ -141,7 +141,7 @@ action-target g k cells l a c high =
     (in_range, omega (arith, in_range, c.size))
 
 -- its count is one out of the total
-pub is_count : (g : Game) (k : List Ticket) (cells : List Cell) (a : ℕ) → IsCounted g k cells → 1 ≤ a → a ≤ length g.goals → IsCount (weight_total k) (slice_index_or cells a no_cell).count
+pub is_count : (g : Game) (k : List Ticket) (cells : List Cell) (a : ℕ) → IsCounted g k cells → 1 ≤ a → a ≤ length g.goals → IsTicketCount (weight_total k) (slice_index_or cells a no_cell).count
 is_count g k cells a c low high =
     let b = cover_count-bounds g k a c.positive in
     let is = c.counts a low high in

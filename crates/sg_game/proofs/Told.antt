@@ -10,7 +10,9 @@ use Rattle.sg_model.specs.Limits.{IsWithin, IsPay, IsPayoff, AreLists, IsSecurit
 use Rattle.sg_game.specs.declared.parts.TypeParts.{TypeParts}
 use Rattle.sg_game.specs.Building.{IsAtLeast, IsSecurityParts}
 use Rattle.sg_game.specs.Faults.{prior_limit, patrol_limit}
-use Rattle.sg_game.specs.Seen.{attacker_of, count_of, payoff_of, rows, texts}
+use Rattle.sg_game.specs.Seen.{attacker_of, number_lists, texts}
+use Rattle.sg_model.specs.Sums.{positive_part}
+use Rattle.sg_model.specs.Games.{payoff_of}
 use Rattle.sg_game.proofs.Listed.{All-unmap}
 use Rattle.sg_game.proofs.Fielded.{IsOptionWithin, IsTyped}
 use Rattle.sg_game.proofs.Fresh.{AllPairs-nil}
@@ -42,19 +44,19 @@ all-fours (a ∷ b ∷ c ∷ d ∷ e ∷ xs) n h = absurd (omega arith)
 
 pub security_from : (goals : ℕ) (limit : ℤ) (x : TypeParts) → limit ≤ℤ pos (2 ^ 20) → IsTyped Security limit goals x → IsSecurityParts x → IsSecurityType goals (attacker_of x)
 security_from goals limit x few h own =
-    let lists : List (List ℤ) = rows x.payoffs.items in
+    let lists : List (List ℤ) = number_lists x.payoffs.items in
     record {
       prior = record { at_least = h.prior.at_least; at_most = omega (arith, ints, h.prior.at_most) };
       one_each = length-map lists payoff_of ∙ h.pays.rows;
       pays = All-map IsPayoff payoff_of lists (λ i d lt. fours (get_or lists i d) (h.pays.columns i d lt) (h.pays.pays i d lt));
       no_actions = ap texts own.actions;
-      no_leader = ap rows own.leader;
-      no_follower = ap rows own.follower;
+      no_leader = ap number_lists own.leader;
+      no_follower = ap number_lists own.follower;
     }
 
 pub security_to : (goals : ℕ) (limit : ℤ) (x : TypeParts) → x.prior ≤ℤ limit → AreFours x.payoffs.items → IsSecurityType goals (attacker_of x) → IsTyped Security limit goals x
 security_to goals limit x few four h =
-    let lists : List (List ℤ) = rows x.payoffs.items in
+    let lists : List (List ℤ) = number_lists x.payoffs.items in
     let columns : All (λ (row : List ℤ). length row ≡ 4) lists = All-map (λ (row : List ℤ). length row ≡ 4) (λ (v : Vec ℤ Global). v.items) x.payoffs.items four in
     let each = All-unmap IsPayoff payoff_of lists h.pays in
     record {
@@ -69,7 +71,7 @@ matrix_from goals limit x few h own =
     let n = length-map x.actions.items string_bytes in
     record {
       prior = record { at_least = h.prior.at_least; at_most = omega (arith, ints, h.prior.at_most) };
-      no_payoffs = ap (λ (lists : List (Vec ℤ Global)). map payoff_of (rows lists)) own;
+      no_payoffs = ap (λ (lists : List (Vec ℤ Global)). map payoff_of (number_lists lists)) own;
       action_count = record { at_least = omega (arith, n, h.pays.count.at_least); at_most = omega (arith, n, h.pays.count.at_most) };
       action_names = h.pays.names;
       leader = rw n h.pays.leader;
@@ -133,11 +135,11 @@ prior_limit-le false = omega (arith, ints)
 
 -- the patrols
 
-pub count_of-within : (z high : ℤ) (n : ℕ) → high ≡ pos n → IsWithin (pos 0) high z → count_of z ≤ n
+pub count_of-within : (z high : ℤ) (n : ℕ) → high ≡ pos n → IsWithin (pos 0) high z → positive_part z ≤ n
 count_of-within (pos k) high n e h = omega (arith, ints, e, h.at_most)
 count_of-within (negsuc k) high n e h = omega arith
 
-pub within-count_of : (z high : ℤ) (n : ℕ) → high ≡ pos n → pos 0 ≤ℤ z → count_of z ≤ n → IsWithin (pos 0) high z
+pub within-count_of : (z high : ℤ) (n : ℕ) → high ≡ pos n → pos 0 ≤ℤ z → positive_part z ≤ n → IsWithin (pos 0) high z
 within-count_of (pos k) high n e h i = record { at_least = h; at_most = omega (arith, ints, e, i) }
 within-count_of (negsuc k) high n e h i = absurd (omega (arith, ints, h))
 

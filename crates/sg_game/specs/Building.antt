@@ -39,9 +39,9 @@ Finds (Err (Refused f)) fault = fault ≡ Some f
 Finds (Err Memory) fault = Unit {0}
 
 -- the same for a test that needs no memory
-abbrev pub Tells : {X : Type 0} → Result X GameFault → Option GameFault → Type 0
-Tells (Ok x) fault = fault ≡ None
-Tells (Err f) fault = fault ≡ Some f
+abbrev pub FindsAlways : {X : Type 0} → Result X GameFault → Option GameFault → Type 0
+FindsAlways (Ok x) fault = fault ≡ None
+FindsAlways (Err f) fault = fault ≡ Some f
 
 -- there is no number, or it is at least low
 abbrev pub IsAtLeast : ℤ → Option ℤ → Type 0

@@ -6,6 +6,6 @@ abbrev pub FitAll : List ℕ → Type 0
 FitAll members = All (λ m. m < 2 ^ 16) members
 
 -- there is no number, or it is below the limit
-abbrev pub IsBelow : ℕ → Option ℕ → Type 0
-IsBelow limit None = Unit {0}
-IsBelow limit (Some n) = n < limit
+abbrev pub IsUnderLimit : ℕ → Option ℕ → Type 0
+IsUnderLimit limit None = Unit {0}
+IsUnderLimit limit (Some n) = n < limit

@@ -6,7 +6,7 @@ use Rattle.sg_game.specs.declared.parts.Parts.{Parts}
 use Rattle.sg_game.specs.declared.parts.ListParts.{ListParts}
 use Rattle.sg_game.specs.declared.draft.Draft.{Draft}
 use Rattle.sg_game.specs.Converting.{FitAll}
-use Rattle.sg_game.specs.Seen.{count_of}
+use Rattle.sg_model.specs.Sums.{positive_part}
 
 -- the game of a draft
 abbrev pub drawn : Draft → Game
@@ -19,12 +19,12 @@ IsFewPatrols (Some n) = n ≤ 200
 
 -- parts that a draft can hold
 pub record FitsDraft (p : Parts) : Type 0 where
-  pub patrols : IsFewPatrols (option_map count_of p.patrols)
+  pub patrols : IsFewPatrols (option_map positive_part p.patrols)
   pub schedules : All (λ (x : ListParts). FitAll x.members.items) p.schedules.items
   pub resources : All (λ (x : ListParts). FitAll x.members.items) p.resources.items
 
 -- so few of each that the rows of a linear program can be counted
-pub record IsSmall (g : Game) : Type 0 where
+pub record IsCountable (g : Game) : Type 0 where
   pub goals : length g.goals ≤ 10000
   pub resources : length g.resources ≤ 32
   pub patrols : IsFewPatrols g.patrols

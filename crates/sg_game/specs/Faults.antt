@@ -13,6 +13,7 @@ use Rattle.sg_model.specs.Games as model
 use Rattle.sg_model.specs.Limits.{program_rows}
 use Rattle.sg_model.specs.Names.{is_name}
 use Rattle.sg_model.specs.Origami.{gap}
+use Rattle.sg_model.specs.Places.{goal_place}
 use Rattle.sg_game.specs.declared.parts.Parts.{Parts}
 use Rattle.sg_game.specs.declared.parts.ListParts.{ListParts}
 use Rattle.sg_game.specs.declared.parts.TypeParts.{TypeParts}
@@ -25,9 +26,9 @@ abbrev pub ◌orelse◌ : Option GameFault → Option GameFault → Option GameF
 None orelse later = later
 
 -- nothing where the test passes, or this fault
-abbrev pub unless : Bool → ℕ → Place → Option GameFault
-unless true reason place = None
-unless false reason place = Some (record { reason = reason; place = place })
+abbrev pub fault_unless : Bool → ℕ → Place → Option GameFault
+fault_unless true reason place = None
+fault_unless false reason place = Some (record { reason = reason; place = place })
 
 -- from low to high
 abbrev pub is_within : ℤ → ℤ → ℤ → Bool
@@ -35,7 +36,7 @@ is_within low high z = int_le low z && int_le z high
 
 -- a name that is spelled wrong, or that stands before
 abbrev pub name_fault : List (List ℕ) → Place → List ℕ → Option GameFault
-name_fault before place name = unless (is_name name) 9 place orelse unless (not (list_any (λ known. bytes_eq known name) before)) 8 place
+name_fault before place name = fault_unless (is_name name) 9 place orelse fault_unless (not (list_any (λ known. bytes_eq known name) before)) 8 place
 
 -- the first fault of entries in order, after those of the names before: of an entry's name, and then of the rest of it
 abbrev pub entries_fault : {X : Type 0} → (X → List ℕ) → (Place → X → Option GameFault) → (ℕ → Place) → List (List ℕ) → List X → Option GameFault
@@ -50,7 +51,7 @@ names_fault place names = entries_fault string_bytes (λ here name. None) place 
 
 -- a member that isn't from 1 to count, or that stands before
 abbrev pub member_fault : ℕ → Place → List ℕ → ℕ → Option GameFault
-member_fault count place before m = unless (nat_le 1 m && nat_le m count) 7 place orelse unless (not (list_any (λ known. nat_eq known m) before)) 8 place
+member_fault count place before m = fault_unless (nat_le 1 m && nat_le m count) 7 place orelse fault_unless (not (list_any (λ known. nat_eq known m) before)) 8 place
 
 -- the first fault of members in order, after those before
 abbrev pub each_member_fault : ℕ → Place → List ℕ → List ℕ → Option GameFault
@@ -60,14 +61,14 @@ each_member_fault count place before (m ∷ ms) = member_fault count place befor
 -- the first fault of the members of a schedule or a resource: none of them, too many, or one of them
 abbrev pub members_fault : ℕ → ℕ → Place → ListParts → Option GameFault
 members_fault count limit place x =
-    unless (nat_le 1 (length x.members.items)) 6 place
-    orelse unless (nat_le (length x.members.items) limit) 10 place
+    fault_unless (nat_le 1 (length x.members.items)) 6 place
+    orelse fault_unless (nat_le (length x.members.items) limit) 10 place
     orelse each_member_fault count place [] x.members.items
 
 -- the first fault of schedules or resources
 unfoldable pub lists_fault : ℕ → ℕ → ℕ → (ℕ → Place) → List ListParts → Option GameFault
 lists_fault count limit members_limit place lists =
-    unless (nat_le (length lists) limit) 10 Document
+    fault_unless (nat_le (length lists) limit) 10 Document
     orelse entries_fault (λ (x : ListParts). string_bytes x.name) (members_fault count members_limit) place [] lists
 
 -- a payoff is from -2^30 to 2^30
@@ -81,25 +82,20 @@ is_table m n table = nat_eq (length table) m && list_all (λ (row : Vec ℤ Glob
 -- the first fault of a type's actions and tables against so many rows
 unfoldable pub tables_fault : ℕ → Place → TypeParts → Option GameFault
 tables_fault goals place x =
-    unless (nat_le 1 (length x.actions.items)) 6 place
-    orelse unless (nat_le (length x.actions.items) 64) 10 place
+    fault_unless (nat_le 1 (length x.actions.items)) 6 place
+    orelse fault_unless (nat_le (length x.actions.items) 64) 10 place
     orelse names_fault (λ n. place) x.actions.items
-    orelse unless (is_table goals (length x.actions.items) x.leader.items) 9 place
-    orelse unless (is_table goals (length x.actions.items) x.follower.items) 9 place
+    orelse fault_unless (is_table goals (length x.actions.items) x.leader.items) 9 place
+    orelse fault_unless (is_table goals (length x.actions.items) x.follower.items) 9 place
 
 -- the first fault of what a type gets: four payoffs for each target, or its actions and tables
 abbrev pub pays_fault : Kind → ℕ → Place → TypeParts → Option GameFault
-pays_fault Security goals place x = unless (is_table goals 4 x.payoffs.items) 9 place
+pays_fault Security goals place x = fault_unless (is_table goals 4 x.payoffs.items) 9 place
 pays_fault Matrix goals place x = tables_fault goals place x
 
 -- the first fault of a type but for its name
 abbrev pub type_fault : Kind → ℤ → ℕ → Place → TypeParts → Option GameFault
-type_fault kind prior_limit goals place x = unless (is_within (pos 1) prior_limit x.prior) 9 place orelse pays_fault kind goals place x
-
--- where target or row n stands
-abbrev pub goal_place : Kind → ℕ → Place
-goal_place Security n = Target n
-goal_place Matrix n = Row n
+type_fault kind prior_limit goals place x = fault_unless (is_within (pos 1) prior_limit x.prior) 9 place orelse pays_fault kind goals place x
 
 -- how many targets or rows there may be
 abbrev pub goal_limit : Kind → Bool → ℕ
@@ -108,7 +104,7 @@ goal_limit Matrix is_scaled = 4096
 
 -- a list has no entry, or too many
 abbrev pub count_fault : ℕ → ℕ → Option GameFault
-count_fault count limit = unless (nat_le 1 count) 6 Document orelse unless (nat_le count limit) 10 Document
+count_fault count limit = fault_unless (nat_le 1 count) 6 Document orelse fault_unless (nat_le count limit) 10 Document
 
 -- the first fault of the targets or rows: none of them, too many, or a name
 unfoldable pub goals_fault : Parts → Option GameFault
@@ -131,7 +127,7 @@ patrol_limit is_scaled = if is_scaled then pos 200 else pos 32
 -- a number out of range, where there is one
 abbrev pub option_fault : ℤ → ℤ → Option ℤ → Option GameFault
 option_fault low high None = None
-option_fault low high (Some z) = unless (is_within low high z) 9 Document
+option_fault low high (Some z) = fault_unless (is_within low high z) 9 Document
 
 -- the first fault of the scale and the patrols
 unfoldable pub numbers_fault : Parts → Option GameFault
@@ -155,13 +151,13 @@ is_scaled_game g = list_all (λ (x : model.Attacker). list_all (is_scaled_payoff
 
 -- the first fault of the game as a whole: with a scale a payoff that doesn't fit it, else too large a linear program
 abbrev pub whole_fault : Bool → Game → Option GameFault
-whole_fault true g = unless (is_scaled_game g) 11 (Attacker 1)
-whole_fault false g = unless (nat_le (program_rows g) 1536) 10 Document
+whole_fault true g = fault_unless (is_scaled_game g) 11 (Attacker 1)
+whole_fault false g = fault_unless (nat_le (program_rows g) 1536) 10 Document
 
 -- the first fault of the fields, one after the other
 unfoldable pub fields_fault : Parts → Option GameFault
 fields_fault p =
-    unless (is_none p.scale || is_some p.patrols) 3 Document
+    fault_unless (is_none p.scale || is_some p.patrols) 3 Document
     orelse goals_fault p
     orelse numbers_fault p
     orelse lists_fault (length p.goals.items) 500 200 Schedule p.schedules.items

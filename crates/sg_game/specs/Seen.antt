@@ -1,7 +1,8 @@
 -- The game that parts describe.
 use Rattle.std.specs.Prelude.{ℕ, List, map, ℤ, pos, negsuc, String, string_bytes, option_map, unwrap_or, slice_index_or, Vec}
 use Rattle.std.specs.declared.alloc.Global.{Global}
-use Rattle.sg_model.specs.Games.{Payoff, Attacker, Named, Game}
+use Rattle.sg_model.specs.Games.{Payoff, Attacker, Named, Game, payoff_of}
+use Rattle.sg_model.specs.Sums.{positive_part}
 use Rattle.sg_game.specs.declared.parts.Parts.{Parts}
 use Rattle.sg_game.specs.declared.parts.ListParts.{ListParts}
 use Rattle.sg_game.specs.declared.parts.TypeParts.{TypeParts}
@@ -11,17 +12,8 @@ abbrev pub texts : List (String Global) → List (List ℕ)
 texts names = map string_bytes names
 
 -- lists of numbers
-abbrev pub rows : List (Vec ℤ Global) → List (List ℤ)
-rows lists = map (λ (v : Vec ℤ Global). v.items) lists
-
--- the payoffs of four numbers, in the order of a game file
-abbrev pub payoff_of : List ℤ → Payoff
-payoff_of xs = record { dc = slice_index_or xs 0 (pos 0); du = slice_index_or xs 1 (pos 0); ac = slice_index_or xs 2 (pos 0); au = slice_index_or xs 3 (pos 0) }
-
--- a number that isn't below 0
-abbrev pub count_of : ℤ → ℕ
-count_of (pos n) = n
-count_of (negsuc n) = 0
+abbrev pub number_lists : List (Vec ℤ Global) → List (List ℤ)
+number_lists lists = map (λ (v : Vec ℤ Global). v.items) lists
 
 -- a schedule or a resource
 abbrev pub named_of : ListParts → Named
@@ -32,10 +24,10 @@ abbrev pub attacker_of : TypeParts → Attacker
 attacker_of x = record {
   name = string_bytes x.name;
   prior = x.prior;
-  payoffs = map payoff_of (rows x.payoffs.items);
+  payoffs = map payoff_of (number_lists x.payoffs.items);
   actions = texts x.actions.items;
-  leader = rows x.leader.items;
-  follower = rows x.follower.items;
+  leader = number_lists x.leader.items;
+  follower = number_lists x.follower.items;
 }
 
 -- the game of these parts
@@ -43,7 +35,7 @@ abbrev pub game_of : Parts → Game
 game_of p = record {
   kind = p.kind;
   scale = unwrap_or p.scale (pos 0);
-  patrols = option_map count_of p.patrols;
+  patrols = option_map positive_part p.patrols;
   goals = texts p.goals.items;
   schedules = map named_of p.schedules.items;
   resources = map named_of p.resources.items;

@@ -44,11 +44,11 @@ pub record IsCounted (g : Game) (k : List Ticket) (cells : List Cell) : Type 0 w
   pub counts : (t : ℕ) → 1 ≤ t → t ≤ length g.goals → (slice_index_or cells t no_cell).count ≡ cover_count g k t
 
 -- a count of tickets out of a total of at most 2^95
-pub record IsCount (total count : ℤ) : Type 0 where
+pub record IsTicketCount (total count : ℤ) : Type 0 where
   pub low : pos 0 ≤ℤ count
   pub high : count ≤ℤ total
   pub few : total ≤ℤ pos (2 ^ 95)
 
 -- the cells are counted, where there are any
-abbrev pub IsTable : Game → List Ticket → List Cell → Type 0
-IsTable g k cells = 1 ≤ length cells → IsCounted g k cells
+abbrev pub IsTally : Game → List Ticket → List Cell → Type 0
+IsTally g k cells = 1 ≤ length cells → IsCounted g k cells

@@ -3,8 +3,9 @@
 ghost use Rattle.std.specs.Prelude.{◌≡◌, ◌^◌, ◌<◌, All, IfOk, map, pos, slice_index_or, string_bytes};
 ghost use Rattle.sg_model.specs.Sums.{numbers};
 ghost use Rattle.sg_game.specs.Counts.{patrol_name, patrol_names};
-ghost use Rattle.sg_game.specs.Converting.{FitAll, IsBelow};
-ghost use Rattle.sg_game.specs.Seen.{attacker_of, named_of, payoff_of, rows, texts};
+ghost use Rattle.sg_game.specs.Converting.{FitAll, IsUnderLimit};
+ghost use Rattle.sg_game.specs.Seen.{attacker_of, named_of, number_lists, texts};
+ghost use Rattle.sg_model.specs.Games.{payoff_of};
 
 use crate::game::{Attacker, Name, Named, Payoff};
 use crate::parts::{ListParts, TypeParts};
@@ -46,7 +47,7 @@ fn payoff_from(numbers: &[i64]) -> Payoff
 
 /// The payoffs of lists of four numbers.
 fn payoffs_from(alloc: Global, lists: Vec<Vec<i64>>) -> Result<Items<Payoff>, AllocError>
-    ensures { IfOk result (λ payoffs. payoffs ≡ map payoff_of (rows lists.items)) }
+    ensures { IfOk result (λ payoffs. payoffs ≡ map payoff_of (number_lists lists.items)) }
 {
     let mut payoffs = Items::new(alloc);
     for numbers in &lists {
@@ -57,7 +58,7 @@ fn payoffs_from(alloc: Global, lists: Vec<Vec<i64>>) -> Result<Items<Payoff>, Al
 
 /// A table of its rows.
 fn table_from(alloc: Global, lists: Vec<Vec<i64>>) -> Result<Items<Items<i64>>, AllocError>
-    ensures { IfOk result (λ table. table ≡ rows lists.items) }
+    ensures { IfOk result (λ table. table ≡ number_lists lists.items) }
 {
     let mut table = Items::new(alloc);
     for list in lists {
@@ -178,7 +179,7 @@ fn names_to(alloc: Global, n: u16) -> Result<Items<Name>, AllocError>
 
 /// The names of the patrols, where there are any.
 pub(crate) fn patrols_named(alloc: Global, patrols: Option<u16>) -> Result<Items<Name>, AllocError>
-    requires { IsBelow (2 ^ 15) patrols }
+    requires { IsUnderLimit (2 ^ 15) patrols }
     ensures { IfOk result (λ names. names ≡ patrol_names patrols) }
 {
     match patrols {

@@ -5,12 +5,13 @@ ghost use Rattle.std.specs.Ordering.{int_eq};
 ghost use Rattle.sg_model.specs.Limits.{IsPayoff, program_rows};
 ghost use Rattle.sg_model.specs.Games.{resource_count};
 ghost use Rattle.sg_model.specs.Origami.{gap};
-ghost use Rattle.sg_game.specs.Building.{Tells};
+ghost use Rattle.sg_game.specs.Building.{FindsAlways};
 ghost use Rattle.std.specs.List.{list_all};
 ghost use Rattle.sg_game.specs.Counts.{rows_by};
-ghost use Rattle.sg_game.specs.Drafts.{FitsDraft, IsFewPatrols, IsSmall, drawn};
+ghost use Rattle.sg_game.specs.Drafts.{FitsDraft, IsFewPatrols, IsCountable, drawn};
 ghost use Rattle.sg_game.specs.Faults.{is_scaled_game, is_scaled_payoff, whole_fault};
-ghost use Rattle.sg_game.specs.Seen.{count_of, game_of};
+ghost use Rattle.sg_model.specs.Sums.{positive_part};
+ghost use Rattle.sg_game.specs.Seen.{game_of};
 
 use crate::convert::{attackers_from, lists_from, names_from};
 use crate::entries::passed;
@@ -34,16 +35,16 @@ pub(crate) struct Draft {
 
 /// A number of patrols as a short number, and 0 for a number below 0.
 fn count_from(patrols: i64) -> u16
-    requires { count_of patrols ≤ 200 }
-    ensures { result ≡ count_of patrols }
+    requires { positive_part patrols ≤ 200 }
+    ensures { result ≡ positive_part patrols }
 {
     if patrols < 0 { 0 } else { patrols as u16 }
 }
 
 /// The number of patrols, where there are any.
 fn patrols_from(patrols: Option<i64>) -> Option<u16>
-    requires { IsFewPatrols (option_map count_of patrols) }
-    ensures { result ≡ option_map count_of patrols }
+    requires { IsFewPatrols (option_map positive_part patrols) }
+    ensures { result ≡ option_map positive_part patrols }
 {
     match patrols {
         Some(n) => Some(count_from(n)),
@@ -170,7 +171,7 @@ pub(crate) fn rows_of(kind: Kind, resources: usize, goals: usize, types: &[Attac
 
 /// The number of resources of a draft.
 fn resources_of(draft: &Draft) -> usize
-    requires { IsSmall (drawn draft.now) }
+    requires { IsCountable (drawn draft.now) }
     ensures count { result ≡ resource_count (drawn draft.now) }
     ensures few { result ≤ 200 }
 {
@@ -182,8 +183,8 @@ fn resources_of(draft: &Draft) -> usize
 
 /// Tests a draft as a whole.
 pub(crate) fn test_whole(is_scale_given: bool, draft: &Draft) -> Result<(), GameFault>
-    requires { IsSmall (drawn draft.now) }
-    ensures { Tells result (whole_fault is_scale_given (drawn draft.now)) }
+    requires { IsCountable (drawn draft.now) }
+    ensures { FindsAlways result (whole_fault is_scale_given (drawn draft.now)) }
 {
     let types = draft.types.as_slice();
     if is_scale_given {

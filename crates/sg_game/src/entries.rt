@@ -4,9 +4,9 @@ ghost use Rattle.std.specs.Prelude.{◌≡◌, ◌≤◌, ◌++◌, ◌∷◌, [
 ghost use Rattle.std.specs.List.{list_all, list_any};
 ghost use Rattle.std.specs.BTreeSet.{contains_text};
 ghost use Rattle.sg_model.specs.Names.{is_name, is_name_byte};
-ghost use Rattle.sg_game.specs.Building.{Finds, Tells};
+ghost use Rattle.sg_game.specs.Building.{Finds, FindsAlways};
 ghost use Rattle.sg_game.specs.Entries.{Holds, place_of};
-ghost use Rattle.sg_game.specs.Faults.{each_member_fault, entries_fault, is_within, lists_fault, member_fault, members_fault, name_fault, names_fault, unless, ◌orelse◌};
+ghost use Rattle.sg_game.specs.Faults.{each_member_fault, entries_fault, is_within, lists_fault, member_fault, members_fault, name_fault, names_fault, fault_unless, ◌orelse◌};
 
 use crate::fault::BuildFault;
 use crate::parts::ListParts;
@@ -49,7 +49,7 @@ impl Listing {
 
 /// Nothing where the test passes, or this fault.
 pub(crate) fn passed(test: bool, reason: u8, place: Place) -> Result<(), GameFault>
-    ensures { Tells result (unless test reason place) }
+    ensures { FindsAlways result (fault_unless test reason place) }
 {
     if test {
         Ok(())
@@ -123,7 +123,7 @@ fn is_among(members: &[u32], m: u32) -> bool
 
 /// Tests a member, after those before it.
 fn test_member(count: usize, place: Place, before: &[u32], m: u32) -> Result<(), GameFault>
-    ensures { Tells result (member_fault count place before.now m) }
+    ensures { FindsAlways result (member_fault count place before.now m) }
 {
     passed(1 <= m && m as usize <= count, 7, place)?;
     passed(!is_among(before, m), 8, place)
@@ -131,7 +131,7 @@ fn test_member(count: usize, place: Place, before: &[u32], m: u32) -> Result<(),
 
 /// Tests members in order.
 fn test_each_member(count: usize, place: Place, members: &[u32]) -> Result<(), GameFault>
-    ensures { Tells result (each_member_fault count place [] members.now) }
+    ensures { FindsAlways result (each_member_fault count place [] members.now) }
 {
     for (i, m) in members.iter().enumerate() {
         test_member(count, place, &members[..i], *m)?;
@@ -141,7 +141,7 @@ fn test_each_member(count: usize, place: Place, members: &[u32]) -> Result<(), G
 
 /// Tests the members of a schedule or a resource.
 fn test_members(count: usize, limit: usize, place: Place, list: &ListParts) -> Result<(), GameFault>
-    ensures { Tells result (members_fault count limit place list.now) }
+    ensures { FindsAlways result (members_fault count limit place list.now) }
 {
     passed(1 <= list.members.len(), 6, place)?;
     passed(list.members.len() <= limit, 10, place)?;

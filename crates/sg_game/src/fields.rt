@@ -3,9 +3,10 @@
 ghost use Rattle.std.specs.Prelude.{◌≡◌, ◌≤◌, ◌++◌, ◌∷◌, ◌&&◌, [], List, ℕ, OnOk, is_some, length, nat_eq, string_bytes};
 ghost use Rattle.std.specs.List.{list_all};
 ghost use Rattle.sg_model.specs.declared.fault.Place.TheVariants.{Attacker};
-ghost use Rattle.sg_game.specs.Building.{Finds, HasOwnFields, Tells};
+ghost use Rattle.sg_game.specs.Building.{Finds, HasOwnFields, FindsAlways};
 ghost use Rattle.sg_game.specs.Entries.{Holds, place_of};
-ghost use Rattle.sg_game.specs.Faults.{count_fault, entries_fault, names_fault, fields_fault, goal_limit, goal_place, goals_fault, is_pay, is_table, name_fault, numbers_fault, option_fault, patrol_limit, pays_fault, prior_limit, tables_fault, type_fault, type_limit, types_fault, ◌orelse◌};
+ghost use Rattle.sg_game.specs.Faults.{count_fault, entries_fault, names_fault, fields_fault, goal_limit, goals_fault, is_pay, is_table, name_fault, numbers_fault, option_fault, patrol_limit, pays_fault, prior_limit, tables_fault, type_fault, type_limit, types_fault, ◌orelse◌};
+ghost use Rattle.sg_model.specs.Places.{goal_place};
 
 use crate::entries::{Listing, is_within, passed, take_name, test_lists, test_names};
 use crate::fault::BuildFault;
@@ -183,7 +184,7 @@ fn test_goal_names(alloc: Global, kind: Kind, goals: &[String]) -> Result<(), Bu
 
 /// Tests that a list has an entry, and no more than so many.
 fn test_count(count: usize, limit: usize) -> Result<(), GameFault>
-    ensures { Tells result (count_fault count limit) }
+    ensures { FindsAlways result (count_fault count limit) }
 {
     passed(1 <= count, 6, Place::Document)?;
     passed(count <= limit, 10, Place::Document)
@@ -202,7 +203,7 @@ fn test_goals(alloc: Global, is_scaled: bool, parts: &Parts) -> Result<(), Build
 
 /// Tests a number, where there is one.
 fn test_option(low: i64, high: i64, number: Option<i64>) -> Result<(), GameFault>
-    ensures { Tells result (option_fault low high number) }
+    ensures { FindsAlways result (option_fault low high number) }
 {
     match number {
         Some(z) => passed(is_within(low, high, z), 9, Place::Document),
@@ -214,7 +215,7 @@ fn test_option(low: i64, high: i64, number: Option<i64>) -> Result<(), GameFault
 #[tactic(auto, unfolding(crate::specs::Faults::numbers_fault))]
 fn test_numbers(is_scaled: bool, parts: &Parts) -> Result<(), GameFault>
     requires { is_scaled ≡ is_some parts.now.scale }
-    ensures { Tells result (numbers_fault parts.now) }
+    ensures { FindsAlways result (numbers_fault parts.now) }
 {
     test_option(1, 4_294_967_296, parts.scale)?;
     test_option(0, patrol_limit(is_scaled), parts.patrols)

@@ -9,7 +9,7 @@ use Rattle.sg_model.proofs.Promises.{game_cases, nth-all, yes_matrix}
 use Rattle.sg_game.specs.Counts.{IsTypeOf, IsGoalOf, action_name, resource_name, row_count, schedule_name, target_count}
 use Rattle.sg_game_text.specs.declared.tables.Side.{Side}
 use Rattle.sg_game_text.specs.declared.tables.Side.TheVariants.{Leader, Follower}
-use Rattle.sg_game_text.specs.Writing.{table_of}
+use Rattle.sg_game_text.specs.Writing.{table_of_side}
 
 -- four payoffs for each target
 pub payoffs_count : (g : Game) (l : ℕ) → IsGame g → is_matrix g ≡ false → IsTypeOf g l → length (attacker g l).payoffs ≡ target_count g
@@ -26,21 +26,21 @@ matrix_type g l h e known =
       | inr t ↦ nth-all (IsMatrixType (length g.goals)) g.types nobody t.game.each_type l known.0 known.1
     ]
 
-side_table : (side : Side) (rows : ℕ) (x : Attacker) → IsMatrixType rows x → IsTable rows (length x.actions) (table_of side x)
+side_table : (side : Side) (rows : ℕ) (x : Attacker) → IsMatrixType rows x → IsTable rows (length x.actions) (table_of_side side x)
 side_table Leader rows x h = h.leader
 side_table Follower rows x h = h.follower
 
 -- a list for each row
-pub rows_count : (g : Game) (side : Side) (l : ℕ) → IsGame g → is_matrix g ≡ true → IsTypeOf g l → length (table_of side (attacker g l)) ≡ row_count g
+pub rows_count : (g : Game) (side : Side) (l : ℕ) → IsGame g → is_matrix g ≡ true → IsTypeOf g l → length (table_of_side side (attacker g l)) ≡ row_count g
 rows_count g side l h e known = rw e (side_table side (length g.goals) (attacker g l) (matrix_type g l h e known)).rows
 
 -- a payoff for each action
 pub columns_count : (g : Game) (side : Side) (l i : ℕ) → IsGame g → is_matrix g ≡ true → IsTypeOf g l → IsGoalOf g i
-    → length (nth (table_of side (attacker g l)) i []) ≡ action_count g l
+    → length (nth (table_of_side side (attacker g l)) i []) ≡ action_count g l
 columns_count g side l i h e known at =
     let x = attacker g l in
     let table = side_table side (length g.goals) x (matrix_type g l h e known) in
-    rw e (nth-all (λ (row : List ℤ). length row ≡ length x.actions) (table_of side x) [] table.columns i at.0 (omega (arith, at.1, table.rows)))
+    rw e (nth-all (λ (row : List ℤ). length row ≡ length x.actions) (table_of_side side x) [] table.columns i at.0 (omega (arith, at.1, table.rows)))
 
 pub actions_count : (g : Game) (l : ℕ) → is_matrix g ≡ true → length (attacker g l).actions ≡ action_count g l
 actions_count g l e = rw e refl

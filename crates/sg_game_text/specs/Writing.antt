@@ -10,6 +10,6 @@ comma_before zero = []
 comma_before (suc index) = codes ", "
 
 -- what the defender gets, or what the attacker gets: a list for each row
-abbrev pub table_of : Side → Attacker → List (List ℤ)
-table_of Leader x = x.leader
-table_of Follower x = x.follower
+abbrev pub table_of_side : Side → Attacker → List (List ℤ)
+table_of_side Leader x = x.leader
+table_of_side Follower x = x.follower

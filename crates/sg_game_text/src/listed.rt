@@ -4,7 +4,7 @@ ghost use Rattle.std.specs.Prelude.{◌≡◌, ◌++◌, [], None, OnOk, codes, 
 ghost use Rattle.sg_model.specs.Games.{Named, is_matrix, unnamed};
 ghost use Rattle.sg_model.specs.Sums.{nth};
 ghost use Rattle.sg_game.specs.Counts.{IsScheduleOf, IsResourceOf};
-ghost use Rattle.sg_format.specs.GameText.{empty_line, empty_lines, is_listed, line, named_table, names_array, resource_tables, schedule_tables};
+ghost use Rattle.sg_format.specs.GameText.{empty_line, empty_lines, is_listed, key_line, named_table, names_array, resource_tables, schedule_tables};
 
 use crate::text::{put_comma, put_head, put_key, put_name_line, put_quoted};
 use sg_game::{Game, Kind};
@@ -78,7 +78,7 @@ fn put_targets_line(text: &mut Vec<u8>, game: &Game, s: u16) -> Result<(), Alloc
     requires security { is_matrix game.now ≡ false }
     requires listed { game.now.patrols ≡ None }
     requires known { IsScheduleOf game.now s }
-    ensures { OnOk result (text.new.items ≡ text.old.items ++ line (codes "targets") (names_array (map (λ m. nth game.now.goals m []) (nth game.now.schedules s unnamed).members))) }
+    ensures { OnOk result (text.new.items ≡ text.old.items ++ key_line (codes "targets") (names_array (map (λ m. nth game.now.goals m []) (nth game.now.schedules s unnamed).members))) }
 {
     put_key(text, b"targets")?;
     put_targets(text, game, s)?;
@@ -90,7 +90,7 @@ fn put_targets_line(text: &mut Vec<u8>, game: &Game, s: u16) -> Result<(), Alloc
 fn put_schedules_line(text: &mut Vec<u8>, game: &Game, r: u16) -> Result<(), AllocError>
     requires listed { game.now.patrols ≡ None }
     requires known { IsResourceOf game.now r }
-    ensures { OnOk result (text.new.items ≡ text.old.items ++ line (codes "schedules") (names_array (map (λ m. nth (map (λ (x : Named). x.name) game.now.schedules) m []) (nth game.now.resources r unnamed).members))) }
+    ensures { OnOk result (text.new.items ≡ text.old.items ++ key_line (codes "schedules") (names_array (map (λ m. nth (map (λ (x : Named). x.name) game.now.schedules) m []) (nth game.now.resources r unnamed).members))) }
 {
     put_key(text, b"schedules")?;
     put_schedule_names(text, game, r)?;

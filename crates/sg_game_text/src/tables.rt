@@ -6,8 +6,8 @@ ghost use Rattle.sg_model.specs.Games.{attacker, is_matrix};
 ghost use Rattle.sg_model.specs.Sums.{nth};
 ghost use Rattle.sg_model.specs.Limits.{IsPay};
 ghost use Rattle.sg_game.specs.Counts.{IsActionOf, IsGoalOf, IsTypeOf};
-ghost use Rattle.sg_format.specs.GameText.{four_pays, line, names_array, pay_lines, pays_array, table_array, type_table};
-ghost use Rattle.sg_game_text.specs.Writing.{table_of};
+ghost use Rattle.sg_format.specs.GameText.{four_pays, key_line, names_array, pay_lines, pays_array, table_array, type_table};
+ghost use Rattle.sg_game_text.specs.Writing.{table_of_side};
 
 use crate::text::{
     put_comma, put_head, put_key, put_name_line, put_number, put_number_line, put_quoted,
@@ -45,7 +45,7 @@ fn pay(game: &Game, side: Side, l: u8, i: u16, a: u16) -> i64
     requires known_type { IsTypeOf game.now l }
     requires known_row { IsGoalOf game.now i }
     requires known_action { IsActionOf game.now l a }
-    ensures { result ≡ nth (nth (table_of side (attacker game.now l)) i []) a (pos 0) }
+    ensures { result ≡ nth (nth (table_of_side side (attacker game.now l)) i []) a (pos 0) }
 {
     match side {
         Side::Leader => game.leader(l, i, a),
@@ -58,7 +58,7 @@ fn put_row(text: &mut Vec<u8>, game: &Game, side: Side, l: u8, i: u16) -> Result
     requires matrix { is_matrix game.now ≡ true }
     requires known_type { IsTypeOf game.now l }
     requires known_row { IsGoalOf game.now i }
-    ensures { OnOk result (text.new.items ≡ text.old.items ++ pays_array (nth (table_of side (attacker game.now l)) i [])) }
+    ensures { OnOk result (text.new.items ≡ text.old.items ++ pays_array (nth (table_of_side side (attacker game.now l)) i [])) }
 {
     game.promises();
     text.push(b'[')?;
@@ -74,7 +74,7 @@ fn put_row(text: &mut Vec<u8>, game: &Game, side: Side, l: u8, i: u16) -> Result
 fn put_table(text: &mut Vec<u8>, game: &Game, side: Side, l: u8) -> Result<(), AllocError>
     requires matrix { is_matrix game.now ≡ true }
     requires known_type { IsTypeOf game.now l }
-    ensures { OnOk result (text.new.items ≡ text.old.items ++ table_array (table_of side (attacker game.now l))) }
+    ensures { OnOk result (text.new.items ≡ text.old.items ++ table_array (table_of_side side (attacker game.now l))) }
 {
     game.promises();
     text.push(b'[')?;
@@ -119,7 +119,7 @@ fn put_payoffs(text: &mut Vec<u8>, game: &Game, l: u8) -> Result<(), AllocError>
 fn put_payoffs_line(text: &mut Vec<u8>, game: &Game, l: u8) -> Result<(), AllocError>
     requires security { is_matrix game.now ≡ false }
     requires known_type { IsTypeOf game.now l }
-    ensures { OnOk result (text.new.items ≡ text.old.items ++ line (codes "payoffs") (table_array (map four_pays (attacker game.now l).payoffs))) }
+    ensures { OnOk result (text.new.items ≡ text.old.items ++ key_line (codes "payoffs") (table_array (map four_pays (attacker game.now l).payoffs))) }
 {
     put_key(text, b"payoffs")?;
     put_payoffs(text, game, l)?;
@@ -131,7 +131,7 @@ fn put_payoffs_line(text: &mut Vec<u8>, game: &Game, l: u8) -> Result<(), AllocE
 fn put_actions_line(text: &mut Vec<u8>, game: &Game, l: u8) -> Result<(), AllocError>
     requires matrix { is_matrix game.now ≡ true }
     requires known_type { IsTypeOf game.now l }
-    ensures { OnOk result (text.new.items ≡ text.old.items ++ line (codes "actions") (names_array (attacker game.now l).actions)) }
+    ensures { OnOk result (text.new.items ≡ text.old.items ++ key_line (codes "actions") (names_array (attacker game.now l).actions)) }
 {
     put_key(text, b"actions")?;
     put_actions(text, game, l)?;
@@ -149,7 +149,7 @@ fn put_table_line(
 ) -> Result<(), AllocError>
     requires matrix { is_matrix game.now ≡ true }
     requires known_type { IsTypeOf game.now l }
-    ensures { OnOk result (text.new.items ≡ text.old.items ++ line key.now (table_array (table_of side (attacker game.now l)))) }
+    ensures { OnOk result (text.new.items ≡ text.old.items ++ key_line key.now (table_array (table_of_side side (attacker game.now l)))) }
 {
     put_key(text, key)?;
     put_table(text, game, side, l)?;

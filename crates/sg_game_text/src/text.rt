@@ -2,7 +2,7 @@
 
 ghost use Rattle.std.specs.Prelude.{◌≡◌, ◌++◌, OnOk, codes};
 ghost use Rattle.std.specs.Fmt.{signed_decimal};
-ghost use Rattle.sg_format.specs.GameText.{head, line, quoted};
+ghost use Rattle.sg_format.specs.GameText.{head, key_line, quoted};
 ghost use Rattle.sg_game_text.specs.Writing.{comma_before};
 
 use itoa::Buffer;
@@ -49,7 +49,7 @@ pub(crate) fn put_key(text: &mut Vec<u8>, key: &[u8]) -> Result<(), AllocError>
 
 /// Adds a line that gives the key a name.
 pub(crate) fn put_name_line(text: &mut Vec<u8>, key: &[u8], name: &str) -> Result<(), AllocError>
-    ensures { OnOk result (text.new.items ≡ text.old.items ++ line key.now (quoted name.now)) }
+    ensures { OnOk result (text.new.items ≡ text.old.items ++ key_line key.now (quoted name.now)) }
 {
     put_key(text, key)?;
     put_quoted(text, name)?;
@@ -59,7 +59,7 @@ pub(crate) fn put_name_line(text: &mut Vec<u8>, key: &[u8], name: &str) -> Resul
 
 /// Adds a line that gives the key a number.
 pub(crate) fn put_number_line(text: &mut Vec<u8>, key: &[u8], number: i64) -> Result<(), AllocError>
-    ensures { OnOk result (text.new.items ≡ text.old.items ++ line key.now (signed_decimal number)) }
+    ensures { OnOk result (text.new.items ≡ text.old.items ++ key_line key.now (signed_decimal number)) }
 {
     put_key(text, key)?;
     put_number(text, number)?;

@@ -3,7 +3,7 @@
 ghost use Rattle.std.specs.Prelude.{◌≡◌, ◌++◌, [], IfOk, OnOk, codes, flat_map, length};
 ghost use Rattle.sg_model.specs.Sums.{nth};
 ghost use Rattle.sg_game.specs.Counts.{IsGoalOf};
-ghost use Rattle.sg_format.specs.GameText.{form_name, game_text, goals_key, line, names_array, patrols_line, scale_line, top_lines, type_table};
+ghost use Rattle.sg_format.specs.GameText.{form_name, game_text, goals_key, key_line, names_array, patrols_line, scale_line, top_lines, type_table};
 
 use crate::listed::put_listed;
 use crate::tables::put_type;
@@ -67,7 +67,7 @@ fn put_goal_names(text: &mut Vec<u8>, game: &Game) -> Result<(), AllocError>
 
 /// Adds the line of the targets or the rows.
 fn put_goals_line(text: &mut Vec<u8>, game: &Game) -> Result<(), AllocError>
-    ensures { OnOk result (text.new.items ≡ text.old.items ++ line (goals_key game.now.kind) (names_array game.now.goals)) }
+    ensures { OnOk result (text.new.items ≡ text.old.items ++ key_line (goals_key game.now.kind) (names_array game.now.goals)) }
 {
     put_goals_key(text, game.kind())?;
     put_goal_names(text, game)?;

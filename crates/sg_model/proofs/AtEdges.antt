@@ -6,7 +6,7 @@ use Rattle.sg_model.specs.Games.{Attacker, Named, nobody, unnamed}
 use Rattle.sg_model.specs.Names.{is_name}
 use Rattle.sg_model.specs.Limits.{AreListed, ArePatrols, IsGame, IsMatrixGame, IsMatrixType, IsSecurityGame, IsSecurityType}
 use Rattle.sg_model.specs.Examples.{in_a_row, letters, named_from, opponent, plain, thief, three_rows, two_targets}
-use Rattle.sg_model.specs.EdgeExamples.{AreBroken, AreNameBytes, AreSums, AreTexts, WorkedEdges, played, repeated, square, watched, watched_from}
+use Rattle.sg_model.specs.EdgeExamples.{AreBroken, AreNameBytes, AreSums, WorkedEdges, played, repeated, square, watched, watched_from}
 use Rattle.sg_model.proofs.Deciding.{at_most}
 
 sums : AreSums
@@ -75,10 +75,6 @@ broken = record {
   with_resources = λ is. let h : IsMatrixGame (record (played square square) { resources = named_from 1 ((1 ∷ []) ∷ []) }) = is in let e : 1 ≡ 0 = ap length h.no_resources in omega (arith, e);
 }
 
-texts : AreTexts
-unfolding digits
-texts = record { by_resources = refl; by_target = refl }
-
 pub edges : WorkedEdges
 edges = record {
   sums = sums;
@@ -86,5 +82,4 @@ edges = record {
   name_bytes = name_bytes;
   apart = λ is. is.distinct 0 2 [] (at_most refl) (at_most refl) refl;
   broken = broken;
-  texts = texts;
 }

@@ -13,6 +13,7 @@ pub mod Values
 pub mod Scaled
 pub mod Held
 pub mod Promises
+pub mod Filling
 pub mod Sizes
 pub mod Deciding
 pub mod Worked

@@ -12,7 +12,7 @@ use Rattle.sg_model.specs.Games.{Attacker, Game, Payoff, nobody, nothing, unname
 use Rattle.sg_model.specs.Plays.{IsLegalJoint, IsRow}
 use Rattle.sg_model.specs.Optimality.{IsOptimal}
 use Rattle.sg_model.specs.Commitments.{IsValue, cover_count, weight_total}
-use Rattle.sg_model.specs.Origami.{AreLevelTickets, IsFloor, IsOrigami, IsScaled, IsWater, SpendsAll, count_at}
+use Rattle.sg_model.specs.Origami.{AreLevelTickets, IsFullyCovered, IsOrigami, IsScaled, IsWater, SpendsAll, count_at}
 use Rattle.sg_model.specs.Names.{is_name}
 use Rattle.sg_model.specs.Limits.{AreListed, AreMembers, ArePatrols, IsGame, IsMatrixGame, IsMatrixType, IsPayoff, IsSecurityGame, IsSecurityType, is_scaled, program_rows}
 use Rattle.sg_model.specs.Examples.{AreIllegal, AreNoGames, AreNoLevels, AreRefused, AreSpelled, AreUnscaled, IsSolved, IsWorth, WorkedExamples, always_first, each_row, first_payoffs, four_targets, four_tickets, guarded, half_idle, held_down, holding, idle, in_a_row, leads, letters, minus, named_from, neighbour_tickets, neighbours, one_player, opponent, pairs, patrolled, pays, plain, player, robber, row_mix, row_tickets, second_payoffs, tabled, thief, three_actions, three_rows, three_targets, ticket, twice_two_targets, two_actions, two_payoffs, two_players, two_targets, two_thieves, two_tickets, unpatrolled, well_patrolled}
@@ -341,9 +341,9 @@ no_levels : AreNoLevels
 no_levels = record {
   takes_more = λ is. let k : SpendsAll two_targets 1 (pos 1) (pos 1) = is.level in let e : pos 5 ≡ pos 4 = k.sum in omega (arith, ints, e);
   takes_less = λ is. let k : SpendsAll two_targets 1 (pos 3) (pos 1) = is.level in let e : pos 1 ≡ pos 4 = k.sum in omega (arith, ints, e);
-  below_the_floor = λ is. let k : IsFloor well_patrolled (pos 0) (pos 1) 2 = is.level in let e : pos 1 ≡ pos 0 = k.pays in omega (arith, ints, e);
-  past_the_targets = λ is. let k : IsFloor two_targets (pos 0) (pos 1) 3 = is.level in let high : 3 ≤ 2 = k.in_range in omega (arith, high);
-  target_zero = λ is. let k : IsFloor two_targets (pos 0) (pos 1) 0 = is.level in let low : 1 ≤ 0 = k.from_one in omega (arith, low);
+  below_the_floor = λ is. let k : IsFullyCovered well_patrolled (pos 0) (pos 1) 2 = is.level in let e : pos 1 ≡ pos 0 = k.pays in omega (arith, ints, e);
+  past_the_targets = λ is. let k : IsFullyCovered two_targets (pos 0) (pos 1) 3 = is.level in let high : 3 ≤ 2 = k.in_range in omega (arith, high);
+  target_zero = λ is. let k : IsFullyCovered two_targets (pos 0) (pos 1) 0 = is.level in let low : 1 ≤ 0 = k.from_one in omega (arith, low);
 }
 
 -- the promises of a schedule

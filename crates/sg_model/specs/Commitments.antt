@@ -1,6 +1,7 @@
 -- Commitments (mixed strategies with whole-number weights), their sums, the attackers' best responses, and worth.
-use Rattle.std.specs.Prelude.{◌≡◌, ◌≢◌, ℕ, Bool, if◌then◌else◌, List, [], map, length, ℤ, pos, ◌*ℤ◌, ◌≤ℤ◌, All, AllPairs, bytes_eq, filter, int_le}
+use Rattle.std.specs.Prelude.{◌≡◌, ◌≢◌, ℕ, Bool, if◌then◌else◌, List, [], map, length, ℤ, pos, ◌*ℤ◌, ◌≤ℤ◌, All, AllPairs, bytes_eq, filter, int_le, unsigned_abs}
 use Rattle.std.specs.List.{list_all}
+use Rattle.std.specs.Int.{◌∣◌}
 use Rattle.sg_model.specs.declared.ticket.Ticket.{Ticket}
 use Rattle.sg_model.specs.Sums.{total, greatest, numbers}
 use Rattle.sg_model.specs.Games.{Game, attacker, action_count, prior_total}
@@ -12,6 +13,14 @@ pub record IsCommitment (g : Game) (k : List Ticket) : Type 0 where
   pub legal : All (λ (x : Ticket). IsLegal g x.play.code) k
   pub positive : All (λ (x : Ticket). pos 1 ≤ℤ x.weight) k
   pub distinct : AllPairs (λ (x y : Ticket). x.play.code ≢ y.play.code) k
+
+-- the plays of the tickets are legal
+abbrev pub AreLegal : Game → List Ticket → Type 0
+AreLegal g k = All (λ (x : Ticket). IsLegal g x.play.code) k
+
+-- no number above 1 divides all weights
+abbrev pub AreLowest : List Ticket → Type 0
+AreLowest k = (d : ℕ) → All (λ (x : Ticket). d ∣ unsigned_abs x.weight) k → d ≡ 1
 
 -- the sum of the weights
 abbrev pub weight_total : List Ticket → ℤ

@@ -1,8 +1,6 @@
--- Small cases at the edges: sums of several types, a bound over 0, which bytes spell names, games that break one rule each, and texts.
+-- Small cases at the edges: sums of several types, a bound over 0, which bytes spell names, and games that break one rule each.
 use Rattle.std.specs.Prelude.{◌≡◌, ℕ, true, false, List, [], ◌∷◌, ◌++◌, flat_map, codes, ℤ, pos, filter, Some, None}
 use Rattle.sg_model.specs.declared.kind.Kind.TheVariants.{Matrix}
-use Rattle.sg_model.specs.declared.level.Level.{Level}
-use Rattle.sg_model.specs.declared.level.Level.TheVariants.{Resources, Target}
 use Rattle.sg_model.specs.declared.ticket.Ticket.{Ticket}
 use Rattle.sg_model.specs.Sums.{numbers}
 use Rattle.sg_model.specs.Games.{Attacker, Game}
@@ -10,7 +8,6 @@ use Rattle.sg_model.specs.Commitments.{is_best, sum_a, sum_d, take_of}
 use Rattle.sg_model.specs.Optimality.{IsUpperBound}
 use Rattle.sg_model.specs.Names.{AreNames, is_name, is_name_byte}
 use Rattle.sg_model.specs.Limits.{IsGame}
-use Rattle.sg_model.specs.ReportText.{WaterReport, report_text}
 use Rattle.sg_model.specs.Examples.{each_row, guarded, half_idle, in_a_row, letters, minus, named_from, opponent, plain, thief, three_rows, two_targets, two_tickets, two_thieves}
 
 -- what type l gets from an action, and what the defender gets
@@ -100,24 +97,6 @@ pub record AreBroken : Type 0 where
   pub with_schedules : IsGame (record (played square square) { schedules = named_from 1 ((1 ∷ []) ∷ []) }) → ⊥
   pub with_resources : IsGame (record (played square square) { resources = named_from 1 ((1 ∷ []) ∷ []) }) → ⊥
 
--- two tickets of one choice each, with a value, a level and a bound
-abbrev pub told : ℤ → ℤ → ℤ → ℤ → Level → ℤ → ℤ → WaterReport
-told a b c d why e f =
-    record { tickets = two_tickets; value_num = a; value_den = b; level_num = c; level_den = d; why = why; upper_num = e; upper_den = f }
-
--- lines, each with its newline
-abbrev pub lines : List (List ℕ) → List ℕ
-lines texts = flat_map (λ text. text ++ (10 ∷ [])) texts
-
--- the text of a report, with either reason, and with a level below 0 and other numbers everywhere
-pub record AreTexts : Type 0 where
-  pub by_resources : report_text (told (pos 2) (pos 3) (pos 4) (pos 3) Resources (pos 2) (pos 3)) ≡ lines
-      (codes "patrol-report 1" ∷ codes "tickets 2 3" ∷ codes "t 2 1" ∷ codes "t 1 2" ∷ codes "value 2 3" ∷ codes "water 4 3 resources" ∷ codes "upper 2 3"
-      ∷ codes "verdict optimal" ∷ codes "end" ∷ [])
-  pub by_target : report_text (told (minus 10) (pos 11) (minus 12) (pos 13) (Target 14) (pos 15) (pos 16)) ≡ lines
-      (codes "patrol-report 1" ∷ codes "tickets 2 3" ∷ codes "t 2 1" ∷ codes "t 1 2" ∷ codes "value -10 11" ∷ codes "water -12 13 target 14" ∷ codes "upper 15 16"
-      ∷ codes "verdict optimal" ∷ codes "end" ∷ [])
-
 -- the answers, as worked out by hand
 pub record WorkedEdges : Type 0 where
   pub sums : AreSums
@@ -126,4 +105,3 @@ pub record WorkedEdges : Type 0 where
   pub name_bytes : AreNameBytes
   pub apart : AreNames repeated → ⊥
   pub broken : AreBroken
-  pub texts : AreTexts

@@ -1,5 +1,5 @@
 -- Games between a defender and attackers of several types, in security form and in matrix form.
-use Rattle.std.specs.Prelude.{ℕ, zero, suc, Bool, true, false, if◌then◌else◌, List, [], ◌∷◌, length, ℤ, pos, Option, Some, None}
+use Rattle.std.specs.Prelude.{ℕ, zero, suc, Bool, true, false, if◌then◌else◌, List, [], ◌∷◌, length, ℤ, pos, Option, Some, None, slice_index_or}
 use Rattle.sg_model.specs.declared.kind.Kind.{Kind}
 use Rattle.sg_model.specs.declared.kind.Kind.TheVariants.{Security, Matrix}
 use Rattle.sg_model.specs.Sums.{total, numbers, nth}
@@ -63,6 +63,10 @@ attacker g l = nth g.types l nobody
 -- the four payoffs of type l at target t, both counted from 1
 abbrev pub payoff : Game → ℕ → ℕ → Payoff
 payoff g l t = nth (attacker g l).payoffs t nothing
+
+-- the payoffs of four numbers, in the order of a game file: defender covered and uncovered, attacker covered and uncovered
+abbrev pub payoff_of : List ℤ → Payoff
+payoff_of xs = record { dc = slice_index_or xs 0 (pos 0); du = slice_index_or xs 1 (pos 0); ac = slice_index_or xs 2 (pos 0); au = slice_index_or xs 3 (pos 0) }
 
 -- how many actions type l has: the targets, or in matrix form its own
 abbrev pub action_count : Game → ℕ → ℕ

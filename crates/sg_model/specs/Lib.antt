@@ -8,8 +8,11 @@ pub mod Commitments
 pub mod Optimality
 pub mod Origami
 pub mod Names
+pub mod Places
+pub mod Steps
 pub mod Limits
-pub mod ReportText
+pub mod Fillable
+pub mod TextLines
 pub mod GameLaws
 pub mod PlayLaws
 pub mod PlayListLaws

@@ -41,7 +41,7 @@ pub record SpendsAll (g : Game) (patrols : ℕ) (num den : ℤ) : Type 0 where
   pub sum : total (share g num den) (at_level g num den) ≡ (pos patrols *ℤ den) *ℤ g.scale
 
 -- target j, covered for certain, still pays the attacker the level
-pub record IsFloor (g : Game) (num den : ℤ) (j : ℕ) : Type 0 where
+pub record IsFullyCovered (g : Game) (num den : ℤ) (j : ℕ) : Type 0 where
   pub from_one : 1 ≤ j
   pub in_range : j ≤ length g.goals
   pub pays : (payoff g 1 j).ac *ℤ den ≡ num
@@ -49,7 +49,7 @@ pub record IsFloor (g : Game) (num den : ℤ) (j : ℕ) : Type 0 where
 -- the reason that holds the level up
 abbrev pub IsLevelFor : Game → ℕ → ℤ → ℤ → Level → Type 0
 IsLevelFor g patrols num den Resources = SpendsAll g patrols num den
-IsLevelFor g patrols num den (Target j) = IsFloor g num den j
+IsLevelFor g patrols num den (Target j) = IsFullyCovered g num den j
 
 -- the water-level fact: the attacker's best payoff can't fall below num / den, for this reason
 pub record IsWater (g : Game) (patrols : ℕ) (num den : ℤ) (why : Level) : Type 0 where

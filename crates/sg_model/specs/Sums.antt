@@ -1,5 +1,5 @@
 -- Sums, greatest and least values of whole numbers over lists, and places counted from 1.
-use Rattle.std.specs.Prelude.{ℕ, zero, suc, ◌+◌, List, [], ◌∷◌, ℤ, pos, ◌+ℤ◌, slice_index_or}
+use Rattle.std.specs.Prelude.{ℕ, zero, suc, ◌+◌, List, [], ◌∷◌, ℤ, pos, negsuc, ◌+ℤ◌, slice_index_or}
 use Rattle.std.specs.List.{fold}
 use Rattle.std.specs.Int.{int_max, int_min}
 
@@ -31,3 +31,8 @@ numbers n = numbers_from 1 n
 abbrev pub nth : {X : Type 0} → List X → ℕ → X → X
 nth xs zero d = d
 nth xs (suc k) d = slice_index_or xs k d
+
+-- a number where it is above 0, and else 0
+abbrev pub positive_part : ℤ → ℕ
+positive_part (pos n) = n
+positive_part (negsuc n) = 0

@@ -1,4 +1,5 @@
 pub mod Divisors
+pub mod Firsts
 pub mod Laws
 pub mod Ring
 pub mod Signs

@@ -1,5 +1,5 @@
 -- Exact operations within 128 bits: the result, or the operation whose result does not fit.
-use Rattle.std.specs.Prelude.{◌^◌, Bool, if◌then◌else◌, ℤ, pos, negsuc, ◌+ℤ◌, ◌-ℤ◌, ◌*ℤ◌, nat_lt, Result, Ok, Err}
+use Rattle.std.specs.Prelude.{◌≡◌, ◌^◌, Bool, true, if◌then◌else◌, ℤ, pos, negsuc, ◌+ℤ◌, ◌-ℤ◌, ◌*ℤ◌, ◌≤ℤ◌, nat_lt, Result, Ok, Err}
 use Rattle.sg_num.specs.declared.step.Op.{Op}
 use Rattle.sg_num.specs.declared.step.Op.TheVariants.{Sum, Less, Times}
 use Rattle.sg_num.specs.declared.step.Wide.{Wide}
@@ -8,6 +8,14 @@ use Rattle.sg_num.specs.declared.step.Wide.{Wide}
 abbrev pub fits : ℤ → Bool
 fits (pos n) = nat_lt n (2 ^ 127)
 fits (negsuc n) = nat_lt n (2 ^ 127)
+
+-- a number that fits 128 bits
+abbrev pub Fits : ℤ → Type 0
+Fits z = fits z ≡ true
+
+-- from -b to b
+abbrev pub IsAtMost : ℤ → ℤ → Type 0
+IsAtMost b z = ((pos 0 -ℤ b) ≤ℤ z) × (z ≤ℤ b)
 
 -- the exact result of an operation on two whole numbers
 abbrev pub result_of : Op → ℤ → ℤ → ℤ

@@ -13,12 +13,14 @@
 //!
 //! No call takes memory, and none asks anything of its caller.
 //!
-//! The meaning of each call stands in `specs/`: `Exact` says when an operation fits, `Multiples`
-//! what a least common multiple is.
+//! The meaning of each call stands in `specs/`: `Exact` says when an operation fits, `Operations`
+//! which of several in order is told, `Multiples` what a least common multiple is.
 #![tactic(auto)]
 
 mod divisor;
+mod laws;
 mod step;
 
 pub use divisor::{gcd, lcm};
+pub use laws::first_wide_is_first;
 pub use step::{Op, Wide, dot_step, less, mul_sub, sum, times};

@@ -8,7 +8,8 @@ use Rattle.sg_model.specs.Games.{Game, payoff}
 use Rattle.sg_model.specs.Origami.{share, gap, count_at}
 use Rattle.sg_model.proofs.Levels.{multiple_is}
 use Rattle.sg_model.proofs.Ints.{v, n, less, times, le_by, le_from, product_nonneg}
-use Rattle.sg_origami.specs.Rates.{IsFillable, IsReachable, multiple}
+use Rattle.sg_model.specs.Fillable.{IsFillable}
+use Rattle.sg_origami.specs.Rates.{IsReachable, multiple}
 use Rattle.sg_model.proofs.Spans.{multiple_bounds}
 
 -- a sum over what passes a test, as a sum over all
@@ -37,7 +38,7 @@ pub count_bounds : (g : Game) (patrols : ℕ) (num den : ℤ) → IsFillable g �
 count_bounds g patrols num den f h t low high =
     let s = f.origami.targets t low high in
     let is_m = multiple_is g t s in
-    let m = multiple_bounds (multiple g t) (gap (payoff g 1 t)) g.scale (2 ^ 32) is_m (omega (arith, ints, s.attacker_loses)) f.origami.scaled f.scale_small in
+    let m = multiple_bounds (multiple g t) (gap (payoff g 1 t)) g.scale (2 ^ 32) is_m (omega (arith, ints, s.attacker_loses)) f.origami.scaled f.scale_range.at_most in
     let whole = product_nonneg g.scale den (omega (arith, ints, f.origami.scaled)) (omega (arith, ints, h.positive)) in
     let test : Bool = int_le num ((payoff g 1 t).au *ℤ den) in
     elim test as (λ (b : Bool). test ≡ b → (pos 0 ≤ℤ cond b (share g num den t) (pos 0)) × (cond b (share g num den t) (pos 0) ≤ℤ (g.scale *ℤ den))) [

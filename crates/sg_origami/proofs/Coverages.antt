@@ -18,7 +18,8 @@ use Rattle.sg_model.proofs.Numbers.{All-numbers, All-numbers-at, length-numbers_
 use Rattle.sg_model.proofs.Best.{All-from_map}
 use Rattle.sg_model.proofs.Sums.{total-same, total-scaled}
 use Rattle.sg_origami.specs.Fillings.{IsCoverage}
-use Rattle.sg_origami.specs.Rates.{IsFillable, IsReachable, IsCountDivisor, multiple}
+use Rattle.sg_model.specs.Fillable.{IsFillable}
+use Rattle.sg_origami.specs.Rates.{IsReachable, IsCountDivisor, multiple}
 use Rattle.sg_model.proofs.Spans.{Spans, spans_product}
 use Rattle.sg_origami.proofs.Counts.{count_bounds, counts_few}
 use Rattle.sg_model.proofs.Spans.{spans_factor}
@@ -37,7 +38,7 @@ divided (negsuc k) d h p = absurd (omega (arith, ints, h))
 whole_bounds : (g : Game) → IsFillable g → (den : ℤ) → pos 1 ≤ℤ den → den ≤ℤ pos (2 ^ 46) → (pos 1 ≤ℤ (g.scale *ℤ den)) × Spans (2 ^ 78) (g.scale *ℤ den)
 whole_bounds g f den low high =
     let s = f.origami.scaled in
-    let w = spans_product (2 ^ 32) (2 ^ 46) g.scale den (record { low = omega (arith, ints, s); high = f.scale_small }) (record { low = omega (arith, ints, low); high = high }) in
+    let w = spans_product (2 ^ 32) (2 ^ 46) g.scale den (record { low = omega (arith, ints, s); high = f.scale_range.at_most }) (record { low = omega (arith, ints, low); high = high }) in
     let p = product_nonneg (g.scale -ℤ pos 1) den (omega (arith, ints, s)) (omega (arith, ints, low)) in
     let q : den ≤ℤ (g.scale *ℤ den) = le_by (v den) (times (v g.scale) (v den)) (omega (arith, le_from (n 0) (times (less (v g.scale) (n 1)) (v den)) p)) in
     (omega (arith, ints, q, low), record { low = omega (arith, ints, w.low); high = omega (arith, ints, w.high) })

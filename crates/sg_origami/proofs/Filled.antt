@@ -9,7 +9,7 @@ use Rattle.sg_model.proofs.Levels.{level_reached}
 use Rattle.sg_frac.specs.Fractions.{Fraction, IsReduced, IsReducedForm}
 use Rattle.sg_origami.specs.declared.filling.Filling.{Filling}
 use Rattle.sg_origami.specs.Fillings.{IsCoverage, IsFilling}
-use Rattle.sg_origami.specs.Rates.{IsFillable}
+use Rattle.sg_model.specs.Fillable.{IsFillable}
 use Rattle.sg_frac.proofs.Lowered.{lowers}
 use Rattle.sg_model.proofs.Spans.{spans_factor}
 use Rattle.sg_origami.proofs.Reduced.{IsFound, found-lowest}

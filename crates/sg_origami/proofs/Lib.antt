@@ -1,5 +1,4 @@
 pub mod Rated
-pub mod Promised
 pub mod Filled
 pub mod Coverages
 pub mod Divided

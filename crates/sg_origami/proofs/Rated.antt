@@ -11,7 +11,8 @@ use Rattle.sg_model.proofs.Ints.{v, n, times, same_by}
 use Rattle.sg_model.proofs.Levels.{multiple_is}
 use Rattle.sg_model.proofs.Numbers.{All-numbers, length-numbers_from, map-none, numbers-some}
 use Rattle.sg_origami.specs.declared.rate.Rate.{Rate}
-use Rattle.sg_origami.specs.Rates.{IsFillable, IsRate, is_above, multiple, need_of, rate_at}
+use Rattle.sg_model.specs.Fillable.{IsFillable}
+use Rattle.sg_origami.specs.Rates.{IsRate, is_above, multiple, need_of, rate_at}
 use Rattle.sg_model.proofs.Spans.{multiple_bounds}
 use Rattle.sg_origami.proofs.Lags.{IsSpent}
 use Rattle.sg_origami.proofs.Rise.{Heavy}
@@ -22,7 +23,7 @@ au g t = (payoff g 1 t).au
 multiple_at : (g : Game) → IsFillable g → (t : ℕ) → 1 ≤ t → t ≤ length g.goals → (pos 1 ≤ℤ multiple g t) × (multiple g t ≤ℤ pos (2 ^ 32))
 multiple_at g f t low high =
     let s = f.origami.targets t low high in
-    multiple_bounds (multiple g t) (gap (payoff g 1 t)) g.scale (2 ^ 32) (multiple_is g t s) (omega (arith, ints, s.attacker_loses)) f.origami.scaled f.scale_small
+    multiple_bounds (multiple g t) (gap (payoff g 1 t)) g.scale (2 ^ 32) (multiple_is g t s) (omega (arith, ints, s.attacker_loses)) f.origami.scaled f.scale_range.at_most
 
 pub heavy : (g : Game) → IsFillable g → All (Heavy (multiple g) (au g)) (numbers (length g.goals))
 heavy g f = All-numbers (Heavy (multiple g) (au g)) (length g.goals) (λ t low high. (multiple_at g f t low high).0)

@@ -9,7 +9,8 @@ use Rattle.sg_model.specs.Games.{Game, payoff}
 use Rattle.sg_model.specs.Origami.{at_level, SpendsAll, share}
 use Rattle.sg_model.proofs.Ints.{v, n, less, times, same_by, le_by, le_from, mul-le, product_nonneg, cancel-le}
 use Rattle.sg_model.proofs.Sums.{total-le, total-scaled}
-use Rattle.sg_origami.specs.Rates.{IsFillable, IsFirstMost, IsReachable, multiple}
+use Rattle.sg_model.specs.Fillable.{IsFillable}
+use Rattle.sg_origami.specs.Rates.{IsFirstMost, IsReachable, multiple}
 use Rattle.sg_origami.proofs.Rise.{Heavy, high, need, most_needed}
 use Rattle.sg_origami.proofs.Rated.{au, heavy}
 

@@ -2,13 +2,13 @@
 use Rattle.std.proofs.Common.{◌≡◌, ℕ, length, ℤ, pos, ◌*ℤ◌, ◌≤ℤ◌, ◌<ℤ◌, sym, ◌∙◌, arith}
 use Rattle.std.proofs.lemmas.Int.{ints}
 use Rattle.sg_model.specs.Games.{Game, payoff}
-use Rattle.sg_model.specs.Origami.{IsFloor}
+use Rattle.sg_model.specs.Origami.{IsFullyCovered}
 use Rattle.sg_model.proofs.Ints.{v, n, times, same_by, mul-le}
 use Rattle.sg_origami.specs.Fillings.{IsFirstFloor}
 use Rattle.sg_origami.specs.Rates.{IsFirstMost}
 
 -- above what each covered target pays, none of them pays the level
-pub no_floor : (g : Game) (num den : ℤ) → pos 1 ≤ℤ den → (t : ℕ) (pay : ℤ) → IsFirstMost g (length g.goals) t pay → (pay *ℤ den) <ℤ num → (j : ℕ) → ¬ (IsFloor g num den j)
+pub no_floor : (g : Game) (num den : ℤ) → pos 1 ≤ℤ den → (t : ℕ) (pay : ℤ) → IsFirstMost g (length g.goals) t pay → (pay *ℤ den) <ℤ num → (j : ℕ) → ¬ (IsFullyCovered g num den j)
 no_floor g num den positive t pay most below j floor =
     absurd (omega (arith, ints, mul-le (payoff g 1 j).ac pay den (most.most j floor.from_one floor.in_range) (omega (arith, ints, positive)), floor.pays, below))
 

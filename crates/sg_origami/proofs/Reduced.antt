@@ -7,7 +7,7 @@ use Rattle.sg_model.specs.Sums.{total, numbers}
 use Rattle.sg_model.specs.Games.{Game, payoff}
 use Rattle.sg_model.specs.declared.level.Level.{Level}
 use Rattle.sg_model.specs.declared.level.Level.TheVariants.{Resources, Target}
-use Rattle.sg_model.specs.Origami.{share, at_level, IsFloor, IsLevelFor, IsWater, SpendsAll}
+use Rattle.sg_model.specs.Origami.{share, at_level, IsFullyCovered, IsLevelFor, IsWater, SpendsAll}
 use Rattle.sg_model.proofs.Ints.{v, n, less, times, same_by, mul-le, mul-lt, cancel, cancel-le}
 use Rattle.sg_model.proofs.Sums.{total-scaled, total-same}
 use Rattle.sg_origami.specs.Fillings.{IsReasonOf}
@@ -53,14 +53,14 @@ spends-reduced g patrols num den c h s = record {
 times_in : (a den c : ℤ) → a *ℤ (den *ℤ c) ≡ (a *ℤ den) *ℤ c
 times_in a den c = same_by (times (v a) (times (v den) (v c))) (times (times (v a) (v den)) (v c)) (omega arith)
 
-floor-reduced : (g : Game) (num den c : ℤ) → pos 1 ≤ℤ c → (j : ℕ) → IsFloor g (num *ℤ c) (den *ℤ c) j → IsFloor g num den j
+floor-reduced : (g : Game) (num den c : ℤ) → pos 1 ≤ℤ c → (j : ℕ) → IsFullyCovered g (num *ℤ c) (den *ℤ c) j → IsFullyCovered g num den j
 floor-reduced g num den c h j f = record {
   from_one = f.from_one;
   in_range = f.in_range;
   pays = cancel ((payoff g 1 j).ac *ℤ den) num c (sym (times_in (payoff g 1 j).ac den c) ∙ f.pays) h;
 }
 
-floor-raised : (g : Game) (num den c : ℤ) (j : ℕ) → IsFloor g num den j → IsFloor g (num *ℤ c) (den *ℤ c) j
+floor-raised : (g : Game) (num den c : ℤ) (j : ℕ) → IsFullyCovered g num den j → IsFullyCovered g (num *ℤ c) (den *ℤ c) j
 floor-raised g num den c j f = record {
   from_one = f.from_one;
   in_range = f.in_range;

@@ -8,19 +8,19 @@ use Rattle.sg_model.specs.Sums.{total, nth}
 use Rattle.sg_model.specs.Games.{Game, payoff, resource_count}
 use Rattle.sg_model.specs.Commitments.{IsCommitment, weight_total, sum_a}
 use Rattle.sg_model.specs.Limits.{IsWithin}
-use Rattle.sg_model.specs.Origami.{IsFloor, IsWater, gap, count_at}
+use Rattle.sg_model.specs.Origami.{IsFullyCovered, IsWater, gap, count_at}
 use Rattle.sg_frac.specs.Fractions.{IsReduced}
 use Rattle.sg_origami.specs.declared.filling.Filling.{Filling}
 
 -- target j is the first that pays the attacker the level where it is covered for certain
 pub record IsFirstFloor (g : Game) (num den : ℤ) (j : ℕ) : Type 0 where
-  pub floor : IsFloor g num den j
-  pub first : (i : ℕ) → i < j → ¬ (IsFloor g num den i)
+  pub floor : IsFullyCovered g num den j
+  pub first : (i : ℕ) → i < j → ¬ (IsFullyCovered g num den i)
 
 -- the reason of a level: the first such target, and the patrols only where there is none
 abbrev pub IsReasonOf : Game → ℤ → ℤ → Level → Type 0
 IsReasonOf g num den (Target j) = IsFirstFloor g num den j
-IsReasonOf g num den Resources = (j : ℕ) → ¬ (IsFloor g num den j)
+IsReasonOf g num den Resources = (j : ℕ) → ¬ (IsFullyCovered g num den j)
 
 -- out of so many tickets, counts of those that cover each target, as the level num / den asks
 pub record IsCoverage (g : Game) (patrols : ℕ) (num den : ℤ) (counts : List ℤ) (tickets : ℤ) : Type 0 where

@@ -7,15 +7,6 @@ use Rattle.sg_model.specs.Games.{Game, payoff, resource_count}
 use Rattle.sg_model.specs.Limits.{IsPayoff}
 use Rattle.sg_model.specs.Origami.{IsOrigami, gap, share, at_level, count_at}
 
--- a game that declares a scale, within the limits
-pub record IsFillable (g : Game) : Type 0 where
-  pub origami : IsOrigami g (resource_count g)
-  pub few_patrols : resource_count g ≤ 200
-  pub scale_small : g.scale ≤ℤ pos (2 ^ 32)
-  pub some : 1 ≤ length g.goals
-  pub few : length g.goals ≤ 10000
-  pub small : (t : ℕ) → IsPayoff (payoff g 1 t)
-
 -- how often a target's gap goes into the scale
 abbrev pub multiple : Game → ℕ → ℤ
 multiple g t = int_div g.scale (gap (payoff g 1 t))

@@ -4,7 +4,8 @@ ghost use Rattle.sg_model.specs.Sums.{numbers};
 ghost use Rattle.sg_model.specs.Games.{payoff};
 ghost use Rattle.sg_model.specs.Origami.{count_at};
 ghost use Rattle.sg_origami.specs.Fillings.{IsCoverage};
-ghost use Rattle.sg_origami.specs.Rates.{IsCountDivisor, IsFillable, IsReachable};
+ghost use Rattle.sg_origami.specs.Rates.{IsCountDivisor, IsReachable};
+ghost use Rattle.sg_model.specs.Fillable.{IsFillable};
 
 use crate::level::Height;
 use crate::rate::{multiple, product, quotient, targets_of, uncovered};

@@ -3,7 +3,7 @@ ghost use Rattle.std.specs.Prelude.{◌≡◌, ◌^◌, true, pos, ◌-ℤ◌, �
 ghost use Rattle.sg_model.specs.Limits.{is_scaled};
 ghost use Rattle.sg_frac.specs.Fractions.{IsReducedForm};
 ghost use Rattle.sg_origami.specs.Fillings.{IsFilling};
-ghost use Rattle.sg_origami.specs.Rates.{IsFillable};
+ghost use Rattle.sg_model.specs.Fillable.{IsFillable};
 
 use crate::count::coverage_of;
 use crate::floor::level_of;

@@ -3,7 +3,8 @@ ghost use Rattle.std.specs.Prelude.{◌≡◌, ◌≤◌, ◌^◌, length, map, 
 ghost use Rattle.sg_model.specs.Sums.{numbers};
 ghost use Rattle.sg_model.specs.Origami.{IsWater, SpendsAll};
 ghost use Rattle.sg_origami.specs.Fillings.{IsReasonOf};
-ghost use Rattle.sg_origami.specs.Rates.{IsFillable, IsFirstMost, IsReachable, rate_at};
+ghost use Rattle.sg_model.specs.Fillable.{IsFillable};
+ghost use Rattle.sg_origami.specs.Rates.{IsFirstMost, IsReachable, rate_at};
 
 use crate::level::{Height, spent_level};
 use crate::rate::{Rate, covered, product, targets_of};

@@ -3,7 +3,8 @@ ghost use Rattle.std.specs.Prelude.{◌≡◌, ◌≤◌, ◌^◌, length, map, 
 ghost use Rattle.std.specs.Int.{w128};
 ghost use Rattle.sg_model.specs.Sums.{numbers};
 ghost use Rattle.sg_model.specs.Games.{payoff};
-ghost use Rattle.sg_origami.specs.Rates.{IsFillable, multiple, rate_at};
+ghost use Rattle.sg_model.specs.Fillable.{IsFillable};
+ghost use Rattle.sg_origami.specs.Rates.{multiple, rate_at};
 
 use sg_game::Game;
 use sqlite_items::Items;

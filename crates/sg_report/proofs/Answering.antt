@@ -10,7 +10,7 @@ use Rattle.sg_model.specs.Sums.{numbers_from}
 use Rattle.sg_model.proofs.Best.{is_best-from, is_best-not, is_best-out, take_of-bounds, take_of-reached}
 use Rattle.sg_game.specs.Counts.{IsActionOf}
 use Rattle.sg_commit.proofs.Responses.{numbers_next}
-use Rattle.sg_report.specs.Answers.{IsTaken, IsTop}
+use Rattle.sg_report.specs.Answers.{IsTakenAction, IsTopAction}
 use Rattle.sg_report.specs.Tables.{answer, is_answer}
 
 -- a test turned round, by what it says
@@ -31,17 +31,17 @@ apart_by x y lt = elim (int_eq x y) as (λ b. int_eq x y ≡ b → int_eq x y �
 
 module _ (g : Game) (k : List Ticket) (l : ℕ) where
   -- an action is best just where the top one doesn't exceed it
-  pub best_is : (a top : ℕ) → IsTop g k l (action_count g l) top → not (int_lt (sum_a g k l a) (sum_a g k l top)) ≡ is_best g k l a
+  pub best_is : (a top : ℕ) → IsTopAction g k l (action_count g l) top → not (int_lt (sum_a g k l a) (sum_a g k l top)) ≡ is_best g k l a
   best_is a top t = by_less (sum_a g k l a) (sum_a g k l top) (is_best g k l a)
       (λ lt. is_best-not g k l a (λ all. let h = all top t.known.0 t.known.1 in omega (arith, ints, lt, h)))
       (λ le. is_best-from g k l a (λ b low high. let h = t.top b low high in omega (arith, ints, le, h)))
 
   -- the top action is best, and none before it gives more
-  pub taken_at_first : (top : ℕ) → IsTop g k l (action_count g l) top → IsTaken g k l 0 top
+  pub taken_at_first : (top : ℕ) → IsTopAction g k l (action_count g l) top → IsTakenAction g k l 0 top
   taken_at_first top t = record { known = t.known; best = is_best-from g k l top t.top; most = λ b low high best. absurd (omega arith) }
 
   -- what is taken is what the defender gets from a best action that gives the most
-  taken-is : (taken : ℕ) → IsTaken g k l (action_count g l) taken → sum_d g k l taken ≡ take_of g k l
+  taken-is : (taken : ℕ) → IsTakenAction g k l (action_count g l) taken → sum_d g k l taken ≡ take_of g k l
   taken-is taken t =
       let r = take_of-reached g k l (omega (arith, t.known.0, t.known.1)) in
       let above = t.most r.0 r.1.from_one r.1.in_range (is_best-from g k l r.0 r.1.best) in
@@ -50,7 +50,7 @@ module _ (g : Game) (k : List Ticket) (l : ℕ) where
       omega (arith, ints, above, below, gives)
 
   -- a best action is an answer just where the one that is taken doesn't give more
-  pub answer_is : (a taken : ℕ) → IsTaken g k l (action_count g l) taken → IsActionOf g l a → is_best g k l a ≡ true → not (int_lt (sum_d g k l a) (sum_d g k l taken)) ≡ is_answer g k l a
+  pub answer_is : (a taken : ℕ) → IsTakenAction g k l (action_count g l) taken → IsActionOf g l a → is_best g k l a ≡ true → not (int_lt (sum_d g k l a) (sum_d g k l taken)) ≡ is_answer g k l a
   answer_is a taken t known best =
       let reached = taken-is taken t in
       let most = t.most a known.0 known.1 best in

@@ -10,23 +10,23 @@ use Rattle.sg_model.specs.Games.{Game, resource_schedules, schedule_targets}
 use Rattle.sg_model.specs.Sums.{nth}
 use Rattle.sg_model.proofs.Sums.{total-nonneg}
 use Rattle.sg_report.specs.declared.counts.Cell.{Cell}
-use Rattle.sg_report.specs.Counts.{AreWeights, AreWithin, HasCounts, HasPart, HasRoom, held, marked, no_cell, targets_from}
+use Rattle.sg_report.specs.Counts.{AreWeights, AreWithin, HasCounts, HasPart, HasRoom, held_numbers, raised_once, no_count, targets_from}
 use Rattle.sg_report.proofs.Marks.{All-nth, fold-All, fold_count, length-fold}
 
 -- ---- at the start
 
-nth-replicate : (m n : ℕ) → 1 ≤ n → n ≤ m → nth (replicate m no_cell) n no_cell ≡ no_cell
+nth-replicate : (m n : ℕ) → 1 ≤ n → n ≤ m → nth (replicate m no_count) n no_count ≡ no_count
 nth-replicate m zero low high = absurd (omega arith)
-nth-replicate m (suc k) low high = get_or-replicate m k no_cell no_cell (omega arith)
+nth-replicate m (suc k) low high = get_or-replicate m k no_count no_count (omega arith)
 
-pub none_counted : (g : Game) (k : List Ticket) (cells : List Cell) → cells ≡ replicate (length g.goals) no_cell → HasPart g k k 0 cells
+pub none_counted : (g : Game) (k : List Ticket) (cells : List Cell) → cells ≡ replicate (length g.goals) no_count → HasPart g k k 0 cells
 none_counted g k cells e =
-    let all : length cells ≡ length g.goals = ap length e ∙ length-replicate (length g.goals) no_cell in
+    let all : length cells ≡ length g.goals = ap length e ∙ length-replicate (length g.goals) no_count in
     record {
       all = all;
-      below = rw e (All-replicate (λ (c : Cell). (pos 0 ≤ℤ c.count) × (c.last ≤ 0) × ((c.count +ℤ weight_total k) ≤ℤ weight_total k)) (length g.goals) no_cell (omega (arith, ints), omega arith, omega (arith, ints)));
+      below = rw e (All-replicate (λ (c : Cell). (pos 0 ≤ℤ c.count) × (c.last ≤ 0) × ((c.count +ℤ weight_total k) ≤ℤ weight_total k)) (length g.goals) no_count (omega (arith, ints), omega arith, omega (arith, ints)));
       counts = λ n low high.
-          let zero_here : (nth cells n no_cell).count ≡ pos 0 = ap (λ (ds : List Cell). (nth ds n no_cell).count) e ∙ ap (λ (c : Cell). c.count) (nth-replicate (length g.goals) n low (rw (sym all) high)) in
+          let zero_here : (nth cells n no_count).count ≡ pos 0 = ap (λ (ds : List Cell). (nth ds n no_count).count) e ∙ ap (λ (c : Cell). c.count) (nth-replicate (length g.goals) n low (rw (sym all) high)) in
           omega (arith, ints, zero_here);
     }
 
@@ -45,11 +45,11 @@ room_for g k rest x number cells part weights fits =
     (λ c h. (h.0, (λ ne. omega (arith, ints, r, h.2, fits)))) cells part.below
 
 -- the counts with the next ticket
-pub one_more : (g : Game) (k rest : List Ticket) (x : Ticket) (number : ℕ) (cells : List Cell) → HasPart g k (x ∷ rest) number cells → pos 1 ≤ℤ x.weight → AreWithin cells (held g x.play.code)
-    → HasPart g k rest (number + 1) (fold (marked (number + 1) x.weight) cells (held g x.play.code))
+pub one_more : (g : Game) (k rest : List Ticket) (x : Ticket) (number : ℕ) (cells : List Cell) → HasPart g k (x ∷ rest) number cells → pos 1 ≤ℤ x.weight → AreWithin cells (held_numbers g x.play.code)
+    → HasPart g k rest (number + 1) (fold (raised_once (number + 1) x.weight) cells (held_numbers g x.play.code))
 one_more g k rest x number cells part positive within =
-    let goals : List ℕ = held g x.play.code in
-    let after : List Cell = fold (marked (number + 1) x.weight) cells goals in
+    let goals : List ℕ = held_numbers g x.play.code in
+    let after : List Cell = fold (raised_once (number + 1) x.weight) cells goals in
     let same_length : length after ≡ length cells = length-fold (number + 1) x.weight cells goals in
     let Between : Cell → Type 0 = λ (c : Cell). (pos 0 ≤ℤ c.count) × (c.last ≤ number + 1) × ((c.count +ℤ weight_total rest) ≤ℤ weight_total k) × (c.last ≢ number + 1 → (c.count +ℤ (x.weight +ℤ weight_total rest)) ≤ℤ weight_total k) in
     let before : All Between cells = All-weaker (λ (c : Cell). (pos 0 ≤ℤ c.count) × (c.last ≤ number) × ((c.count +ℤ weight_total (x ∷ rest)) ≤ℤ weight_total k)) Between
@@ -62,7 +62,7 @@ one_more g k rest x number cells part positive within =
       counts = λ n low high.
           let high' : n ≤ length cells = rw (sym same_length) high in
           let here = All-nth (λ (c : Cell). (pos 0 ≤ℤ c.count) × (c.last ≤ number) × ((c.count +ℤ weight_total (x ∷ rest)) ≤ℤ weight_total k)) cells n part.below low high' in
-          let new : (nth cells n no_cell).last ≢ number + 1 = λ e. omega (arith, e, here.1) in
+          let new : (nth cells n no_count).last ≢ number + 1 = λ e. omega (arith, e, here.1) in
           let step = fold_count (number + 1) x.weight cells goals n within low high' new in
           omega (arith, ints, step, part.counts n low high');
     }
@@ -85,7 +85,7 @@ module _ (g : Game) (k : List Ticket) (i : ℕ) (x : Ticket) (cells : List Cell)
   pub room_at : weight_total k ≤ℤ pos (2 ^ 127 - 1) → HasRoom (i + 1) x.weight cells
   room_at fits = room_for g k (drop (i + 1) k) x i cells part_here (All-drop (λ (x : Ticket). pos 1 ≤ℤ x.weight) (i + 1) k weights) fits
 
-  pub part_after : AreWithin cells (held g x.play.code) → HasPart g k (drop (i + 1) k) (i + 1) (fold (marked (i + 1) x.weight) cells (held g x.play.code))
+  pub part_after : AreWithin cells (held_numbers g x.play.code) → HasPart g k (drop (i + 1) k) (i + 1) (fold (raised_once (i + 1) x.weight) cells (held_numbers g x.play.code))
   part_after within = one_more g k (drop (i + 1) k) x i cells part_here (subst (λ (y : Ticket). pos 1 ≤ℤ y.weight) (sym here) (weights i x lt)) within
 
 -- ---- choice by choice

@@ -17,7 +17,7 @@ use Rattle.sg_model.proofs.Values.{prior_total-positive}
 use Rattle.sg_frac.proofs.Reduced.{reduced_form-unique}
 use Rattle.sg_model.proofs.Covers.{weight_total-positive}
 use Rattle.sg_commit.proofs.Worths.{product-positive}
-use Rattle.sg_report.specs.Laws.{over, AnswersAreFirst, TableIsOne, TablesAreWorked}
+use Rattle.sg_report.specs.Laws.{fraction_over, AnswersAreFirst, TableIsOne, TablesAreWorked}
 use Rattle.sg_report.specs.Tables.{is_answer, table_text}
 
 -- ---- the first that passes
@@ -86,7 +86,7 @@ eleven_three = IsGcd-from_mod 11 3 1 (IsGcd-from_mod 3 2 1 (IsGcd-from_mod 2 1 1
 pub tables_are_worked : TablesAreWorked
 unfolding digits
 tables_are_worked = record {
-  one_patrol = record { value = over 2 3; reduced = record { reduced = record { positive = omega (arith, ints); coprime = two_three }; equal = refl }; shown = refl };
-  one_player = record { value = over 11 3; reduced = record { reduced = record { positive = omega (arith, ints); coprime = eleven_three }; equal = refl }; shown = refl };
-  two_players = record { value = over 11 3; reduced = record { reduced = record { positive = omega (arith, ints); coprime = eleven_three }; equal = refl }; shown = refl };
+  one_patrol = record { value = fraction_over 2 3; reduced = record { reduced = record { positive = omega (arith, ints); coprime = two_three }; equal = refl }; shown = refl };
+  one_player = record { value = fraction_over 11 3; reduced = record { reduced = record { positive = omega (arith, ints); coprime = eleven_three }; equal = refl }; shown = refl };
+  two_players = record { value = fraction_over 11 3; reduced = record { reduced = record { positive = omega (arith, ints); coprime = eleven_three }; equal = refl }; shown = refl };
 }

@@ -10,7 +10,7 @@ use Rattle.sg_model.specs.Games.{Game, is_matrix, resource_schedules, schedule_t
 use Rattle.sg_model.specs.Plays.{IsLegal, IsLegalJoint, IsRow, covers, covers_from}
 use Rattle.sg_model.specs.Sums.{nth}
 use Rattle.sg_model.proofs.Sums.{total-same}
-use Rattle.sg_report.specs.Counts.{count_of, holds, targets_from}
+use Rattle.sg_report.specs.Counts.{holding_count, holds, targets_from}
 
 -- the targets of the choices are those that they cover
 targets_cover : (g : Game) (r : ℕ) (cs : List ℕ) (n : ℕ) → list_any (λ x. eqb x n) (targets_from g r cs) ≡ covers_from g r cs n
@@ -20,7 +20,7 @@ targets_cover g r (c ∷ cs) n =
     list_any-append (λ x. eqb x n) here (targets_from g (r + 1) cs) ∙ ap (λ b. list_any (λ x. eqb x n) here || b) (targets_cover g (r + 1) cs n)
 
 -- in security form the count is that of the tickets that cover the target
-pub count_of-cover : (g : Game) (k : List Ticket) (n : ℕ) → is_matrix g ≡ false → count_of g k n ≡ cover_count g k n
+pub count_of-cover : (g : Game) (k : List Ticket) (n : ℕ) → is_matrix g ≡ false → holding_count g k n ≡ cover_count g k n
 count_of-cover g k n s =
     total-same (λ (x : Ticket). cond (holds g x.play.code n) x.weight (pos 0)) (λ (x : Ticket). cond (covers g x.play.code n) x.weight (pos 0)) k
     (λ i d lt. let x : Ticket = slice_index_or k i d in rw s (ap (λ b. cond b x.weight (pos 0)) (targets_cover g 1 x.play.code n)))
@@ -38,7 +38,7 @@ play_is g (i ∷ []) n row = row_is i n
 play_is g (i ∷ j ∷ rest) n row = absurd (omega (arith, row.one))
 
 -- in matrix form it is the weight of the tickets with this row
-pub count_of-row : (g : Game) (k : List Ticket) (n : ℕ) → is_matrix g ≡ true → All (λ (x : Ticket). IsLegal g x.play.code) k → count_of g k n ≡ weight_on k (n ∷ [])
+pub count_of-row : (g : Game) (k : List Ticket) (n : ℕ) → is_matrix g ≡ true → All (λ (x : Ticket). IsLegal g x.play.code) k → holding_count g k n ≡ weight_on k (n ∷ [])
 count_of-row g k n s legal =
     total-same (λ (x : Ticket). cond (holds g x.play.code n) x.weight (pos 0)) (λ (x : Ticket). cond (bytes_eq x.play.code (n ∷ [])) x.weight (pos 0)) k
     (λ i d lt.

@@ -17,7 +17,7 @@ use Rattle.sg_num.specs.declared.step.Wide.{Wide}
 use Rattle.sg_num.specs.declared.step.Op.{Op}
 use Rattle.sg_num.specs.declared.step.Op.TheVariants.{Sum}
 use Rattle.sg_num.specs.Exact.{exact, exact_dot_step, exact_sum, exact_times, fits, result_of}
-use Rattle.sg_commit.specs.ExactSums.{compared, exact_base, exact_dot, exact_sum_a, exact_sum_d, exact_take, exact_worth, first_wide, refusal_or, unless, worth_from, worth_step}
+use Rattle.sg_commit.specs.ExactSums.{compared, exact_base, exact_dot, exact_sum_a, exact_sum_d, exact_take, exact_worth, first_refusal, refusal_or, unless, worth_from, worth_step}
 use Rattle.sg_commit.proofs.ExactSums.{comes, exact_dot-is}
 use Rattle.sg_report.specs.declared.counts.Cell.{Cell}
 use Rattle.sg_report.specs.Counts.{HasCounts}
@@ -55,11 +55,11 @@ dot-signed pay k ok = by (exact_dot pay (pos 0) k) refl ok
 
 -- ---- each of those that are formed in turn
 
-each_ok : (form : ℕ → Result ℤ Wide) (xs : List ℕ) → first_wide form xs ≡ None → All (λ a. IsOk (form a)) xs
+each_ok : (form : ℕ → Result ℤ Wide) (xs : List ℕ) → first_refusal form xs ≡ None → All (λ a. IsOk (form a)) xs
 each_ok form [] e = All-nil (λ a. IsOk (form a))
 each_ok form (a ∷ rest) e = by (each_ok form rest) (form a) refl e
   where
-    by : (first_wide form rest ≡ None → All (λ b. IsOk (form b)) rest) → (r : Result ℤ Wide) → form a ≡ r → refusal_or r (first_wide form rest) ≡ None → All (λ b. IsOk (form b)) (a ∷ rest)
+    by : (first_refusal form rest ≡ None → All (λ b. IsOk (form b)) rest) → (r : Result ℤ Wide) → form a ≡ r → refusal_or r (first_refusal form rest) ≡ None → All (λ b. IsOk (form b)) (a ∷ rest)
     by later (Ok z) q none = All-cons (λ b. IsOk (form b)) a rest (ap is_ok q) (later none)
     by later (Err w) q none = cc
 
@@ -87,8 +87,8 @@ takes_fit g k ok = by (exact_base g k) refl ok
 pub readable : (g : Game) (k : List Ticket) (all : ℤ) (cells : List Cell) → IsOk (exact_base g k) → All (λ (x : Ticket). IsLegal g x.play.code) k → HasCounts g k cells → all ≡ weight_total k → AreReadable g k all cells
 readable g k all cells ok legal counts sum l known =
     let take_ok = All-numbers-at (λ l. IsOk (exact_take g k l)) (length g.types) (takes_fit g k ok) l known.0 known.1 in
-    let first = unless_none (compared g k l) (unless (first_wide (exact_sum_d g k l) (filter (is_best g k l) (numbers (action_count g l)))) (Ok (take_of g k l))) take_ok in
-    let second = unless_none (first_wide (exact_sum_d g k l) (filter (is_best g k l) (numbers (action_count g l)))) (Ok (take_of g k l)) first.1 in
+    let first = unless_none (compared g k l) (unless (first_refusal (exact_sum_d g k l) (filter (is_best g k l) (numbers (action_count g l)))) (Ok (take_of g k l))) take_ok in
+    let second = unless_none (first_refusal (exact_sum_d g k l) (filter (is_best g k l) (numbers (action_count g l)))) (Ok (take_of g k l)) first.1 in
     let attacked = each_ok (exact_sum_a g k l) (numbers (action_count g l)) first.0 in
     let defended = passes_have (is_best g k l) (λ a. IsOk (exact_sum_d g k l a)) (numbers (action_count g l)) (each_ok (exact_sum_d g k l) (filter (is_best g k l) (numbers (action_count g l))) second.0) in
     record {

@@ -9,12 +9,12 @@ use Rattle.sg_model.specs.declared.ticket.Ticket.{Ticket}
 use Rattle.sg_model.specs.Games.{Game, is_matrix}
 use Rattle.sg_model.specs.Plays.{IsLegal}
 use Rattle.sg_model.specs.Commitments.{weight_total}
-use Rattle.sg_model.specs.ReportText.{line}
+use Rattle.sg_model.specs.TextLines.{field_line}
 use Rattle.sg_model.specs.Sums.{nth, numbers}
 use Rattle.sg_model.proofs.Numbers.{All-numbers}
 use Rattle.sg_frac.specs.Fractions.{Fraction, fraction_text}
 use Rattle.sg_report.specs.declared.counts.Cell.{Cell}
-use Rattle.sg_report.specs.Counts.{HasCounts, no_cell}
+use Rattle.sg_report.specs.Counts.{HasCounts, no_count}
 use Rattle.sg_report.specs.Lines.{counted_line, head_text}
 use Rattle.sg_report.specs.Tables.{goal_line, row_line, table_text, target_line, type_line}
 use Rattle.sg_report.proofs.Holding.{count_of-cover, count_of-row}
@@ -25,17 +25,17 @@ flat_map-same f h (x ∷ xs) same = ap₂ (λ (a b : List ℕ). a ++ b) (All-hea
 
 module _ (g : Game) (k : List Ticket) (cells : List Cell) (counts : HasCounts g k cells) (legal : All (λ (x : Ticket). IsLegal g x.play.code) k) where
   -- a line shows what is counted
-  one_goal : (n : ℕ) → 1 ≤ n → n ≤ length g.goals → counted_line g n (nth cells n no_cell).count ≡ goal_line g k n
+  one_goal : (n : ℕ) → 1 ≤ n → n ≤ length g.goals → counted_line g n (nth cells n no_count).count ≡ goal_line g k n
   one_goal n low high =
       let here = counts.counts n low (rw counts.all high) in
-      elim (is_matrix g) as (λ b. is_matrix g ≡ b → line (cond b (codes "row") (codes "target")) (nth g.goals n [] ∷ signed_decimal (nth cells n no_cell).count ∷ []) ≡ cond b (row_line g k n) (target_line g k n)) [
-        | true ↦ (λ e. ap (λ (z : ℤ). line (codes "row") (nth g.goals n [] ∷ signed_decimal z ∷ [])) (here ∙ count_of-row g k n e legal))
-        | false ↦ (λ e. ap (λ (z : ℤ). line (codes "target") (nth g.goals n [] ∷ signed_decimal z ∷ [])) (here ∙ count_of-cover g k n e))
+      elim (is_matrix g) as (λ b. is_matrix g ≡ b → field_line (cond b (codes "row") (codes "target")) (nth g.goals n [] ∷ signed_decimal (nth cells n no_count).count ∷ []) ≡ cond b (row_line g k n) (target_line g k n)) [
+        | true ↦ (λ e. ap (λ (z : ℤ). field_line (codes "row") (nth g.goals n [] ∷ signed_decimal z ∷ [])) (here ∙ count_of-row g k n e legal))
+        | false ↦ (λ e. ap (λ (z : ℤ). field_line (codes "target") (nth g.goals n [] ∷ signed_decimal z ∷ [])) (here ∙ count_of-cover g k n e))
       ] refl
 
-  all_goals : flat_map (λ n. counted_line g n (nth cells n no_cell).count) (numbers (length g.goals)) ≡ flat_map (goal_line g k) (numbers (length g.goals))
-  all_goals = flat_map-same (λ n. counted_line g n (nth cells n no_cell).count) (goal_line g k) (numbers (length g.goals))
-      (All-numbers (λ n. counted_line g n (nth cells n no_cell).count ≡ goal_line g k n) (length g.goals) one_goal)
+  all_goals : flat_map (λ n. counted_line g n (nth cells n no_count).count) (numbers (length g.goals)) ≡ flat_map (goal_line g k) (numbers (length g.goals))
+  all_goals = flat_map-same (λ n. counted_line g n (nth cells n no_count).count) (goal_line g k) (numbers (length g.goals))
+      (All-numbers (λ n. counted_line g n (nth cells n no_count).count ≡ goal_line g k n) (length g.goals) one_goal)
 
   lines_text : flat_map (λ (text : List ℕ). text) (map (goal_line g k) (numbers (length g.goals)) ++ map (type_line g k) (numbers (length g.types)))
       ≡ flat_map (goal_line g k) (numbers (length g.goals)) ++ flat_map (type_line g k) (numbers (length g.types))
@@ -45,12 +45,12 @@ module _ (g : Game) (k : List Ticket) (cells : List Cell) (counts : HasCounts g 
 
   -- what is written in three parts is the table
   pub tabled : (value upper : Fraction) (all : ℤ) (t₀ t₁ t₂ t₃ : List ℕ) → all ≡ weight_total k → t₀ ≡ [] → t₁ ≡ t₀ ++ head_text value upper all
-      → t₂ ≡ t₁ ++ flat_map (λ n. counted_line g n (nth cells n no_cell).count) (numbers (length g.goals)) → t₃ ≡ t₂ ++ flat_map (type_line g k) (numbers (length g.types))
+      → t₂ ≡ t₁ ++ flat_map (λ n. counted_line g n (nth cells n no_count).count) (numbers (length g.goals)) → t₃ ≡ t₂ ++ flat_map (type_line g k) (numbers (length g.types))
       → t₃ ≡ table_text g k value upper
   tabled value upper all t₀ t₁ t₂ t₃ sum empty head goals types =
-      let a : List ℕ = line (codes "value") (fraction_text value ∷ []) in
-      let b : List ℕ = line (codes "upper") (fraction_text upper ∷ []) in
-      let c : List ℕ = line (codes "tickets") (signed_decimal (weight_total k) ∷ []) in
+      let a : List ℕ = field_line (codes "value") (fraction_text value ∷ []) in
+      let b : List ℕ = field_line (codes "upper") (fraction_text upper ∷ []) in
+      let c : List ℕ = field_line (codes "tickets") (signed_decimal (weight_total k) ∷ []) in
       let d : List ℕ = flat_map (goal_line g k) (numbers (length g.goals)) in
       let e : List ℕ = flat_map (type_line g k) (numbers (length g.types)) in
       let first : t₁ ≡ a ++ (b ++ c) = head ∙ ap₂ (λ (t : List ℕ) (z : ℤ). t ++ head_text value upper z) empty sum in

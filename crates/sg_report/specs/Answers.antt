@@ -23,12 +23,12 @@ pub record IsReadable (g : Game) (k : List Ticket) (all : ℤ) (cells : List Cel
   pub defender_fits : (a : ℕ) → IsActionOf g l a → is_best g k l a ≡ true → FitsSigned w128 (sum_d g k l a)
 
 -- a is an action of type l, and none of the first n has a greater sum
-pub record IsTop (g : Game) (k : List Ticket) (l n a : ℕ) : Type 0 where
+pub record IsTopAction (g : Game) (k : List Ticket) (l n a : ℕ) : Type 0 where
   pub known : IsActionOf g l a
   pub top : (b : ℕ) → 1 ≤ b → b ≤ n → sum_a g k l b ≤ℤ sum_a g k l a
 
 -- a is a best action, and none of the best among the first n gives the defender more
-pub record IsTaken (g : Game) (k : List Ticket) (l n a : ℕ) : Type 0 where
+pub record IsTakenAction (g : Game) (k : List Ticket) (l n a : ℕ) : Type 0 where
   pub known : IsActionOf g l a
   pub best : is_best g k l a ≡ true
   pub most : (b : ℕ) → 1 ≤ b → b ≤ n → is_best g k l b ≡ true → sum_d g k l b ≤ℤ sum_d g k l a

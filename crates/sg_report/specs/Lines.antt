@@ -3,20 +3,20 @@ use Rattle.std.specs.Prelude.{ℕ, List, [], ◌∷◌, ◌++◌, ℤ, Option, c
 use Rattle.std.specs.Option.{option_map_or}
 use Rattle.std.specs.Fmt.{signed_decimal}
 use Rattle.sg_model.specs.Games.{Game, attacker, is_matrix}
-use Rattle.sg_model.specs.ReportText.{line}
+use Rattle.sg_model.specs.TextLines.{field_line}
 use Rattle.sg_model.specs.Sums.{nth}
 use Rattle.sg_frac.specs.Fractions.{Fraction, fraction_text}
 use Rattle.sg_game.specs.Counts.{action_name}
 
 -- target or row n with its count
 abbrev pub counted_line : Game → ℕ → ℤ → List ℕ
-counted_line g n count = line (if is_matrix g then codes "row" else codes "target") (nth g.goals n [] ∷ signed_decimal count ∷ [])
+counted_line g n count = field_line (if is_matrix g then codes "row" else codes "target") (nth g.goals n [] ∷ signed_decimal count ∷ [])
 
 -- type l with the action that it takes
 abbrev pub answer_line : Game → ℕ → Option ℕ → List ℕ
-answer_line g l answer = line (codes "type") ((attacker g l).name ∷ codes "attacks" ∷ option_map_or (action_name g l) answer [] ∷ [])
+answer_line g l answer = field_line (codes "type") ((attacker g l).name ∷ codes "attacks" ∷ option_map_or (action_name g l) answer [] ∷ [])
 
 -- the lines above those of the targets
 abbrev pub head_text : Fraction → Fraction → ℤ → List ℕ
 head_text value upper total =
-    line (codes "value") (fraction_text value ∷ []) ++ (line (codes "upper") (fraction_text upper ∷ []) ++ line (codes "tickets") (signed_decimal total ∷ []))
+    field_line (codes "value") (fraction_text value ∷ []) ++ (field_line (codes "upper") (fraction_text upper ∷ []) ++ field_line (codes "tickets") (signed_decimal total ∷ []))

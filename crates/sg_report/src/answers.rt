@@ -11,8 +11,8 @@ ghost use Rattle.sg_model.specs.Plays.{IsLegal, pay_a, pay_d};
 ghost use Rattle.sg_model.specs.Sums.{nth, total};
 ghost use Rattle.sg_model.specs.Commitments.{is_best, sum_a, sum_d};
 ghost use Rattle.sg_game.specs.Counts.{IsActionOf, IsGoalOf, IsTypeOf};
-ghost use Rattle.sg_report.specs.Answers.{IsReadable, IsTaken, IsTop, mixed};
-ghost use Rattle.sg_report.specs.Counts.{no_cell};
+ghost use Rattle.sg_report.specs.Answers.{IsReadable, IsTakenAction, IsTopAction, mixed};
+ghost use Rattle.sg_report.specs.Counts.{no_count};
 ghost use Rattle.sg_report.specs.Tables.{answer, is_answer};
 
 use crate::counts::Counts;
@@ -43,7 +43,7 @@ fn gain(covered: i64, uncovered: i64) -> i128
 /// What is left of what a target pays over all tickets.
 fn target_sum(counts: &Counts, target: u16, covered: i64, uncovered: i64) -> i128
     requires known { (1 ≤ target) × (target ≤ length counts.now.cells.items) }
-    ensures { result ≡ int_wrap w128 (mixed counts.now.total (nth counts.now.cells.items target no_cell).count covered uncovered) }
+    ensures { result ≡ int_wrap w128 (mixed counts.now.total (nth counts.now.cells.items target no_count).count covered uncovered) }
 {
     let cell = &counts.cells[target as usize - 1];
     let base = with_pay(&0, &counts.total, &i128::from(uncovered));
@@ -84,7 +84,7 @@ fn defender_pays(game: &Game, l: u8, a: u16) -> Pays
 /// What is left of what a target with these payoffs pays over all tickets.
 fn pays_sum(counts: &Counts, target: u16, pays: &Pays) -> i128
     requires known { (1 ≤ target) × (target ≤ length counts.now.cells.items) }
-    ensures { result ≡ int_wrap w128 (mixed counts.now.total (nth counts.now.cells.items target no_cell).count pays.now.covered pays.now.uncovered) }
+    ensures { result ≡ int_wrap w128 (mixed counts.now.total (nth counts.now.cells.items target no_count).count pays.now.covered pays.now.uncovered) }
 {
     target_sum(counts, target, pays.covered, pays.uncovered)
 }
@@ -169,7 +169,7 @@ fn gives_more(game: &Game, tickets: &[Ticket], counts: &Counts, l: u8, a: u16, b
 /// An action of type `l` that none exceeds.
 fn top_action(game: &Game, tickets: &[Ticket], counts: &Counts, l: u8) -> u16
     requires { IsReadable game.now tickets.now counts.now.total counts.now.cells.items l }
-    ensures { IsTop game.now tickets.now l (action_count game.now l) result }
+    ensures { IsTopAction game.now tickets.now l (action_count game.now l) result }
 {
     let mut top = 1;
     for i in 1..game.actions(l) {
@@ -184,7 +184,7 @@ fn top_action(game: &Game, tickets: &[Ticket], counts: &Counts, l: u8) -> u16
 fn is_as_good(game: &Game, tickets: &[Ticket], counts: &Counts, l: u8, a: u16, top: u16) -> bool
     requires readable { IsReadable game.now tickets.now counts.now.total counts.now.cells.items l }
     requires known { IsActionOf game.now l a }
-    requires top { IsTop game.now tickets.now l (action_count game.now l) top }
+    requires top { IsTopAction game.now tickets.now l (action_count game.now l) top }
     ensures { result ≡ is_best game.now tickets.now l a }
 {
     !gets_more(game, tickets, counts, l, top, a)
@@ -201,10 +201,10 @@ fn taken_with(
     top: u16,
 ) -> u16
     requires readable { IsReadable game.now tickets.now counts.now.total counts.now.cells.items l }
-    requires taken { IsTaken game.now tickets.now l (a - 1) taken }
+    requires taken { IsTakenAction game.now tickets.now l (a - 1) taken }
     requires known { IsActionOf game.now l a }
-    requires top { IsTop game.now tickets.now l (action_count game.now l) top }
-    ensures { IsTaken game.now tickets.now l a result }
+    requires top { IsTopAction game.now tickets.now l (action_count game.now l) top }
+    ensures { IsTakenAction game.now tickets.now l a result }
 {
     if is_as_good(game, tickets, counts, l, a, top)
         && gives_more(game, tickets, counts, l, a, taken)
@@ -218,8 +218,8 @@ fn taken_with(
 /// A best action that gives the defender the most.
 fn taken_action(game: &Game, tickets: &[Ticket], counts: &Counts, l: u8, top: u16) -> u16
     requires readable { IsReadable game.now tickets.now counts.now.total counts.now.cells.items l }
-    requires top { IsTop game.now tickets.now l (action_count game.now l) top }
-    ensures { IsTaken game.now tickets.now l (action_count game.now l) result }
+    requires top { IsTopAction game.now tickets.now l (action_count game.now l) top }
+    ensures { IsTakenAction game.now tickets.now l (action_count game.now l) result }
 {
     let mut taken = top;
     for i in 0..game.actions(l) {
@@ -240,8 +240,8 @@ fn may_answer(
 ) -> bool
     requires readable { IsReadable game.now tickets.now counts.now.total counts.now.cells.items l }
     requires known { IsActionOf game.now l a }
-    requires top { IsTop game.now tickets.now l (action_count game.now l) top }
-    requires taken { IsTaken game.now tickets.now l (action_count game.now l) taken }
+    requires top { IsTopAction game.now tickets.now l (action_count game.now l) top }
+    requires taken { IsTakenAction game.now tickets.now l (action_count game.now l) taken }
     ensures { result ≡ is_answer game.now tickets.now l a }
 {
     is_as_good(game, tickets, counts, l, a, top) && !gives_more(game, tickets, counts, l, taken, a)

@@ -8,7 +8,7 @@ ghost use Rattle.sg_model.specs.Games.{is_matrix, resource_schedules, schedule_t
 ghost use Rattle.sg_model.specs.Plays.{IsLegal};
 ghost use Rattle.sg_model.specs.Sums.{nth};
 ghost use Rattle.sg_game.specs.Counts.{IsGoalOf, IsResourceOf};
-ghost use Rattle.sg_report.specs.Counts.{AreWeights, AreWithin, HasCounts, HasRoom, held, marked, no_cell, targets_from};
+ghost use Rattle.sg_report.specs.Counts.{AreWeights, AreWithin, HasCounts, HasRoom, held_numbers, raised_once, no_count, targets_from};
 
 use sg_game::Game;
 use sg_model::{Kind, Ticket};
@@ -24,7 +24,7 @@ pub(crate) struct Cell {
 /// The cell at a place.
 fn cell_at(cells: &[Cell], i: usize) -> Cell
     requires { i < length cells.now }
-    ensures { result ≡ slice_index_or cells.now i no_cell }
+    ensures { result ≡ slice_index_or cells.now i no_count }
 {
     cells[i]
 }
@@ -34,7 +34,7 @@ fn mark(cells: &mut [Cell], goal: u16, number: usize, ticket: &Ticket)
     requires goal_known { (1 ≤ goal) × (goal ≤ length cells.old) }
     requires weight { pos 0 ≤ℤ ticket.now.weight }
     requires room { HasRoom number ticket.now.weight cells.old }
-    ensures { cells.new ≡ marked number ticket.now.weight cells.old goal }
+    ensures { cells.new ≡ raised_once number ticket.now.weight cells.old goal }
 {
     let i = goal as usize - 1;
     let cell = cell_at(cells, i);
@@ -52,7 +52,7 @@ fn mark_all(cells: &mut [Cell], goals: &[u16], number: usize, ticket: &Ticket)
     requires goals_known { AreWithin cells.old goals.now }
     requires weight { pos 0 ≤ℤ ticket.now.weight }
     requires room { HasRoom number ticket.now.weight cells.old }
-    ensures cells { cells.new ≡ fold (marked number ticket.now.weight) cells.old goals.now }
+    ensures cells { cells.new ≡ fold (raised_once number ticket.now.weight) cells.old goals.now }
     ensures length { length cells.new ≡ length cells.old }
     ensures room { HasRoom number ticket.now.weight cells.new }
 {
@@ -75,7 +75,7 @@ fn mark_choice(
     requires all { length cells.old ≡ length game.now.goals }
     requires weight { pos 0 ≤ℤ ticket.now.weight }
     requires room { HasRoom number ticket.now.weight cells.old }
-    ensures cells { cells.new ≡ fold (marked number ticket.now.weight) cells.old (schedule_targets game.now (nth (resource_schedules game.now resource) choice 0)) }
+    ensures cells { cells.new ≡ fold (raised_once number ticket.now.weight) cells.old (schedule_targets game.now (nth (resource_schedules game.now resource) choice 0)) }
     ensures within { AreWithin cells.old (schedule_targets game.now (nth (resource_schedules game.now resource) choice 0)) }
     ensures length { length cells.new ≡ length cells.old }
     ensures room { HasRoom number ticket.now.weight cells.new }
@@ -94,7 +94,7 @@ fn mark_joint(cells: &mut [Cell], game: &Game, number: usize, ticket: &Ticket)
     requires all { length cells.old ≡ length game.now.goals }
     requires weight { pos 0 ≤ℤ ticket.now.weight }
     requires room { HasRoom number ticket.now.weight cells.old }
-    ensures cells { cells.new ≡ fold (marked number ticket.now.weight) cells.old (targets_from game.now 1 ticket.now.play.code) }
+    ensures cells { cells.new ≡ fold (raised_once number ticket.now.weight) cells.old (targets_from game.now 1 ticket.now.play.code) }
     ensures within { AreWithin cells.old (targets_from game.now 1 ticket.now.play.code) }
 {
     let code = ticket.play.code.as_slice();
@@ -109,8 +109,8 @@ fn mark_play(cells: &mut [Cell], game: &Game, number: usize, ticket: &Ticket)
     requires all { length cells.old ≡ length game.now.goals }
     requires weight { pos 0 ≤ℤ ticket.now.weight }
     requires room { HasRoom number ticket.now.weight cells.old }
-    ensures cells { cells.new ≡ fold (marked number ticket.now.weight) cells.old (held game.now ticket.now.play.code) }
-    ensures within { AreWithin cells.old (held game.now ticket.now.play.code) }
+    ensures cells { cells.new ≡ fold (raised_once number ticket.now.weight) cells.old (held_numbers game.now ticket.now.play.code) }
+    ensures within { AreWithin cells.old (held_numbers game.now ticket.now.play.code) }
 {
     match game.kind() {
         Kind::Security => mark_joint(cells, game, number, ticket),
@@ -120,7 +120,7 @@ fn mark_play(cells: &mut [Cell], game: &Game, number: usize, ticket: &Ticket)
 
 /// No count yet of so many targets or rows.
 fn no_cells(alloc: Global, goals: u16) -> Result<Vec<Cell>, AllocError>
-    ensures { IfOk result (λ cells. cells.items ≡ replicate goals no_cell) }
+    ensures { IfOk result (λ cells. cells.items ≡ replicate goals no_count) }
 {
     let mut cells = Vec::new(alloc);
     for i in 0..goals {
@@ -144,7 +144,7 @@ fn count_all(cells: &mut [Cell], game: &Game, tickets: &[Ticket])
     requires legal { All (λ (x : Ticket). IsLegal game.now x.play.code) tickets.now }
     requires weights { AreWeights tickets.now }
     requires total { weight_total tickets.now ≤ℤ pos (2 ^ 127 - 1) }
-    requires none { cells.old ≡ replicate (length game.now.goals) no_cell }
+    requires none { cells.old ≡ replicate (length game.now.goals) no_count }
     ensures { HasCounts game.now tickets.now cells.new }
 {
     for i in 0..tickets.len() {

@@ -2,12 +2,12 @@
 
 ghost use Rattle.std.specs.Prelude.{◌≡◌, ◌++◌, Err, IfErr, IfOk, IsErrAnd, IsOk, OnOk, flat_map, length};
 ghost use Rattle.sg_model.specs.Sums.{numbers};
-ghost use Rattle.sg_commit.specs.Committed.{AreLegal};
+ghost use Rattle.sg_model.specs.Commitments.{AreLegal};
 ghost use Rattle.sg_commit.specs.ExactSums.{exact_base};
 ghost use Rattle.sg_report.specs.Answers.{AreReadable};
 ghost use Rattle.sg_num.specs.declared.step.Wide.{Wide};
 ghost use Rattle.sg_report.specs.Lines.{head_text};
-ghost use Rattle.sg_report.specs.Tables.{IsTable, table_text, type_line};
+ghost use Rattle.sg_report.specs.Tables.{IsReportTable, table_text, type_line};
 
 use crate::answers::answer_of;
 use crate::counts::{Counts, counts_of};
@@ -94,7 +94,7 @@ pub fn show_text(
     upper: Frac,
 ) -> Result<Vec<u8>, ShowFault>
     requires legal { AreLegal game.now k.now.tickets }
-    ensures text { IfOk result (λ text. IsTable game.now k.now.tickets upper text.items) }
+    ensures text { IfOk result (λ text. IsReportTable game.now k.now.tickets upper text.items) }
     ensures fits { IfOk result (λ text. IsOk (exact_base game.now k.now.tickets)) }
     ensures wide { (w : Wide) → (exact_base game.now k.now.tickets ≡ Err w) → IsErrAnd result (λ fault. fault ≡ ShowFault.Wide w) }
     ensures cause { IfErr result (λ fault. (w : Wide) → (fault ≡ ShowFault.Wide w) → (exact_base game.now k.now.tickets ≡ Err w)) }

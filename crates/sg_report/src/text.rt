@@ -3,11 +3,11 @@
 ghost use Rattle.std.specs.Prelude.{◌≡◌, ◌≤◌, ◌++◌, [], ◌∷◌, true, false, IfSome, OnOk, codes, flat_map, length};
 ghost use Rattle.std.specs.Fmt.{signed_decimal};
 ghost use Rattle.sg_model.specs.Games.{attacker, is_matrix};
-ghost use Rattle.sg_model.specs.ReportText.{line};
+ghost use Rattle.sg_model.specs.TextLines.{field_line};
 ghost use Rattle.sg_model.specs.Sums.{nth, numbers};
 ghost use Rattle.sg_frac.specs.Fractions.{fraction_text};
 ghost use Rattle.sg_game.specs.Counts.{IsActionOf, IsGoalOf, IsTypeOf, action_name};
-ghost use Rattle.sg_report.specs.Counts.{no_cell};
+ghost use Rattle.sg_report.specs.Counts.{no_count};
 ghost use Rattle.sg_report.specs.Lines.{answer_line, counted_line};
 
 use crate::counts::{Cell, goals_of};
@@ -41,7 +41,7 @@ pub(crate) fn put_fraction_line(
     word: &[u8],
     fraction: &Frac,
 ) -> Result<(), AllocError>
-    ensures { OnOk result (text.new.items ≡ text.old.items ++ line word.now (fraction_text fraction.now ∷ [])) }
+    ensures { OnOk result (text.new.items ≡ text.old.items ++ field_line word.now (fraction_text fraction.now ∷ [])) }
 {
     let field = fraction.text(alloc)?;
     text.extend_from_slice(word)?;
@@ -52,7 +52,7 @@ pub(crate) fn put_fraction_line(
 
 /// Adds the line with the number of tickets.
 pub(crate) fn put_tickets_line(text: &mut Vec<u8>, total: &i128) -> Result<(), AllocError>
-    ensures { OnOk result (text.new.items ≡ text.old.items ++ line (codes "tickets") (signed_decimal total.now ∷ [])) }
+    ensures { OnOk result (text.new.items ≡ text.old.items ++ field_line (codes "tickets") (signed_decimal total.now ∷ [])) }
 {
     text.extend_from_slice(b"tickets")?;
     put_number(text, *total)?;
@@ -67,7 +67,7 @@ fn put_count_line(
     name: &str,
     cell: &Cell,
 ) -> Result<(), AllocError>
-    ensures { OnOk result (text.new.items ≡ text.old.items ++ line word.now (name.now ∷ signed_decimal cell.now.count ∷ [])) }
+    ensures { OnOk result (text.new.items ≡ text.old.items ++ field_line word.now (name.now ∷ signed_decimal cell.now.count ∷ [])) }
 {
     text.extend_from_slice(word)?;
     put_field(text, name.as_bytes())?;
@@ -95,7 +95,7 @@ pub(crate) fn put_goal_lines(
 ) -> Result<(), AllocError>
     requires all { length cells.now ≡ length game.now.goals }
     ensures { OnOk result (text.new.items ≡ text.old.items
-        ++ flat_map (λ n. counted_line game.now n (nth cells.now n no_cell).count) (numbers (length game.now.goals))) }
+        ++ flat_map (λ n. counted_line game.now n (nth cells.now n no_count).count) (numbers (length game.now.goals))) }
 {
     for n in 0..goals_of(game) {
         put_goal_line(text, game, n + 1, &cells[n as usize])?;

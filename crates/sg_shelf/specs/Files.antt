@@ -6,14 +6,14 @@ abbrev pub Files : Type 0
 Files = List (List ℕ × List ℕ)
 
 -- the bytes under a name
-abbrev pub held : Files → List ℕ → Option (List ℕ)
-held [] name = None
-held (file ∷ files) name = if bytes_eq file.0 name then Some file.1 else held files name
+abbrev pub bytes_under : Files → List ℕ → Option (List ℕ)
+bytes_under [] name = None
+bytes_under (file ∷ files) name = if bytes_eq file.0 name then Some file.1 else bytes_under files name
 
 -- The bytes stand under the name, where the files are told.
 abbrev pub MayHold : Option Files → List ℕ → List ℕ → Type 0
 MayHold None name bytes = Unit {0}
-MayHold (Some files) name bytes = held files name ≡ Some bytes
+MayHold (Some files) name bytes = bytes_under files name ≡ Some bytes
 
 -- A read of the name up to the limit may give these bytes.
 pub record Reads (files : Option Files) (name : List ℕ) (limit : ℕ) (bytes : List ℕ) : Type 0 where
@@ -23,9 +23,9 @@ pub record Reads (files : Option Files) (name : List ℕ) (limit : ℕ) (bytes :
 -- The files are told, and none has the name.
 abbrev pub IsMissing : Option Files → List ℕ → Type 0
 IsMissing None name = ⊥
-IsMissing (Some files) name = held files name ≡ None
+IsMissing (Some files) name = bytes_under files name ≡ None
 
 -- The files are told, and the one with the name has more bytes than the limit.
 abbrev pub IsLong : Option Files → List ℕ → ℕ → Type 0
 IsLong None name limit = ⊥
-IsLong (Some files) name limit = IsSomeAnd (held files name) (λ bytes. limit < length bytes)
+IsLong (Some files) name limit = IsSomeAnd (bytes_under files name) (λ bytes. limit < length bytes)

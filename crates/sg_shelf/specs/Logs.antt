@@ -16,16 +16,16 @@ abbrev pub Log : Type 0
 Log = List Entry
 
 -- these, in one record
-abbrev pub entry : List ℕ → ℕ → Outcome → Entry
-entry name limit outcome = record { name = name; limit = limit; outcome = outcome }
+abbrev pub logged_read : List ℕ → ℕ → Outcome → Entry
+logged_read name limit outcome = record { name = name; limit = limit; outcome = outcome }
 
 -- the log that readings are
 abbrev pub log_of : List Reading → Log
-log_of readings = map (λ (r : Reading). entry (string_bytes r.name) r.limit r.outcome) readings
+log_of readings = map (λ (r : Reading). logged_read (string_bytes r.name) r.limit r.outcome) readings
 
 -- the log with one more entry at its end
 abbrev pub logged : Log → List ℕ → ℕ → Outcome → Log
-logged log name limit outcome = log ++ entry name limit outcome ∷ []
+logged log name limit outcome = log ++ logged_read name limit outcome ∷ []
 
 -- how an error answers: want of memory is no answer
 abbrev pub outcome_of_error : ShelfError → Option Outcome

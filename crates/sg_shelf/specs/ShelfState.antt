@@ -4,7 +4,7 @@ use Rattle.sg_shelf.specs.declared.shelf.ShelfError.{ShelfError}
 use Rattle.sg_shelf.specs.declared.shelf.ShelfError.TheVariants.{Failed, TooLong, Memory}
 use Rattle.sg_shelf.specs.Faults.{raised}
 use Rattle.sg_shelf.specs.Logs.{Log, log_with, outcome_of}
-use Rattle.sg_shelf.specs.Files.{Files, held}
+use Rattle.sg_shelf.specs.Files.{Files, bytes_under}
 use Rattle.sg_shelf.specs.Calls.{is_spent, is_to_fail}
 
 -- the files, the numbers of the reads that are to fail, the reads that were answered, how many these are, and the faults so far
@@ -26,7 +26,7 @@ answer_of (Some bytes) limit = if nat_lt limit (length bytes) then Err (TooLong 
 
 -- what the next read answers, if there is memory for it
 abbrev pub read_answer : ShelfState → List ℕ → ℕ → Result (List ℕ) ShelfError
-read_answer shelf name limit = if read_is_fault shelf then Err Failed else answer_of (held shelf.files name) limit
+read_answer shelf name limit = if read_is_fault shelf then Err Failed else answer_of (bytes_under shelf.files name) limit
 
 -- the shelf after the read: one more entry of the log, one more call, and one more fault where it is one
 abbrev pub after_read : ShelfState → List ℕ → ℕ → ShelfState

@@ -1,7 +1,7 @@
 //! A shelf in memory.
 
 ghost use Rattle.std.specs.Prelude.{◌≡◌, ◌≢◌, [], ◌-◌, ◌^◌, ◌≤◌, Ok, Err, IfOk, OnOk, IfErr, Some, option_copied};
-ghost use Rattle.sg_shelf.specs.Files.{held};
+ghost use Rattle.sg_shelf.specs.Files.{bytes_under};
 ghost use Rattle.sg_shelf.specs.Logs.{log_of};
 ghost use Rattle.sg_shelf.specs.NamedFiles.{files_of};
 ghost use Rattle.sg_shelf.specs.ShelfState.{ShelfState, answer_of, read_is_fault, read_answer, after_read, ReadFails};
@@ -73,7 +73,7 @@ impl MemShelf {
 
 // The bytes of the first file with the name.
 fn bytes_of<'a>(files: &'a [NamedBytes], name: &str) -> Option<&'a [u8]>
-    ensures { option_copied result ≡ held (files_of files.now) name.now }
+    ensures { option_copied result ≡ bytes_under (files_of files.now) name.now }
 {
     for file in files {
         if file.name.as_str() == name {

@@ -10,10 +10,9 @@ use Rattle.sg_model.specs.Commitments.{is_best, take_of, weight_total}
 use Rattle.sg_num.specs.declared.step.Op.{Op}
 use Rattle.sg_num.specs.declared.step.Op.TheVariants.{Sum, Times}
 use Rattle.sg_num.specs.declared.step.Wide.{Wide}
-use Rattle.sg_num.specs.Exact.{and_then, exact, exact_dot_step, exact_sum, exact_times, fits, result_of}
-use Rattle.sg_commit.specs.ExactSums.{compared, exact_base, exact_dot, exact_sum_a, exact_sum_d, exact_take, exact_worth, first_wide, refusal_or, unless, worth_from, worth_step}
+use Rattle.sg_num.specs.Exact.{and_then, exact, exact_dot_step, exact_sum, exact_times, fits, result_of, Fits}
+use Rattle.sg_commit.specs.ExactSums.{compared, exact_base, exact_dot, exact_sum_a, exact_sum_d, exact_take, exact_worth, first_refusal, refusal_or, unless, worth_from, worth_step}
 use Rattle.sg_commit.proofs.Standing.{All-back, All-front}
-use Rattle.sg_bounds.specs.Accepted.{Fits}
 use Rattle.sg_bounds.specs.Sizes.{pay_sums, take_sums, value_sums, worth_sums}
 use Rattle.sg_solve.specs.Sums.{ValueSumsAgree}
 
@@ -43,11 +42,11 @@ dot_formed pays acc (x ∷ xs) h =
 
 -- none of these is refused
 none_wide : (form : ℕ → Result ℤ Wide) (sums : ℕ → List ℤ) → ((a : ℕ) → All Fits (sums a) → Formed (form a)) → (actions : List ℕ) → All Fits (flat_map sums actions)
-    → first_wide form actions ≡ None
+    → first_refusal form actions ≡ None
 none_wide form sums each [] h = refl
 none_wide form sums each (a ∷ rest) h =
     let here = each a (All-front Fits (sums a) (flat_map sums rest) h) in
-    ap (λ r. refusal_or r (first_wide form rest)) here.1 ∙ none_wide form sums each rest (All-back Fits (sums a) (flat_map sums rest) h)
+    ap (λ r. refusal_or r (first_refusal form rest)) here.1 ∙ none_wide form sums each rest (All-back Fits (sums a) (flat_map sums rest) h)
 
 module _ (g : Game) (k : List Ticket) where
   take_formed : (l : ℕ) → All Fits (take_sums g k l) → exact_take g k l ≡ Ok (take_of g k l)
@@ -58,9 +57,9 @@ module _ (g : Game) (k : List Ticket) where
       let losses : List ℤ = flat_map (λ a. pay_sums (λ play. pay_d g l play a) (pos 0) k) best in
       let first : compared g k l ≡ None =
       none_wide (exact_sum_a g k l) (λ a. pay_sums (λ play. pay_a g l play a) (pos 0) k) (λ a. dot_formed (λ play. pay_a g l play a) (pos 0) k) actions (All-front Fits gains losses h) in
-      let second : first_wide (exact_sum_d g k l) best ≡ None =
+      let second : first_refusal (exact_sum_d g k l) best ≡ None =
       none_wide (exact_sum_d g k l) (λ a. pay_sums (λ play. pay_d g l play a) (pos 0) k) (λ a. dot_formed (λ play. pay_d g l play a) (pos 0) k) best (All-back Fits gains losses h) in
-      ap (λ o. unless o (unless (first_wide (exact_sum_d g k l) best) (Ok (take_of g k l)))) first ∙ ap (λ o. unless o (Ok (take_of g k l))) second
+      ap (λ o. unless o (unless (first_refusal (exact_sum_d g k l) best) (Ok (take_of g k l)))) first ∙ ap (λ o. unless o (Ok (take_of g k l))) second
 
   worth_formed : (acc : ℤ) (types : List ℕ) → All Fits (worth_sums g k acc types) → Formed (worth_from g k acc types)
   worth_formed acc [] h = (acc, refl)
@@ -133,11 +132,11 @@ dot_fits pays acc (x ∷ xs) h =
     All-cons Fits term ((acc +ℤ term) ∷ pay_sums pays (acc +ℤ term) xs) product
     (All-cons Fits (acc +ℤ term) (pay_sums pays (acc +ℤ term) xs) sum (dot_fits pays (acc +ℤ term) xs later))
 
-each_fits : (form : ℕ → Result ℤ Wide) (sums : ℕ → List ℤ) → ((a : ℕ) → is_ok (form a) ≡ true → All Fits (sums a)) → (actions : List ℕ) → first_wide form actions ≡ None → All Fits (flat_map sums actions)
+each_fits : (form : ℕ → Result ℤ Wide) (sums : ℕ → List ℤ) → ((a : ℕ) → is_ok (form a) ≡ true → All Fits (sums a)) → (actions : List ℕ) → first_refusal form actions ≡ None → All Fits (flat_map sums actions)
 each_fits form sums each [] h = All-nil Fits
 each_fits form sums each (a ∷ rest) h =
-    All-append Fits (sums a) (flat_map sums rest) (each a (ok_of_refusal (form a) (first_wide form rest) h))
-    (each_fits form sums each rest (none_of_refusal (form a) (first_wide form rest) h))
+    All-append Fits (sums a) (flat_map sums rest) (each a (ok_of_refusal (form a) (first_refusal form rest) h))
+    (each_fits form sums each rest (none_of_refusal (form a) (first_refusal form rest) h))
 
 module _ (g : Game) (k : List Ticket) where
   take_fits : (l : ℕ) → is_ok (exact_take g k l) ≡ true → All Fits (take_sums g k l)
@@ -146,9 +145,9 @@ module _ (g : Game) (k : List Ticket) where
       let best : List ℕ = filter (is_best g k l) actions in
       let gains : List ℤ = flat_map (λ a. pay_sums (λ play. pay_a g l play a) (pos 0) k) actions in
       let losses : List ℤ = flat_map (λ a. pay_sums (λ play. pay_d g l play a) (pos 0) k) best in
-      let rest : Result ℤ Wide = unless (first_wide (exact_sum_d g k l) best) (Ok (take_of g k l)) in
+      let rest : Result ℤ Wide = unless (first_refusal (exact_sum_d g k l) best) (Ok (take_of g k l)) in
       let first = none_of_unless (compared g k l) rest h in
-      let second = none_of_unless (first_wide (exact_sum_d g k l) best) (Ok (take_of g k l)) (ok_of_unless (compared g k l) rest h) in
+      let second = none_of_unless (first_refusal (exact_sum_d g k l) best) (Ok (take_of g k l)) (ok_of_unless (compared g k l) rest h) in
       All-append Fits gains losses
       (each_fits (exact_sum_a g k l) (λ a. pay_sums (λ play. pay_a g l play a) (pos 0) k) (λ a. dot_fits (λ play. pay_a g l play a) (pos 0) k) actions first)
       (each_fits (exact_sum_d g k l) (λ a. pay_sums (λ play. pay_d g l play a) (pos 0) k) (λ a. dot_fits (λ play. pay_d g l play a) (pos 0) k) best second)

@@ -10,7 +10,7 @@ use Rattle.sg_model.specs.Sums.{nth}
 use Rattle.sg_model.specs.Games.{Game, resource_count, prior_total}
 use Rattle.sg_model.specs.Limits.{IsGame, is_scaled}
 use Rattle.sg_model.specs.Plays.{IsLegal, IsLegalJoint}
-use Rattle.sg_model.specs.Commitments.{IsValue, cover_count, weight_total}
+use Rattle.sg_model.specs.Commitments.{IsValue, cover_count, weight_total, AreLegal}
 use Rattle.sg_model.specs.Optimality.{IsOptimal}
 use Rattle.sg_model.specs.Origami.{IsOrigami, AreLevelTickets, count_at}
 use Rattle.sg_model.proofs.Ints.{v, times, same_by, cancel}
@@ -21,7 +21,7 @@ use Rattle.sg_num.specs.declared.step.Wide.{Wide}
 use Rattle.sg_frac.specs.Fractions.{Fraction, IsReduced}
 use Rattle.sg_origami.specs.declared.filling.Filling.{Filling}
 use Rattle.sg_origami.specs.Fillings.{IsFilling}
-use Rattle.sg_commit.specs.Committed.{AreLegal, Committed, IsCommitted}
+use Rattle.sg_commit.specs.Committed.{Committed, IsCommitted}
 use Rattle.sg_commit.specs.ExactSums.{exact_base}
 use Rattle.sg_commit.proofs.Small.{scaled-small, small-value}
 use Rattle.sg_split.specs.Laying.{AreCounts}

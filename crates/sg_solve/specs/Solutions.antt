@@ -4,7 +4,7 @@ use Rattle.std.specs.Int.{◌∣◌}
 use Rattle.sg_model.specs.declared.level.Level.{Level}
 use Rattle.sg_model.specs.declared.ticket.Ticket.{Ticket}
 use Rattle.sg_model.specs.Games.{Game, resource_count}
-use Rattle.sg_model.specs.Commitments.{IsCommitment, IsValue, weight_total}
+use Rattle.sg_model.specs.Commitments.{IsCommitment, IsValue, weight_total, AreLowest}
 use Rattle.sg_model.specs.Optimality.{IsOptimal}
 use Rattle.sg_model.specs.Origami.{IsWater, AreLevelTickets}
 use Rattle.sg_frac.specs.Fractions.{Fraction, IsReduced}
@@ -17,10 +17,6 @@ use Rattle.sg_tree.specs.declared.fact.Fact.TheVariants.{Water}
 use Rattle.sg_tree.specs.declared.tree.Tree.TheVariants.{Closed}
 use Rattle.sg_tree.specs.declared.report.Ending.TheVariants.{Optimal}
 use Rattle.sg_tree.specs.declared.report.Report.{Report}
-
--- no number above 1 divides all the weights
-abbrev pub AreLowest : List Ticket → Type 0
-AreLowest k = (d : ℕ) → All (λ (x : Ticket). d ∣ unsigned_abs x.weight) k → d ≡ 1
 
 -- the tickets are a commitment, with their total, in lowest terms
 pub record AreRightTickets (g : Game) (c : Claimed) : Type 0 where

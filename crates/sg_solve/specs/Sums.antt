@@ -3,7 +3,7 @@ use Rattle.std.specs.Prelude.{◌↔◌, List, All, IsOk}
 use Rattle.sg_model.specs.declared.ticket.Ticket.{Ticket}
 use Rattle.sg_model.specs.Games.{Game}
 use Rattle.sg_commit.specs.ExactSums.{exact_base}
-use Rattle.sg_bounds.specs.Accepted.{Fits}
+use Rattle.sg_num.specs.Exact.{Fits}
 use Rattle.sg_bounds.specs.Sizes.{value_sums}
 
 -- the sums that a report states under the value of tickets fit exactly where no operation under their value leaves 128 bits

@@ -2,9 +2,9 @@
 
 ghost use Rattle.std.specs.Prelude.{◌≡◌, ◌^◌, true, pos, ◌≤ℤ◌, IfOk};
 ghost use Rattle.sg_model.specs.Limits.{is_scaled};
-ghost use Rattle.sg_model.specs.Commitments.{IsValue};
+ghost use Rattle.sg_model.specs.Commitments.{IsValue, AreLegal};
 ghost use Rattle.sg_frac.specs.Fractions.{IsReduced};
-ghost use Rattle.sg_commit.specs.Committed.{AreLegal, IsCommitted};
+ghost use Rattle.sg_commit.specs.Committed.{IsCommitted};
 ghost use Rattle.sg_origami.specs.Fillings.{IsFilling};
 ghost use Rattle.sg_split.specs.Wraps.{IsWrap};
 ghost use Rattle.sg_solve.specs.Solutions.{IsOptimalReport};

@@ -19,11 +19,11 @@ use Rattle.sg_model.proofs.Scaled.{weight_total-scaled}
 use Rattle.sg_commit.specs.Committed.{Committed, IsCommitted}
 use Rattle.sg_commit.proofs.Kept.{has_weight, kept, scaled-passing}
 use Rattle.sg_commit.proofs.SharedTotals.{exact_total-fits}
-use Rattle.sg_commit.specs.Parts.{AreMultiple, exact_total, fault_of, first_below}
+use Rattle.sg_commit.specs.Parts.{AreMultiple, exact_total, part_fault, first_below}
 use Rattle.sg_split.specs.declared.line.Line.{Line}
 use Rattle.sg_split.specs.Laying.{AreCounts, moment_tickets, tickets_at}
 use Rattle.sg_split.specs.Lines.{AreUpTo}
-use Rattle.sg_split.specs.Wraps.{AreParts, IsLineOf, IsWrap}
+use Rattle.sg_split.specs.Wraps.{AreMomentParts, IsPatrolLine, IsWrap}
 use Rattle.sg_split.proofs.Legal.{holds-weighed}
 use Rattle.sg_split.proofs.Moments.{moments_cover, moments_legal, moments_weigh}
 
@@ -38,7 +38,7 @@ first_below-none i (x ∷ xs) h =
     rw e (first_below-none (i + 1) xs (All-tail Weighty x xs h))
 
 -- positive weights whose sum fits are no fault
-pub no_fault : (k : List Ticket) (d : ℤ) → All Weighty k → weight_total k ≡ d → pos 1 ≤ℤ d → FitsSigned w128 d → fault_of k ≡ None
+pub no_fault : (k : List Ticket) (d : ℤ) → All Weighty k → weight_total k ≡ d → pos 1 ≤ℤ d → FitsSigned w128 d → part_fault k ≡ None
 no_fault [] d h whole positive fit = absurd (omega (arith, ints, whole, positive))
 no_fault (x ∷ xs) d h whole positive fit =
     let a : first_below 0 (x ∷ xs) ≡ None = first_below-none 0 (x ∷ xs) h in
@@ -46,18 +46,18 @@ no_fault (x ∷ xs) d h whole positive fit =
     rw a (rw b refl)
 
 -- tickets up to the end of all moments
-pub parts_are : (g : Game) (counts : List ℤ) (d : ℤ) (line : Line) (parts : List Ticket) → IsLineOf g counts d line → AreUpTo line line.moments parts → AreParts g counts d parts
+pub parts_are : (g : Game) (counts : List ℤ) (d : ℤ) (line : Line) (parts : List Ticket) → IsPatrolLine g counts d line → AreUpTo line line.moments parts → AreMomentParts g counts d parts
 unfolding moment_tickets
 parts_are g counts d line parts of is = record {
   mix = λ play. is.mix play ∙ (λ i. weight_on (tickets_at (of.ends i) (of.patrols i) (of.moments i) (numbers_from 0 (unsigned_abs (of.moments i)))) play);
   positive = is.positive;
 }
 
-pub parts_weigh : (g : Game) (counts : List ℤ) (d : ℤ) (parts : List Ticket) → AreCounts g counts d → AreParts g counts d parts → weight_total parts ≡ d
+pub parts_weigh : (g : Game) (counts : List ℤ) (d : ℤ) (parts : List Ticket) → AreCounts g counts d → AreMomentParts g counts d parts → weight_total parts ≡ d
 parts_weigh g counts d parts are is = same_weight_total g parts (moment_tickets counts (resource_count g) d) is.mix ∙ moments_weigh g counts d are
 
 -- the commitment of such parts
-pub wrap_is : (g : Game) → IsGame g → (counts : List ℤ) (d : ℤ) → AreCounts g counts d → (parts : List Ticket) → AreParts g counts d parts → (k : Committed) → AreMultiple parts k.tickets → IsCommitted k → IsWrap g counts d k
+pub wrap_is : (g : Game) → IsGame g → (counts : List ℤ) (d : ℤ) → AreCounts g counts d → (parts : List Ticket) → AreMomentParts g counts d parts → (k : Committed) → AreMultiple parts k.tickets → IsCommitted k → IsWrap g counts d k
 wrap_is g is counts d are parts are_parts k multiple rules =
     let all : List Ticket = moment_tickets counts (resource_count g) d in
     let c : ℤ = multiple.0 in

@@ -7,8 +7,7 @@ use Rattle.sg_model.specs.Sums.{nth, numbers_from}
 use Rattle.sg_model.specs.Games.{Game, resource_count}
 use Rattle.sg_model.specs.Limits.{IsGame}
 use Rattle.sg_model.specs.Plays.{IsLegal}
-use Rattle.sg_model.specs.Commitments.{cover_count, weight_total}
-use Rattle.sg_commit.specs.Committed.{AreLegal}
+use Rattle.sg_model.specs.Commitments.{cover_count, weight_total, AreLegal}
 use Rattle.sg_split.specs.Laying.{AreCounts, ends_from, moment_tickets, play_at}
 use Rattle.sg_split.proofs.Covered.{cover_count-moments, weight_total-moments}
 use Rattle.sg_split.proofs.Legal.{patrols_form, play_at-legal}

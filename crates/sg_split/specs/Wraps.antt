@@ -13,14 +13,14 @@ use Rattle.sg_split.specs.Laying.{ends_from, moment_tickets}
 use Rattle.sg_split.specs.Lines.{IsLine, spots}
 
 -- the patrols of a game, with counts laid end to end on them
-pub record IsLineOf (g : Game) (counts : List ℤ) (tickets : ℤ) (line : Line) : Type 0 where
+pub record IsPatrolLine (g : Game) (counts : List ℤ) (tickets : ℤ) (line : Line) : Type 0 where
   pub sound : IsLine line
   pub patrols : line.patrols ≡ resource_count g
   pub moments : line.moments ≡ tickets
   pub ends : spots line ≡ ends_from (pos 0) counts
 
 -- parts that are, as one mix, a ticket for every moment
-pub record AreParts (g : Game) (counts : List ℤ) (tickets : ℤ) (parts : List Ticket) : Type 0 where
+pub record AreMomentParts (g : Game) (counts : List ℤ) (tickets : ℤ) (parts : List Ticket) : Type 0 where
   pub mix : AreOneMix parts (moment_tickets counts (resource_count g) tickets)
   pub positive : All (λ (x : Ticket). pos 1 ≤ℤ x.weight) parts
 

@@ -2,9 +2,9 @@
 ghost use Rattle.std.specs.Prelude.{◌≡◌, All, IfOk, None, length, pos, ◌≤ℤ◌};
 ghost use Rattle.sg_model.specs.Limits.{IsGame, IsWithin};
 ghost use Rattle.sg_commit.specs.Committed.{IsCommitted};
-ghost use Rattle.sg_commit.specs.Parts.{AreMultiple, fault_of};
+ghost use Rattle.sg_commit.specs.Parts.{AreMultiple, part_fault};
 ghost use Rattle.sg_split.specs.Laying.{AreCounts};
-ghost use Rattle.sg_split.specs.Wraps.{AreParts, IsLineOf, IsWrap};
+ghost use Rattle.sg_split.specs.Wraps.{AreMomentParts, IsPatrolLine, IsWrap};
 
 use crate::laying::tickets_of;
 use crate::line::Line;
@@ -25,7 +25,7 @@ pub(crate) fn line_of(
     requires positive { pos 1 ≤ℤ total }
     requires one_each { length counts.now ≡ length game.now.goals }
     requires within { All (IsWithin (pos 0) total) counts.now }
-    ensures { IfOk result (IsLineOf game.now counts.now total) }
+    ensures { IfOk result (IsPatrolLine game.now counts.now total) }
 {
     let ends = ends_of(alloc, counts, total)?;
     Ok(Line {
@@ -44,7 +44,7 @@ fn parts_of(
 ) -> Result<Vec<Ticket>, AllocError>
     requires game { IsGame game.now }
     requires counts { AreCounts game.now counts.now total }
-    ensures { IfOk result (λ parts. AreParts game.now counts.now total parts.items) }
+    ensures { IfOk result (λ parts. AreMomentParts game.now counts.now total parts.items) }
 {
     let line = line_of(alloc, game, counts, total)?;
     tickets_of(alloc, &line)
@@ -52,7 +52,7 @@ fn parts_of(
 
 /// The commitment of parts that have no fault.
 fn joined(parts: Vec<Ticket>) -> Commitment
-    requires { fault_of parts.items ≡ None }
+    requires { part_fault parts.items ≡ None }
     ensures shares { AreMultiple parts.items result.tickets }
     ensures rules { IsCommitted result }
 {

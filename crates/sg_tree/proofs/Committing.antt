@@ -12,7 +12,7 @@ use Rattle.sg_model.specs.declared.ticket.Ticket.{Ticket}
 use Rattle.sg_commit.specs.Committed.{Committed, IsCommitted}
 use Rattle.sg_model.specs.Orders.{is_before}
 use Rattle.sg_commit.specs.Committed as committed
-use Rattle.sg_tree.specs.Claims.{HaveOneLength, are_positive, comes_before, is_claim, is_rising}
+use Rattle.sg_tree.specs.Claims.{HaveOneLength, are_positive, comes_before, is_claim, is_claim_rising}
 
 abbrev ArePositive : List Ticket → Type 0
 ArePositive k = All (λ (x : Ticket). pos 1 ≤ℤ x.weight) k
@@ -21,11 +21,11 @@ parts : (x y : Bool) → (x && y) ≡ true → (x ≡ true) × (y ≡ true)
 parts true y e = (refl, e)
 parts false y e = cc
 
-rises : (k : List Ticket) → is_rising k ≡ true → committed.is_rising k ≡ true
+rises : (k : List Ticket) → is_claim_rising k ≡ true → committed.is_rising k ≡ true
 rises [] h = refl
 rises (x ∷ []) h = refl
 rises (x ∷ y ∷ ys) h =
-    let p = parts (comes_before x.play.code y.play.code) (is_rising (y ∷ ys)) h in
+    let p = parts (comes_before x.play.code y.play.code) (is_claim_rising (y ∷ ys)) h in
     let q = parts (length x.play.code == length y.play.code) (is_before x.play.code y.play.code) p.0 in
     and_from (is_before x.play.code y.play.code) (committed.is_rising (y ∷ ys)) q.1 (rises (y ∷ ys) p.1)
 
@@ -44,8 +44,8 @@ pub record AreRules (k : List Ticket) : Type 0 where
 pub rules_of : (k : List Ticket) → is_claim k ≡ true → AreRules k
 rules_of [] h = cc
 rules_of (x ∷ xs) h =
-    let p = parts (not (length (x ∷ xs) == 0)) (are_positive (x ∷ xs) && is_rising (x ∷ xs)) h in
-    let q = parts (are_positive (x ∷ xs)) (is_rising (x ∷ xs)) p.1 in
+    let p = parts (not (length (x ∷ xs) == 0)) (are_positive (x ∷ xs) && is_claim_rising (x ∷ xs)) h in
+    let q = parts (are_positive (x ∷ xs)) (is_claim_rising (x ∷ xs)) p.1 in
     record { some = (λ e. cc); positive = positive_from (x ∷ xs) q.0; rising = rises (x ∷ xs) q.1 }
 
 positive_to : (k : List Ticket) → ArePositive k → are_positive k ≡ true
@@ -57,7 +57,7 @@ positive_to (x ∷ xs) h =
 same_length : (a b n : ℕ) → a ≡ n → b ≡ n → (a == b) ≡ true
 same_length a b n e f = let q : a ≡ b = e ∙ sym f in grind (arith, nat_tests)
 
-rises_to : (n : ℕ) (k : List Ticket) → All (λ (t : Ticket). length t.play.code ≡ n) k → committed.is_rising k ≡ true → is_rising k ≡ true
+rises_to : (n : ℕ) (k : List Ticket) → All (λ (t : Ticket). length t.play.code ≡ n) k → committed.is_rising k ≡ true → is_claim_rising k ≡ true
 rises_to n [] l h = refl
 rises_to n (x ∷ []) l h = refl
 rises_to n (x ∷ y ∷ ys) l h =
@@ -65,7 +65,7 @@ rises_to n (x ∷ y ∷ ys) l h =
     let rest = All-tail (λ (t : Ticket). length t.play.code ≡ n) x (y ∷ ys) l in
     let first = All-head (λ (t : Ticket). length t.play.code ≡ n) x (y ∷ ys) l in
     let second = All-head (λ (t : Ticket). length t.play.code ≡ n) y ys rest in
-    and_from (comes_before x.play.code y.play.code) (is_rising (y ∷ ys))
+    and_from (comes_before x.play.code y.play.code) (is_claim_rising (y ∷ ys))
     (and_from (length x.play.code == length y.play.code) (is_before x.play.code y.play.code) (same_length (length x.play.code) (length y.play.code) n first second) p.0)
     (rises_to n (y ∷ ys) rest p.1)
 
@@ -79,5 +79,5 @@ some_to (x ∷ xs) h = let q : (length (x ∷ xs) == 0) ≡ false = above_zero (
 -- the tickets of a commitment, with lists of one length, keep a claim's rules
 pub claim_of : (c : Committed) → IsCommitted c → HaveOneLength c.tickets → is_claim c.tickets ≡ true
 claim_of c h l =
-    and_from (not (length c.tickets == 0)) (are_positive c.tickets && is_rising c.tickets) (some_to c.tickets h.some)
-    (and_from (are_positive c.tickets) (is_rising c.tickets) (positive_to c.tickets h.positive) (rises_to l.0 c.tickets l.1 h.rising))
+    and_from (not (length c.tickets == 0)) (are_positive c.tickets && is_claim_rising c.tickets) (some_to c.tickets h.some)
+    (and_from (are_positive c.tickets) (is_claim_rising c.tickets) (positive_to c.tickets h.positive) (rises_to l.0 c.tickets l.1 h.rising))

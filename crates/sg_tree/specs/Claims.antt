@@ -14,10 +14,10 @@ abbrev pub comes_before : List ℕ → List ℕ → Bool
 comes_before before after = length before == length after && is_before before after
 
 -- whether each list of choices comes before the next
-abbrev pub is_rising : List Ticket → Bool
-is_rising [] = true
-is_rising (t ∷ []) = true
-is_rising (t ∷ u ∷ ts) = comes_before t.play.code u.play.code && is_rising (u ∷ ts)
+abbrev pub is_claim_rising : List Ticket → Bool
+is_claim_rising [] = true
+is_claim_rising (t ∷ []) = true
+is_claim_rising (t ∷ u ∷ ts) = comes_before t.play.code u.play.code && is_claim_rising (u ∷ ts)
 
 -- whether all weights are at least 1
 abbrev pub are_positive : List Ticket → Bool
@@ -25,7 +25,7 @@ are_positive ts = list_all (λ t. int_le (pos 1) t.weight) ts
 
 -- whether there is a ticket, all weights are at least 1, and the lists of choices rise
 abbrev pub is_claim : List Ticket → Bool
-is_claim ts = not (length ts == 0) && (are_positive ts && is_rising ts)
+is_claim ts = not (length ts == 0) && (are_positive ts && is_claim_rising ts)
 
 -- all lists of choices have one length
 abbrev pub HaveOneLength : List Ticket → Type 0

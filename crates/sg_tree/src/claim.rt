@@ -2,7 +2,7 @@
 
 ghost use Rattle.std.specs.Prelude.{◌≡◌, ◌↔◌, true, Some, None, IfSome, IsNone, if◌then◌else◌};
 ghost use Rattle.sg_commit.specs.Rising.{AreShares};
-ghost use Rattle.sg_tree.specs.Claims.{HaveOneLength, is_claim, is_rising, are_positive, comes_before};
+ghost use Rattle.sg_tree.specs.Claims.{HaveOneLength, is_claim, is_claim_rising, are_positive, comes_before};
 
 use sg_commit::Commitment;
 use sg_model::Ticket;
@@ -95,7 +95,7 @@ pub fn precedes(before: &[u16], after: &[u16]) -> bool
 
 // Whether each list of choices comes before the next.
 fn has_order(tickets: &[Ticket]) -> bool
-    ensures { result ≡ is_rising tickets.now }
+    ensures { result ≡ is_claim_rising tickets.now }
 {
     let mut rest = tickets;
     while let [first, others @ ..] = rest {

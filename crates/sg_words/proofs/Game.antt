@@ -8,7 +8,7 @@ use Rattle.clap.specs.declared.error.kind.ErrorKind.TheVariants.{UnknownArgument
 use Rattle.clap.proofs.OnLiterals.{clap_on_literals}
 use Rattle.sg_words.specs.Words.{Text, is_end_of_options, has_stray, positional_words}
 use Rattle.sg_words.specs.Commands.{solve, with_one, asked_by}
-use Rattle.sg_words.specs.Line.{line, game_line}
+use Rattle.sg_words.specs.Line.{command_line, game_line}
 use Rattle.sg_words.proofs.Leaf.{Takes, Moves, IsPositional, Finds, end_fault}
 use Rattle.sg_words.proofs.Top.{Agrees}
 use Rattle.sg_words.proofs.Enters.{Enters, name_agrees}
@@ -18,7 +18,7 @@ use Rattle.sg_words.proofs.Marks.{is_end_of_options-unhyphened, long_of-unhyphen
 
 -- the subcommand as clap builds it
 abbrev pub leaf : Shape
-leaf = built_leaf (inherited line.top (game_line (codes "solve")).top)
+leaf = built_leaf (inherited command_line.top (game_line (codes "solve")).top)
 
 -- where the walk stands after these positional words
 abbrev pub stands : List Text → Bool → Walk
@@ -86,5 +86,5 @@ enters = record { met = refl; whole = λ words. refl; within = λ words. refl; a
 
 -- clap agrees where the first word is `solve`
 pub solve_agrees : (words : List Text) → has_stray words ≡ false
-    → Agrees (asked_by (codes "solve") (positional_words words)) (fault_of line (codes "solve" ∷ words)) (subcommand_of line (codes "solve" ∷ words))
+    → Agrees (asked_by (codes "solve") (positional_words words)) (fault_of command_line (codes "solve" ∷ words)) (subcommand_of command_line (codes "solve" ∷ words))
 solve_agrees = name_agrees leaf 1 stands rows (codes "solve") (with_one solve) takes enters

@@ -8,7 +8,7 @@ use Rattle.clap.specs.declared.error.kind.ErrorKind.TheVariants.{UnknownArgument
 use Rattle.clap.proofs.OnLiterals.{clap_on_literals}
 use Rattle.sg_words.specs.Words.{Text, is_end_of_options, has_stray, positional_words}
 use Rattle.sg_words.specs.Commands.{check, show, with_two, asked_by}
-use Rattle.sg_words.specs.Line.{line, report_line}
+use Rattle.sg_words.specs.Line.{command_line, report_line}
 use Rattle.sg_words.proofs.Leaf.{Takes, Moves, IsPositional, Finds, end_fault}
 use Rattle.sg_words.proofs.Top.{Agrees}
 use Rattle.sg_words.proofs.Enters.{Enters, name_agrees}
@@ -18,7 +18,7 @@ use Rattle.sg_words.proofs.Marks.{is_end_of_options-unhyphened, long_of-unhyphen
 
 -- the subcommand as clap builds it
 abbrev pub leaf : Text → Shape
-leaf name = built_leaf (inherited line.top (report_line name).top)
+leaf name = built_leaf (inherited command_line.top (report_line name).top)
 
 -- what is held after the first positional word, and after the second
 abbrev pub one_held : Text → Held
@@ -104,7 +104,7 @@ check_enters = record { met = refl; whole = λ words. refl; within = λ words. r
 
 -- clap agrees where the first word is `check`
 pub check_agrees : (words : List Text) → has_stray words ≡ false
-    → Agrees (asked_by (codes "check") (positional_words words)) (fault_of line (codes "check" ∷ words)) (subcommand_of line (codes "check" ∷ words))
+    → Agrees (asked_by (codes "check") (positional_words words)) (fault_of command_line (codes "check" ∷ words)) (subcommand_of command_line (codes "check" ∷ words))
 check_agrees = name_agrees (leaf (codes "check")) 2 stands rows (codes "check") (with_two check) (takes (codes "check")) check_enters
 
 -- ---- `show`
@@ -122,5 +122,5 @@ show_enters = record { met = refl; whole = λ words. refl; within = λ words. re
 
 -- clap agrees where the first word is `show`
 pub show_agrees : (words : List Text) → has_stray words ≡ false
-    → Agrees (asked_by (codes "show") (positional_words words)) (fault_of line (codes "show" ∷ words)) (subcommand_of line (codes "show" ∷ words))
+    → Agrees (asked_by (codes "show") (positional_words words)) (fault_of command_line (codes "show" ∷ words)) (subcommand_of command_line (codes "show" ∷ words))
 show_agrees = name_agrees (leaf (codes "show")) 2 stands rows (codes "show") (with_two show) (takes (codes "show")) show_enters

@@ -28,7 +28,7 @@ positionals_of (show game report) = game ∷ report ∷ []
 
 -- The words ask for it: the first is its name, none of the others before the first `--` begins with a hyphen, and those
 -- before the first `--` and after it are exactly its positional words.
-pub record Gives (words : List Text) (asked : Asked) : Type 0 where
+pub record AsksFor (words : List Text) (asked : Asked) : Type 0 where
   pub others : List Text
   pub named : words ≡ name_of asked ∷ others
   pub unhyphened : All (λ word. begins_with_hyphen word ≡ false) (before_first is_end_of_options others)
@@ -71,7 +71,7 @@ command_given (name ∷ others) = if has_stray others then None else asked_by na
 
 -- reading is writing turned round
 abbrev pub WordsGive : Type 0
-WordsGive = (words : List Text) (asked : Asked) → (command_given words ≡ Some asked) ↔ Gives words asked
+WordsGive = (words : List Text) (asked : Asked) → (command_given words ≡ Some asked) ↔ AsksFor words asked
 
 -- ---- the program's own value
 

@@ -31,8 +31,8 @@ bare_line = record (new_app (codes "patrol")) {
 }
 
 -- the program with its commands
-abbrev pub line : App
-line = with_subcommand (with_subcommand (with_subcommand bare_line
+abbrev pub command_line : App
+command_line = with_subcommand (with_subcommand (with_subcommand bare_line
     (game_line (codes "solve")).top)
     (report_line (codes "check")).top)
     (report_line (codes "show")).top

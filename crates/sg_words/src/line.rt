@@ -3,7 +3,7 @@
 ghost use Rattle.std.specs.Prelude.{◌≡◌, IfOk, false, option_map};
 ghost use Rattle.clap.specs.Words.{app_of, rule_of, found_of, rows_of, subcommand_rows_of, with_rule, new_app};
 ghost use Rattle.sg_words.specs.Commands.{asked_of};
-ghost use Rattle.sg_words.specs.Line.{line, needed_rule, game_line, report_line, pair_in, command_found};
+ghost use Rattle.sg_words.specs.Line.{command_line, needed_rule, game_line, report_line, pair_in, command_found};
 
 use crate::command::Command;
 use clap::{Arg, ArgAction, ArgMatches, Command as Line};
@@ -35,7 +35,7 @@ fn report_line<'a>(alloc: Global, name: &'a str) -> Result<Line<'a>, AllocError>
 
 /// All commands, with no help and no version.
 pub(crate) fn line<'a>(alloc: Global) -> Result<Line<'a>, AllocError>
-    ensures { IfOk result (λ c. app_of c ≡ line) }
+    ensures { IfOk result (λ c. app_of c ≡ command_line) }
 {
     let solve = game_line(alloc, "solve")?;
     let check = report_line(alloc, "check")?;

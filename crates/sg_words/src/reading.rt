@@ -1,6 +1,6 @@
 ghost use Rattle.std.specs.Prelude.{◌≡◌, ◌↔◌, Option, Some, None, IfOk, IsNone, IsTrue, map, option_map, string_bytes};
 ghost use Rattle.clap.specs.Words.{kind_of};
-ghost use Rattle.sg_words.specs.Commands.{Asked, Gives, asked_of, command_given};
+ghost use Rattle.sg_words.specs.Commands.{Asked, AsksFor, asked_of, command_given};
 
 use crate::command::Command;
 use crate::line::{command_in, line};
@@ -22,9 +22,9 @@ pub fn command_of<'a>(alloc: Global, words: &'a [String]) -> Result<Option<Comma
 
     // The same by the rules of writing, in both directions.
     ensures given { IfOk result (λ r. (asked : Asked) →
-        (option_map asked_of r ≡ Some asked) ↔ Gives (map string_bytes words.entry.now) asked) }
+        (option_map asked_of r ≡ Some asked) ↔ AsksFor (map string_bytes words.entry.now) asked) }
     ensures none { IfOk result (λ r.
-        IsNone r ↔ ((asked : Asked) → ¬ Gives (map string_bytes words.entry.now) asked)) }
+        IsNone r ↔ ((asked : Asked) → ¬ AsksFor (map string_bytes words.entry.now) asked)) }
 {
     if has_stray(words) {
         return Ok(None);

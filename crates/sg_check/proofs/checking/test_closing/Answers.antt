@@ -1,12 +1,12 @@
 use Rattle.std.proofs.Common.{◌++◌, ◌∙◌, ap, sym}
 use Rattle.sg_bounds.specs.Checking.{bound_stops, end_stops, root_line, root_stops}
 use Rattle.sg_bounds.specs.Trees.{node_of}
-use Rattle.sg_check.specs.Answering.{held}
+use Rattle.sg_check.specs.Answering.{held_line}
 use Rattle.sg_check.proofs.Joined.{answers-then, refuses-behind, refuses-then, root-behind_value}
 use Rattle.sg_check.proofs.checking.test_closing.Goals as goal
 
 pub test_root-requires-clause-line : goal.test_root-requires-clause-line
-test_root-requires-clause-line c = c.caps_line-line.ensures ∙ ap held (sym (root-behind_value c.args.game.now c.args.report.now c.requires.one_type c.in-Ok.ensures))
+test_root-requires-clause-line c = c.caps_line-line.ensures ∙ ap held_line (sym (root-behind_value c.args.game.now c.args.report.now c.requires.one_type c.in-Ok.ensures))
 
 pub returns-in-Ok-test_root : goal.returns-in-Ok-test_root
 returns-in-Ok-test_root c =

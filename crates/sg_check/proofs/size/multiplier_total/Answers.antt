@@ -3,7 +3,7 @@ use Rattle.std.specs.Int.{w128}
 use Rattle.std.proofs.lemmas.Int.{ints, to_z-of_z}
 use Rattle.std.proofs.lemmas.List.{get_or_default}
 use Rattle.sg_tree.specs.declared.fact.Mark.{Mark}
-use Rattle.sg_bounds.specs.Accepted.{Fits}
+use Rattle.sg_num.specs.Exact.{Fits}
 use Rattle.sg_check.proofs.Running.{running-end, running-item, running-wide_item, total-map}
 use Rattle.sg_check.proofs.size.multiplier_total.Goals as goal
 

@@ -2,7 +2,7 @@ use Rattle.std.proofs.Common.{sym, subst, refl, inl, inr, arith}
 use Rattle.std.proofs.lemmas.Int.{ints}
 use Rattle.sg_bounds.specs.Checking.{value_line}
 use Rattle.sg_bounds.proofs.Claims.{claim_commits}
-use Rattle.sg_check.specs.Valuing.{AreLegal}
+use Rattle.sg_model.specs.Commitments.{AreLegal}
 use Rattle.sg_model.proofs.Covers.{ArePositive}
 use Rattle.sg_check.proofs.Valued.{crossed, den-positive, legal-from, value-is}
 use Rattle.sg_check.proofs.value.test_value.Goals as goal

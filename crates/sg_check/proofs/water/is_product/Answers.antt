@@ -3,7 +3,7 @@ use Rattle.std.specs.Int.{w128}
 use Rattle.std.specs.Prelude.{FitsSigned}
 use Rattle.std.proofs.lemmas.Int.{to_z-of_z}
 use Rattle.sg_num.proofs.Steps.{fits-from_FitsSigned}
-use Rattle.sg_bounds.specs.Accepted.{Fits}
+use Rattle.sg_num.specs.Exact.{Fits}
 use Rattle.sg_check.proofs.water.is_product.Goals as goal
 
 pub returns-in-Some : goal.returns-in-Some

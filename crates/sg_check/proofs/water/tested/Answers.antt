@@ -3,7 +3,8 @@ use Rattle.std.specs.Int.{w128}
 use Rattle.std.specs.Prelude.{FitsSigned}
 use Rattle.std.proofs.lemmas.Int.{to_z-of_z}
 use Rattle.sg_frac.specs.Fractions.{IsReduced}
-use Rattle.sg_check.proofs.Watered.{fillable, water-bounding}
+use Rattle.sg_model.proofs.Filling.{fillable}
+use Rattle.sg_check.proofs.Watered.{water-bounding}
 use Rattle.sg_check.proofs.water.tested.Goals as goal
 
 pub bound-requires-clause-bounding : goal.bound-requires-clause-bounding

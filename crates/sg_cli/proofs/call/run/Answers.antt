@@ -3,7 +3,8 @@ use Rattle.std.specs.Prelude.{String}
 use Rattle.std.specs.declared.alloc.Global.{Global}
 use Rattle.sg_words.specs.Commands.{command_given}
 use Rattle.sg_cli.specs.ShelfReads.{trail}
-use Rattle.sg_cli.specs.Scenes.{scene, texts}
+use Rattle.sg_cli.specs.Scenes.{scene}
+use Rattle.sg_game.specs.Seen.{texts}
 use Rattle.sg_cli.specs.Causes.{ComesOf}
 use Rattle.sg_cli.proofs.Completes.{answers_complete}
 use Rattle.sg_cli.proofs.Outcomes.{tells_answer}

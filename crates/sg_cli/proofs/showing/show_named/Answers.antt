@@ -1,5 +1,5 @@
 use Rattle.std.proofs.Common.{List, ℕ, sym, subst, refl}
-use Rattle.sg_report.specs.Tables.{IsTable}
+use Rattle.sg_report.specs.Tables.{IsReportTable}
 use Rattle.sg_words.specs.Commands as commands
 use Rattle.sg_cli.proofs.showing.show_named.Goals as goal
 
@@ -16,7 +16,7 @@ returns-in-Ok-put-clause-ok g c =
         read = pair.report;
         accepts = c.in-Ok.ensures.ok;
         done = refl;
-        written = subst (λ (t : List ℕ). IsTable pair.game pair.report.tickets.tickets pair.report.upper t) (sym c.deref.ensures.value) c.in-Ok-table_of.ensures;
+        written = subst (λ (t : List ℕ). IsReportTable pair.game pair.report.tickets.tickets pair.report.upper t) (sym c.deref.ensures.value) c.in-Ok-table_of.ensures;
       };
       takes = c.in-Ok-put.ensures.whole;
     }
@@ -36,7 +36,7 @@ returns-clause-err g c =
         read = pair.report;
         accepts = c.in-Ok.ensures.ok;
         done = refl;
-        written = subst (λ (t : List ℕ). IsTable pair.game pair.report.tickets.tickets pair.report.upper t) (sym c.deref.ensures.value) c.in-Ok-table_of.ensures;
+        written = subst (λ (t : List ℕ). IsReportTable pair.game pair.report.tickets.tickets pair.report.upper t) (sym c.deref.ensures.value) c.in-Ok-table_of.ensures;
       };
       takes = c.in-Err-put.ensures.front;
     }

@@ -4,7 +4,7 @@ use Rattle.toml.specs.View.{view as data_of}
 use Rattle.sg_model.specs.Games.{Named}
 use Rattle.sg_game.specs.Seen.{named_of}
 use Rattle.sg_format.specs.Lists.{named_at}
-use Rattle.sg_file.specs.Answers.{Fails}
+use Rattle.sg_file.specs.Answers.{FailsPart}
 use Rattle.sg_file.specs.Sections.{key_of, member_place, members_limit}
 use Rattle.sg_file.proofs.Items.{each-done, numbered-Fails, numbered-next}
 use Rattle.sg_file.proofs.lists.lists_of.Goals as goal
@@ -12,7 +12,7 @@ use Rattle.sg_file.proofs.lists.lists_of.Goals as goal
 pub returns-in-Err-clause-gives : goal.returns-in-Err-clause-gives
 returns-in-Err-clause-gives c = λ names known.
     let before = map named_of c.loop-i.parts.items in
-    let read : Fails c.in-Err.e (named_at (member_place c.args.group (c.loop-i.i + 1)) (key_of c.args.group) names (members_limit c.args.group) before (data_of (get_or c.args.values.now c.loop-i.i c.index-values-i.result))) =
+    let read : FailsPart c.in-Err.e (named_at (member_place c.args.group (c.loop-i.i + 1)) (key_of c.args.group) names (members_limit c.args.group) before (data_of (get_or c.args.values.now c.loop-i.i c.index-values-i.result))) =
     rw (← c.index-values-i.is) (c.in-Err.ensures.gives names before known c.loop-i.invariant.indexed) in
     rw (← c.loop-i.invariant.read names known) (numbered-Fails named_of (λ n. named_at (member_place c.args.group n) (key_of c.args.group) names (members_limit c.args.group)) c.loop-i.parts.items c.args.values.now c.loop-i.i (omega arith) c.index-values-i.result c.in-Err.e c.loop-i-test.true read)
 

@@ -3,7 +3,7 @@ use Rattle.std.proofs.lemmas.List.{map_push, length-map}
 use Rattle.toml.specs.View.{view as data_of}
 use Rattle.sg_game.specs.Seen.{texts}
 use Rattle.sg_format.specs.Lists.{new_name}
-use Rattle.sg_file.specs.Answers.{Fails}
+use Rattle.sg_file.specs.Answers.{FailsPart}
 use Rattle.sg_file.specs.Sections.{entry_of}
 use Rattle.sg_file.proofs.Items.{each-done, numbered-Fails, numbered-next}
 use Rattle.sg_file.proofs.names.names_of.Goals as goal
@@ -11,7 +11,7 @@ use Rattle.sg_file.proofs.names.names_of.Goals as goal
 pub returns-in-Err-clause-gives : goal.returns-in-Err-clause-gives
 returns-in-Err-clause-gives c =
     let before = texts c.loop-i.list.items in
-    let read : Fails c.in-Err.e (new_name (entry_of c.args.listing (c.loop-i.i + 1)) before (data_of (get_or c.args.values.now c.loop-i.i c.index-values-i.result))) =
+    let read : FailsPart c.in-Err.e (new_name (entry_of c.args.listing (c.loop-i.i + 1)) before (data_of (get_or c.args.values.now c.loop-i.i c.index-values-i.result))) =
     rw (← c.index-values-i.is, ← c.entry-place.ensures) (c.in-Err.ensures.gives before c.loop-i.invariant.indexed) in
     rw (← c.loop-i.invariant.read) (numbered-Fails string_bytes (λ n. new_name (entry_of c.args.listing n)) c.loop-i.list.items c.args.values.now c.loop-i.i (omega arith) c.index-values-i.result c.in-Err.e c.loop-i-test.true read)
 

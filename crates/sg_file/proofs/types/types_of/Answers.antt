@@ -4,14 +4,14 @@ use Rattle.toml.specs.View.{view as data_of}
 use Rattle.sg_model.specs.Games.{Attacker}
 use Rattle.sg_game.specs.Seen.{attacker_of}
 use Rattle.sg_file.specs.Sections.{type_at}
-use Rattle.sg_file.specs.Answers.{Fails}
+use Rattle.sg_file.specs.Answers.{FailsPart}
 use Rattle.sg_file.proofs.Items.{each-done, numbered-Fails, numbered-next}
 use Rattle.sg_file.proofs.types.types_of.Goals as goal
 
 pub returns-in-Err : goal.returns-in-Err
 returns-in-Err c =
     let before = map attacker_of c.loop-i.types.items in
-    let read : Fails c.in-Err.e (type_at c.args.form (c.loop-i.i + 1) before (data_of (get_or c.args.values.now c.loop-i.i c.index-values-i.result))) =
+    let read : FailsPart c.in-Err.e (type_at c.args.form (c.loop-i.i + 1) before (data_of (get_or c.args.values.now c.loop-i.i c.index-values-i.result))) =
     rw (← c.index-values-i.is) (c.in-Err.ensures.gives before c.loop-i.invariant.indexed) in
     rw (← c.loop-i.invariant.read) (numbered-Fails attacker_of (type_at c.args.form) c.loop-i.types.items c.args.values.now c.loop-i.i (omega arith) c.index-values-i.result c.in-Err.e c.loop-i-test.true read)
 

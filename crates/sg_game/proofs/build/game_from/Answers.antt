@@ -1,10 +1,10 @@
 use Rattle.std.proofs.Common.{refl, ◌≡◌, ◌≤◌, ℕ, arith, rules, Option, Some, None, ◌^◌}
-use Rattle.sg_game.specs.Converting.{IsBelow}
+use Rattle.sg_game.specs.Converting.{IsUnderLimit}
 use Rattle.sg_game.specs.Drafts.{drawn}
 use Rattle.sg_game.proofs.Promises.{goals_few, patrols_few}
 use Rattle.sg_game.proofs.build.game_from.Goals as goal
 
-below : (o : Option ℕ) → ((n : ℕ) → o ≡ Some n → n ≤ 200) → IsBelow (2 ^ 15) o
+below : (o : Option ℕ) → ((n : ℕ) → o ≡ Some n → n ≤ 200) → IsUnderLimit (2 ^ 15) o
 below None h = tt
 below (Some n) h = let few = h n refl in omega (arith, few)
 

@@ -3,7 +3,7 @@ use Rattle.std.specs.Int.{w64}
 use Rattle.std.specs.Fmt.{signed_decimal}
 use Rattle.std.proofs.lemmas.Int.{ints}
 use Rattle.sg_model.specs.Games.{attacker}
-use Rattle.sg_format.specs.GameText.{head, line, pay_lines, quoted}
+use Rattle.sg_format.specs.GameText.{head, key_line, pay_lines, quoted}
 use Rattle.sg_game_text.proofs.Joined.{four}
 use Rattle.sg_game_text.proofs.tables.put_type.Goals as goal
 
@@ -13,8 +13,8 @@ returns c =
     let prior = to_z w64 (of_z w64 c.prior.result) in
     let same : prior ≡ x.prior = omega (arith, ints, c.prior.ensures.prior, c.prior.type_inv) in
     four c.args.text.now.items c.put_head.new.text.items c.put_name_line.new.text.items c.put_number_line.new.text.items c.put_pay_lines.new.text.items
-    (head (codes "type")) (line (codes "name") (quoted x.name)) (line (codes "prior") (signed_decimal x.prior)) (pay_lines c.args.game.now.kind x)
+    (head (codes "type")) (key_line (codes "name") (quoted x.name)) (key_line (codes "prior") (signed_decimal x.prior)) (pay_lines c.args.game.now.kind x)
     c.in_ok-put_head.ensures
-    (c.in_ok-put_name_line.ensures ∙ ap (λ (k : List ℕ). c.put_head.new.text.items ++ line (codes "name") (quoted k)) c.type_name.ensures)
-    (c.in_ok-put_number_line.ensures ∙ ap (λ (z : ℤ). c.put_name_line.new.text.items ++ line (codes "prior") (signed_decimal z)) same)
+    (c.in_ok-put_name_line.ensures ∙ ap (λ (k : List ℕ). c.put_head.new.text.items ++ key_line (codes "name") (quoted k)) c.type_name.ensures)
+    (c.in_ok-put_number_line.ensures ∙ ap (λ (z : ℤ). c.put_name_line.new.text.items ++ key_line (codes "prior") (signed_decimal z)) same)
     c.in_ok-put_pay_lines.ensures

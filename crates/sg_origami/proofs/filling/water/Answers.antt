@@ -1,4 +1,4 @@
-use Rattle.sg_origami.proofs.Promised.{fillable}
+use Rattle.sg_model.proofs.Filling.{fillable}
 use Rattle.sg_origami.proofs.filling.water.Goals as goal
 
 pub filling_of-requires : goal.filling_of-requires

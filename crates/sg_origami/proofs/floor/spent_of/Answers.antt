@@ -15,7 +15,7 @@ spent_level-requires c =
     let f = c.requires.fillable in
     let g = c.args.game.now in
     let is : c.product-have.result ≡ pos c.args.patrols *ℤ g.scale = have_is c.args.patrols g.scale (to_z w128 (of_z w128 c.from.result)) (to_z w128 (of_z w128 c.from-2.result)) c.product-have.result (omega (arith, ints, c.from.ensures)) (omega (arith, ints, c.from-2.ensures, c.scale.ensures)) c.product-have.ensures in
-    let b = have_bounds c.args.patrols g.scale c.product-have.result is c.requires.few f.origami.scaled f.scale_small in
+    let b = have_bounds c.args.patrols g.scale c.product-have.result is c.requires.few f.origami.scaled f.scale_range.at_most in
     let r = are_rates g f c.args.rates.now c.requires.rates in
     record { rates = r.each; some = r.some; few = r.few; have_low = omega (arith, ints, b.0, b.1); have_high = omega (arith, ints, b.0, b.1) }
 
@@ -24,7 +24,7 @@ returns c =
     let f = c.requires.fillable in
     let g = c.args.game.now in
     let is : c.product-have.result ≡ pos c.args.patrols *ℤ g.scale = have_is c.args.patrols g.scale (to_z w128 (of_z w128 c.from.result)) (to_z w128 (of_z w128 c.from-2.result)) c.product-have.result (omega (arith, ints, c.from.ensures)) (omega (arith, ints, c.from-2.ensures, c.scale.ensures)) c.product-have.ensures in
-    let b = have_bounds c.args.patrols g.scale c.product-have.result is c.requires.few f.origami.scaled f.scale_small in
+    let b = have_bounds c.args.patrols g.scale c.product-have.result is c.requires.few f.origami.scaled f.scale_range.at_most in
     let s = c.spent_level.ensures in
     let fits : FitsSigned w128 c.product-have.result = omega (arith, ints, b.0, b.1) in
     let e = simp to_z-of_z at s.spends in

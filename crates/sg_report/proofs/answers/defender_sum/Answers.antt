@@ -5,7 +5,7 @@ use Rattle.std.proofs.lemmas.Int.{to_z-of_z}
 use Rattle.sg_model.specs.Games.{is_kind_matrix, is_matrix}
 use Rattle.sg_model.specs.Sums.{nth}
 use Rattle.sg_report.specs.Answers.{mixed}
-use Rattle.sg_report.specs.Counts.{no_cell}
+use Rattle.sg_report.specs.Counts.{no_count}
 use Rattle.sg_report.proofs.Paid.{defender_gets}
 use Rattle.sg_report.proofs.answers.defender_sum.Goals as goal
 
@@ -15,5 +15,5 @@ returns-in-Security c =
     let security : is_matrix c.args.game.now ≡ false = ap is_kind_matrix (sym c.kind.ensures ∙ c.in-Security.is) in
     let counts = c.args.counts.now in
     simp to_z-of_z (c.pays_sum.ensures
-    ∙ ap₂ (λ (covered uncovered : ℤ). int_wrap w128 (mixed counts.total (nth counts.cells.items c.args.a no_cell).count covered uncovered)) c.defender_pays.ensures.covered c.defender_pays.ensures.uncovered
+    ∙ ap₂ (λ (covered uncovered : ℤ). int_wrap w128 (mixed counts.total (nth counts.cells.items c.args.a no_count).count covered uncovered)) c.defender_pays.ensures.covered c.defender_pays.ensures.uncovered
     ∙ defender_gets c.args.game.now c.args.tickets.now counts.total counts.cells.items c.args.l c.args.a security c.requires.readable c.requires.known c.requires.best)

@@ -5,7 +5,7 @@ use Rattle.std.proofs.lemmas.Int.{to_z-of_z}
 use Rattle.sg_model.specs.Sums.{nth}
 use Rattle.sg_model.proofs.Numbers.{nth-is}
 use Rattle.sg_report.specs.declared.counts.Cell.{Cell}
-use Rattle.sg_report.specs.Counts.{no_cell}
+use Rattle.sg_report.specs.Counts.{no_count}
 use Rattle.sg_report.proofs.Wraps.{wrapped_mixed}
 use Rattle.sg_report.proofs.answers.target_sum.Goals as goal
 
@@ -21,7 +21,7 @@ returns c =
     let uncovered_fits : FitsSigned w64 c.args.uncovered = c.ranges.uncovered in
     let from_is = simp to_z-of_z at c.from.ensures in
     let gain_is = simp to_z-of_z at c.gain.ensures in
-    let count_is : (nth c.args.counts.now.cells.items c.args.target no_cell).count ≡ c.index-cell.result.now.count =
-    ap (λ (d : Cell). d.count) (nth-is c.args.counts.now.cells.items c.args.target no_cell _ c.requires.known.0 c.requires.known.1 ∙ sym c.index-cell.ensures) in
+    let count_is : (nth c.args.counts.now.cells.items c.args.target no_count).count ≡ c.index-cell.result.now.count =
+    ap (λ (d : Cell). d.count) (nth-is c.args.counts.now.cells.items c.args.target no_count _ c.requires.known.0 c.requires.known.1 ∙ sym c.index-cell.ensures) in
     simp to_z-of_z (wrapped_mixed c.with_pay.result c.with_pay-base.result c.args.counts.now.total c.index-cell.result.now.count c.from.result c.gain.result
-    (nth c.args.counts.now.cells.items c.args.target no_cell).count c.args.covered c.args.uncovered last first from_is gain_is count_is)
+    (nth c.args.counts.now.cells.items c.args.target no_count).count c.args.covered c.args.uncovered last first from_is gain_is count_is)

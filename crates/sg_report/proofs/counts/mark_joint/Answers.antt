@@ -7,7 +7,7 @@ use Rattle.sg_model.specs.Games.{resource_schedules, schedule_targets}
 use Rattle.sg_model.specs.Plays.{IsLegal, IsLegalJoint, IsRow}
 use Rattle.sg_model.specs.Sums.{nth}
 use Rattle.sg_report.specs.declared.counts.Cell.{Cell}
-use Rattle.sg_report.specs.Counts.{AreWithin, marked, targets_from}
+use Rattle.sg_report.specs.Counts.{AreWithin, raised_once, targets_from}
 use Rattle.sg_report.proofs.Counted.{targets_step}
 use Rattle.sg_report.proofs.counts.mark_joint.Goals as goal
 
@@ -18,7 +18,7 @@ loop-k-preserved c =
     let k : ℕ = c.loop-k.k in
     let joint : IsLegalJoint g code = when_false (IsRow g code) (IsLegalJoint g code) c.requires.security (subst (IsLegal g) (sym c.as_slice-code.ensures) c.requires.legal) in
     let lt : k < length code = omega (arith, joint.one_each, c.resources-k-end.ensures.count, c.loop-k-test.true) in
-    let mark = marked c.args.number c.args.ticket.now.weight in
+    let mark = raised_once c.args.number c.args.ticket.now.weight in
     let here : List ℕ = schedule_targets g (nth (resource_schedules g (k + 1)) (slice_index_or code k 0) 0) in
     let rest : List ℕ = targets_from g (k + 1 + 1) (drop (k + 1) code) in
     let step = targets_step g (k + 1) code k 0 lt in

@@ -1,7 +1,7 @@
 use Rattle.std.proofs.Common.{◌≡◌, Bool, None, sym, subst}
 use Rattle.sg_model.specs.Games.{Game}
 use Rattle.sg_model.specs.Limits.{IsGame}
-use Rattle.sg_game.specs.Drafts.{IsSmall, drawn}
+use Rattle.sg_game.specs.Drafts.{IsCountable, drawn}
 use Rattle.sg_game.specs.Faults.{whole_fault}
 use Rattle.sg_game.specs.Seen.{game_of}
 use Rattle.sg_game.proofs.Fielded.{fielded}
@@ -14,7 +14,7 @@ draft_from-requires c = fits_draft c.args.parts c.requires (fielded c.args.parts
 
 pub test_whole-requires : goal.test_whole-requires
 test_whole-requires c =
-    subst IsSmall (sym c.in_ok-draft.ensures) (small c.args.parts c.requires (fielded c.args.parts c.in_ok-test_fields.ensures))
+    subst IsCountable (sym c.in_ok-draft.ensures) (small c.args.parts c.requires (fielded c.args.parts c.in_ok-test_fields.ensures))
 
 pub game_from-requires : goal.game_from-requires
 game_from-requires c =

@@ -1,5 +1,0 @@
-use Rattle.sg_laws.proofs.Faults.{lines_before}
-use Rattle.sg_laws.proofs.fault_laws.lines_before.Goals as goal
-
-pub returns : goal.returns
-returns c = lines_before

@@ -1,5 +1,0 @@
-use Rattle.sg_laws.proofs.LineExamples.{worked}
-use Rattle.sg_laws.proofs.order_laws.lines_are_worked.Goals as goal
-
-pub returns : goal.returns
-returns c = worked

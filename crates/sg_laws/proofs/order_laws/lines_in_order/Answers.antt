@@ -1,5 +1,0 @@
-use Rattle.sg_laws.proofs.LineOrder.{lines}
-use Rattle.sg_laws.proofs.order_laws.lines_in_order.Goals as goal
-
-pub returns : goal.returns
-returns c = lines

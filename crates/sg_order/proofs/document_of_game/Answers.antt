@@ -1,5 +1,0 @@
-use Rattle.sg_order.proofs.Spelled.{document_of_game}
-use Rattle.sg_order.proofs.document_of_game.Goals as goal
-
-pub returns : goal.returns
-returns c = document_of_game

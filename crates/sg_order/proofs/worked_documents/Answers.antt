@@ -1,5 +1,0 @@
-use Rattle.std.proofs.Common.{refl}
-use Rattle.sg_order.proofs.worked_documents.Goals as goal
-
-pub returns : goal.returns
-returns c = record { scaled = refl; block = refl; matrix = refl; stray = refl }
