@@ -20,4 +20,5 @@ pub mod Waters
 pub mod Small
 pub mod Spans
 pub mod SizeBounds
+pub mod StepResults
 pub mod RowOrder

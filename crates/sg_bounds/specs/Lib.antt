@@ -6,6 +6,7 @@ pub mod Caps
 pub mod Trees
 pub mod Leaves
 pub mod Sizes
+pub mod SizeSteps
 pub mod Accepted
 pub mod Checking
 pub mod FactLaws

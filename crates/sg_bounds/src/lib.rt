@@ -22,4 +22,4 @@ pub use fact_laws::{
 pub use report_laws::{
     accepted_means, leaf_is_met, level_report_is_accepted, small_totals_fit, tree_bounds,
 };
-pub use size_laws::{column_sums_are_small, play_sums_are_small};
+pub use size_laws::{column_sums_are_small, play_sums_are_small, sums_are_results};

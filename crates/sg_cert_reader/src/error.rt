@@ -5,11 +5,16 @@ ghost use Rattle.sg_cert_reader.specs.declared.error.ReportError.TheVariants.{Me
 
 use sg_cert::ReportFault;
 use std::alloc::{AllocError, AllocFailed};
+use thiserror::Error;
 
 /// The bytes are no report, or memory ran out.
-#[derive(Debug, Drop)]
+#[derive(Debug, Drop, Error)]
 pub enum ReportError {
+    /// The first line that is wrong.
+    #[error("the bytes are no report: line {} is refused, for reason {}", .0.line, .0.reason)]
     Refused(ReportFault),
+    /// Memory ran out.
+    #[error("memory ran out")]
     Memory,
 }
 

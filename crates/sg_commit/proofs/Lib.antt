@@ -5,6 +5,7 @@ pub mod Shares
 pub mod Faults
 pub mod SharedTotals
 pub mod ExactSums
+pub mod SumSteps
 pub mod Responses
 pub mod Worths
 pub mod Counting

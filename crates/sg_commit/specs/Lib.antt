@@ -3,6 +3,8 @@ pub mod Parts
 pub mod Joining
 pub mod Rising
 pub mod ExactSums
+pub mod SumSteps
+pub mod SumExamples
 pub mod Responses
 pub mod CommitmentLaws
 pub mod Tallies

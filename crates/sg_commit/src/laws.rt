@@ -1,6 +1,8 @@
 //! Laws about commitments, each as the contract of a function that does nothing.
 
 ghost use Rattle.sg_commit.specs.CommitmentLaws.{KeptIsCommitment, LegalPartsStayLegal, ScaledIsSmall, SharesFixKept, SmallIsFormed};
+ghost use Rattle.sg_commit.specs.SumExamples.{AreWorkedSums};
+ghost use Rattle.sg_commit.specs.SumSteps.{SumsAreFormed};
 
 /// The tickets of a commitment are distinct plays: where they are legal, they are a commitment of the game.
 pub fn kept_is_commitment()
@@ -25,4 +27,14 @@ pub fn small_is_formed()
 /// Where a scale is declared, that is so of every total up to 2^96.
 pub fn scaled_is_small()
     ensures { ScaledIsSmall }
+{}
+
+/// Each sum comes where all operations under it fit, and else the first that doesn't is told, with its operands.
+pub fn sums_are_formed()
+    ensures { SumsAreFormed }
+{}
+
+/// The operations under the value of a small commitment, and the first that doesn't fit, worked out by hand.
+pub fn worked_sums()
+    ensures { AreWorkedSums }
 {}

@@ -17,6 +17,7 @@ pub use commitment::Commitment;
 pub use coverage::cover_count;
 pub use laws::{
     kept_is_commitment, legal_parts_stay_legal, scaled_is_small, shares_fix_kept, small_is_formed,
+    sums_are_formed, worked_sums,
 };
 pub use legality::are_legal;
 pub use parts::PartFault;

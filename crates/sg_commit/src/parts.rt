@@ -8,15 +8,19 @@ use crate::commitment::Commitment;
 use crate::joining::tickets_of;
 use sg_model::Ticket;
 use sg_num::{Wide, sum};
+use thiserror::Error;
 
 /// Why no commitment is made of parts.
-#[derive(Clone, Copy, Debug, PartialEq, Eq)]
+#[derive(Clone, Copy, Debug, PartialEq, Eq, Error)]
 pub enum PartFault {
     /// There is no part.
+    #[error("there is no part")]
     Empty,
     /// The weight at this place, counted from 0, is the first below 1.
+    #[error("the weight at place {0} is below 1")]
     NotPositive(usize),
     /// This is the first running sum of the weights that does not fit.
+    #[error("a running sum of the weights does not fit 128 bits")]
     Wide(Wide),
 }
 

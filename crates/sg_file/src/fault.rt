@@ -6,6 +6,7 @@ ghost use Rattle.sg_file.specs.declared.fault.GameError.TheVariants.{Memory, Ref
 
 use sg_game::{GameFault, Place};
 use std::alloc::{AllocError, AllocFailed};
+use thiserror::Error;
 
 pub(crate) const NOT_TOML: u8 = 1;
 
@@ -30,11 +31,13 @@ pub(crate) const TOO_LARGE: u8 = 10;
 pub(crate) const BAD_SCALE: u8 = 11;
 
 /// Why there is no game.
-#[derive(Debug, Drop)]
+#[derive(Debug, Drop, Error)]
 pub enum GameError {
     /// The bytes are no game file: the first rule that they break.
+    #[error("the bytes are no game file, for reason {}", .0.reason)]
     Refused(GameFault),
     /// Memory ran out.
+    #[error("memory ran out")]
     Memory,
 }
 

@@ -3,13 +3,16 @@ ghost use Rattle.sg_game.specs.declared.fault.BuildFault.TheVariants.{Memory, Re
 
 use sg_model::GameFault;
 use std::alloc::{AllocError, AllocFailed};
+use thiserror::Error;
 
 /// Why no game is made of parts.
-#[derive(Debug, Drop)]
+#[derive(Debug, Drop, Error)]
 pub enum BuildFault {
     /// The first rule that they break.
+    #[error("the parts are no game, for reason {}", .0.reason)]
     Refused(GameFault),
     /// Memory ran out.
+    #[error("memory ran out")]
     Memory,
 }
 

@@ -1,8 +1,8 @@
 -- Operations on whole numbers in the order in which they are formed, and the first whose result doesn't fit 128 bits.
-use Rattle.std.specs.Prelude.{◌≡◌, Bool, if◌then◌else◌, IsTrue, List, [], ◌∷◌, ◌++◌, All, ℤ, Option, Some, None, Result, Ok, Err}
+use Rattle.std.specs.Prelude.{◌≡◌, ◌↔◌, Bool, if◌then◌else◌, IsTrue, List, [], ◌∷◌, ◌++◌, map, All, ℤ, Option, Some, None, Result, Ok, Err, IsOk}
 use Rattle.sg_num.specs.declared.step.Op.TheVariants.{Sum, Less, Times}
 use Rattle.sg_num.specs.declared.step.Wide.{Wide}
-use Rattle.sg_num.specs.Exact.{fits, result_of}
+use Rattle.sg_num.specs.Exact.{Fits, fits, result_of}
 
 -- the sum of two numbers, as an operation with its operands
 abbrev pub plus : ℤ → ℤ → Wide
@@ -52,3 +52,7 @@ NoneWideFits = (steps : List Wide) → first_wide steps ≡ None → All DoesFit
 abbrev pub FormedIsFirst : Type 0
 FormedIsFirst = (steps : List Wide) (value : ℤ)
     → (first_wide steps ≡ None → formed steps value ≡ Ok value) × ((w : Wide) → first_wide steps ≡ Some w → formed steps value ≡ Err w)
+
+-- the results of all operations fit exactly where the value comes
+abbrev pub ResultsFitWhereFormed : Type 0
+ResultsFitWhereFormed = (steps : List Wide) (value : ℤ) → All Fits (map value_of_step steps) ↔ IsOk (formed steps value)

@@ -18,9 +18,9 @@
 #![tactic(auto)]
 
 mod divisor;
-mod laws;
+mod operation_laws;
 mod step;
 
 pub use divisor::{gcd, lcm};
-pub use laws::first_wide_is_first;
+pub use operation_laws::first_wide_is_first;
 pub use step::{Op, Wide, dot_step, less, mul_sub, sum, times};

@@ -18,6 +18,7 @@ use sg_game::Game;
 use sg_model::Ticket;
 use sg_num::Wide;
 use std::alloc::{AllocError, Global};
+use thiserror::Error;
 
 /// Adds the lines of all types.
 fn put_type_lines(
@@ -73,11 +74,13 @@ fn table(
 }
 
 /// Why there is no table.
-#[derive(Clone, Copy, Debug, PartialEq, Eq)]
+#[derive(Clone, Copy, Debug, PartialEq, Eq, Error)]
 pub enum ShowFault {
     /// The value of the commitment is not formed within 128 bits: the first operation that does not fit.
+    #[error("the value does not fit 128 bits")]
     Wide(Wide),
     /// Memory ran out.
+    #[error("memory ran out")]
     Memory,
 }
 

@@ -2,7 +2,7 @@
 
 use sg_frac::Frac;
 use sg_model::{Level, Play, Ticket};
-use sg_tree::{Claim, Fact, Fix};
+use sg_tree::{Claim, Fact, Fix, Line, Mark};
 use sqlite_items::Items;
 use std::alloc::{AllocError, Global};
 use std::test::*;
@@ -47,6 +47,42 @@ fn copies_a_level(alloc: Global) -> Result<bool, AllocError> {
     }
 }
 
+/// Whether a fact over plays with two marks has an equal copy.
+fn copies_a_plays_fact(alloc: Global) -> Result<bool, AllocError> {
+    let marks = [Mark { l: 1, a: 2, v: 5 }, Mark { l: 2, a: 1, v: 7 }];
+    let fact = Fact::Plays {
+        rho: 3,
+        mu: 40,
+        marks: Items::from_slice(alloc, marks.as_slice())?,
+    };
+    match fact.copy(alloc)? {
+        Fact::Plays {
+            rho,
+            mu,
+            marks: copied,
+        } => Ok(rho == 3 && mu == 40 && copied.as_slice() == marks.as_slice()),
+        _ => Ok(false),
+    }
+}
+
+/// Whether a fact of the coverage table with two lines has an equal copy.
+fn copies_a_cover_fact(alloc: Global) -> Result<bool, AllocError> {
+    let lines = [Line { row: 4, v: 11 }, Line { row: 9, v: 1 }];
+    let fact = Fact::Cover {
+        rho: 2,
+        mu: 13,
+        lines: Items::from_slice(alloc, lines.as_slice())?,
+    };
+    match fact.copy(alloc)? {
+        Fact::Cover {
+            rho,
+            mu,
+            lines: copied,
+        } => Ok(rho == 2 && mu == 13 && copied.as_slice() == lines.as_slice()),
+        _ => Ok(false),
+    }
+}
+
 #[test]
 fn claims_keep_their_rules_and_copies_are_equal(rt: HostRuntime) -> Result<(), AllocError> {
     let cases: [(i128, &[u16], i128, bool); 5] = [
@@ -60,5 +96,12 @@ fn claims_keep_their_rules_and_copies_are_equal(rt: HostRuntime) -> Result<(), A
         assert!(rt; is_claim(rt.alloc(), weight, choices, total)? == is_one);
     }
     assert!(rt; copies_a_fix(rt.alloc())? && copies_a_level(rt.alloc())?);
+    Ok(())
+}
+
+#[test]
+fn facts_over_plays_and_coverage_have_equal_copies(rt: HostRuntime) -> Result<(), AllocError> {
+    assert!(rt; copies_a_plays_fact(rt.alloc())?);
+    assert!(rt; copies_a_cover_fact(rt.alloc())?);
     Ok(())
 }
