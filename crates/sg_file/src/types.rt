@@ -140,7 +140,7 @@ fn matrix_type(
     value: &Value,
 ) -> Result<TypeParts, GameError>
     ensures gives { (before : List Attacker) → Numbers index.old (map (λ (x : Attacker). x.name) before)
-        → GivesPart attacker_of result (matrix_type_at (place_of.Attacker number) number_lists before (data_of value.now)) }
+        → GivesPart attacker_of result (matrix_type_at (place_of.Attacker number) rows before (data_of value.now)) }
     ensures indexed { (before : List (List ℕ)) → Numbers index.old before → number ≡ length before + 1
         → IfOk result (λ x. Numbers index.new (before ++ string_bytes x.name ∷ [])) }
 {
@@ -240,7 +240,7 @@ pub(crate) fn matrix_types(
     rows: usize,
     value: &Value,
 ) -> Result<Vec<TypeParts>, GameError>
-    ensures { GivesPart (λ v. map attacker_of v.items) result (matrix_types_at number_lists (data_of value.now)) }
+    ensures { GivesPart (λ v. map attacker_of v.items) result (matrix_types_at rows (data_of value.now)) }
 {
     let values = some(Place::Document, 8, value)?;
     types_of(alloc, TypeForm::Matrix(rows), values)
