@@ -1,5 +1,5 @@
 #!/usr/bin/env bash
-# Runs the built program on bad input, and compares status, standard output and standard error with what docs/FORMATS.md says.
+# Runs the built program on bad input, and compares status, standard output and standard error with what docs/REPORT.md says.
 # Not part of the gate: it needs crates/patrol/out/patrol, as .ci/run leaves it.
 set -u
 top=$(cd "$(dirname "$0")/.." && pwd) || exit 1

@@ -2,7 +2,7 @@
 """Runs the built program's `check` and `show` on mutated reports, and compares each answer with that of the checker in tools/report_checker.py.
 
     tools/mutate-reports.py [CASES] [SEED] [--program PATH]    so many reports, made by the seed
-    tools/mutate-reports.py --self-test                        no program: the checker on reports worked out by hand, and on the examples of docs/FORMATS.md
+    tools/mutate-reports.py --self-test                        no program: the checker on reports worked out by hand, and on the examples of docs/REPORT.md
 
 The reports are those that `solve` writes, some worked out by hand, and right ones made up by the seed for the games of examples/ and for small made-up
 games; each with none to three changes. Each run must end within ten seconds with the status, the standard output and the standard error that the

@@ -1,24 +1,24 @@
 #!/usr/bin/env python3
-"""Runs the built program on mutated game files, made from examples/ by a seed, and compares each answer with what docs/FORMATS.md says.
+"""Runs the built program on mutated game files, made from examples/ by a seed, and compares each answer with what docs/GAME-FILE.md says.
 
     tools/mutate.py [CASES] [SEED]
 
 Each run must end within ten seconds with status 0, 3 or 6. With 0 the report must be accepted by `report_checker.py`, which shares no code
-with the program; with 3 and 6 standard output must be empty and standard error the line of that status. Not part of the gate: it needs
+with the program; with 3 and 6 standard output must be empty and standard error the line of that status,
+which with 6 is the reason and place that `explain.py` finds. Not part of the gate: it needs
 crates/patrol/out/patrol, as .ci/run leaves it.
 """
 import os
 import random
-import re
 import subprocess
 import sys
 import tempfile
 
+from explain import explain
 from report_checker import Game, answer
 
 TOP = os.path.dirname(os.path.dirname(os.path.abspath(__file__)))
 PROGRAM = os.path.join(TOP, "crates", "patrol", "out", "patrol")
-REFUSED = re.compile(rb"game refused ([1-9]|1[01]) at (document|(target|row|schedule|resource|type) [1-9][0-9]*)\n")
 NUMBERS = [b"0", b"1", b"-1", b"2", b"4", b"1073741824", b"1073741825", b"-1073741825", b"4294967296", b"9223372036854775808", b"1.0", b"true"]
 
 
@@ -57,7 +57,9 @@ def fault_of(text, ran):
     if ran.returncode == 3:
         return None if ran.stderr == b"not yet\n" else "a wrong line"
     if ran.returncode == 6:
-        return None if REFUSED.fullmatch(ran.stderr) else "a wrong line"
+        refused, _ = explain(text)
+        is_told = refused is not None and ran.stderr == f"game refused {refused.reason} at {refused.place}\n".encode()
+        return None if is_told else "another reason or place than explain.py's"
     return "a status that should not come"
 
 

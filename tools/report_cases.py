@@ -1,4 +1,4 @@
-"""Reports worked out by hand, with edits in words and the answers that they must get, and the examples of docs/FORMATS.md.
+"""Reports worked out by hand, with edits in words and the answers that they must get, and the examples of docs/REPORT.md.
 
 `tools/mutate-reports.py --self-test` tries the checker of tools/report_checker.py on all of them.
 """
@@ -8,7 +8,7 @@ import re
 from report_checker import MOST, Game, answer
 
 TOP = os.path.dirname(os.path.dirname(os.path.abspath(__file__)))
-FORMATS = os.path.join(TOP, "docs", "FORMATS.md")
+PAGE = os.path.join(TOP, "docs", "REPORT.md")
 
 # ---- games and reports
 
@@ -466,14 +466,14 @@ def blocks_of(document):
 
 
 def self_test():
-    """Compares the checker with the answers worked out by hand, and with the examples of the chapter on reports."""
+    """Compares the checker with the answers worked out by hand, and with those of docs/REPORT.md."""
     cases = [(game, report, how, expected, is_whole) for game, report, rows, is_whole in WORKED for how, expected in rows]
-    with open(FORMATS, encoding="utf-8") as file:
+    with open(PAGE, encoding="utf-8") as file:
         reports, examples = blocks_of(file.read())
     cases += [(*reports[name], how, expected, expected != "not yet") for name, how, expected in examples]
     faults = [it for it in (fault_of_case(*case) for case in cases) if it]
     faults += [f"failed: show: {report}" for game, report, shown in SHOWN if answer(Game(game), report.encode(), "show") != (0, shown, "")]
     for fault in faults:
         print(fault)
-    print(f"{len(cases) + len(SHOWN)} worked cases, {len(examples)} of them in docs/FORMATS.md, {len(faults)} failed")
+    print(f"{len(cases) + len(SHOWN)} worked cases, {len(examples)} of them in docs/REPORT.md, {len(faults)} failed")
     return 1 if faults else 0

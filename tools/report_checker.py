@@ -3,7 +3,7 @@
 
     tools/report_checker.py GAME REPORT    what `check` has to answer: its status, its line on standard output or standard error
 
-It follows the chapter on reports of docs/FORMATS.md test by test, with Python's whole numbers and fractions. It takes a game file to be one: it is
+It follows docs/REPORT.md test by test, with Python's whole numbers and fractions. It takes a game file to be one: it is
 reports that it tests. It knows the whole format, several types of attacker and cover facts too; what the program does not serve yet is told apart
 in `answer`. tools/report_cases.py tries it on reports worked out by hand, tools/mutate-reports.py compares the program with it.
 """
