@@ -9,7 +9,27 @@ use sg_pool::Row;
 use sg_rows::{combine_fitting, primitive, primitive_with};
 use std::mem::swap;
 
-/// `row * p - q * pivot` in the first places, which fit, without their common factor.
+/// `row * p - q * other`, which fits, without its common factor.
+fn combine_lowest(row: &mut [i128], p: i128, q: i128, other: &[i128])
+    requires long { length row.old ≡ length other.now }
+    requires fits { first_wide (combine_steps p q row.old other.now) ≡ None }
+    ensures { IsLowest (combined_rows p q row.old other.now) row.new }
+{
+    combine_fitting(row, p, q, other);
+    let _divisor = primitive(row);
+}
+
+/// The same of the first places of a row.
+fn combine_front(places: &mut [i128], height: usize, p: i128, q: i128, other: &[i128])
+    requires wide { height ≤ length places.old }
+    requires long { length other.now ≡ height }
+    requires fits { first_wide (combine_steps p q (take height places.old) other.now) ≡ None }
+    ensures { IsLowest (combined_rows p q (take height places.old) other.now) (take height places.new) }
+{
+    combine_lowest(&mut places[..height], p, q, other);
+}
+
+/// The same of a row and a pivot.
 fn combine_row(row: &mut Row, height: usize, p: i128, q: i128, pivot: &Row)
     requires row_wide { height ≤ length row.old }
     requires pivot_wide { height ≤ length pivot.now }
@@ -18,10 +38,7 @@ fn combine_row(row: &mut Row, height: usize, p: i128, q: i128, pivot: &Row)
     ensures lowest { IsLowest (combined_rows p q (take height row.old) (take height pivot.now)) (take height row.new) }
 {
     let other = &pivot.places()[..height];
-    let places = row.places_mut();
-    let front = &mut places[..height];
-    combine_fitting(front, p, q, other);
-    let _divisor = primitive(front);
+    combine_front(row.places_mut(), height, p, q, other);
 }
 
 /// The same for row `k`, by the products of the leaving row and of its own.
@@ -85,7 +102,35 @@ fn scaled(rho: i128, p: i128, gap: i128) -> i128
     rho * p
 }
 
-/// The multipliers and their denominator combined with the pivot, which fit, without their common factor; the new denominator.
+/// Multipliers with their denominator combined with a list and 0, which fit, without their common factor; the new denominator.
+fn combine_with(y: &mut [i128], rho: i128, p: i128, gap: i128, other: &[i128]) -> i128
+    requires long { length y.old ≡ length other.now }
+    requires fits { first_wide (combine_steps p gap (y.old ++ rho ∷ []) (other.now ++ pos 0 ∷ [])) ≡ None }
+    ensures { IsLowest (combined_rows p gap (y.old ++ rho ∷ []) (other.now ++ pos 0 ∷ [])) (y.new ++ result ∷ []) }
+{
+    combine_fitting(y, p, gap, other);
+    let last = scaled(rho, p, gap);
+    primitive_with(y, last)
+}
+
+/// The same of the first places of a row.
+fn combine_front_with(
+    places: &mut [i128],
+    height: usize,
+    rho: i128,
+    p: i128,
+    gap: i128,
+    other: &[i128],
+) -> i128
+    requires wide { height ≤ length places.old }
+    requires long { length other.now ≡ height }
+    requires fits { first_wide (combine_steps p gap (denominated height places.old rho) (other.now ++ pos 0 ∷ [])) ≡ None }
+    ensures { IsLowest (combined_rows p gap (denominated height places.old rho) (other.now ++ pos 0 ∷ [])) (denominated height places.new result) }
+{
+    combine_with(&mut places[..height], rho, p, gap, other)
+}
+
+/// The same of a row and a pivot.
 fn combine_multipliers(
     y: &mut Row,
     height: usize,
@@ -101,11 +146,7 @@ fn combine_multipliers(
     ensures lowest { IsLowest (combined_rows p gap (denominated height y.old rho) (denominated height pivot.now (pos 0))) (denominated height y.new result) }
 {
     let other = &pivot.places()[..height];
-    let places = y.places_mut();
-    let front = &mut places[..height];
-    combine_fitting(front, p, gap, other);
-    let last = scaled(rho, p, gap);
-    primitive_with(front, last)
+    combine_front_with(y.places_mut(), height, rho, p, gap, other)
 }
 
 /// The rows and the multipliers exchanged at the leaving row, by the products of the rows and the gap, where all that is formed fits; the new

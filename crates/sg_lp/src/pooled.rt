@@ -24,7 +24,15 @@ fn write_unit(places: &mut [i128], i: usize)
     }
 }
 
-/// Takes a row and writes 1 at place `i` of its first places and 0 elsewhere.
+/// The same in the first places of a row.
+fn write_front(places: &mut [i128], height: usize, i: usize)
+    requires { height ≤ length places.old }
+    ensures { take height places.new ≡ unit_row height i }
+{
+    write_unit(&mut places[..height], i);
+}
+
+/// Takes a row and writes 1 at place `i` of its first places and 0 elsewhere in them.
 pub(crate) fn take_unit_row(pool: &mut Pool, height: usize, i: usize) -> Row
     requires wide { height ≤ pool.old.width }
     requires spare { 1 ≤ length pool.old.free }
@@ -34,8 +42,7 @@ pub(crate) fn take_unit_row(pool: &mut Pool, height: usize, i: usize) -> Row
 {
     match pool.take() {
         Some(mut row) => {
-            let places = row.places_mut();
-            write_unit(&mut places[..height], i);
+            write_front(row.places_mut(), height, i);
             row
         }
         None => unreachable!(),
