@@ -12,7 +12,8 @@
 //!
 //! A sum, a difference, a product or a quotient is the exact one, or tells by a `Wide` the first of
 //! the operations it is formed by that does not fit an `i128`. [`Frac::compare`], [`Frac::floor`]
-//! and [`Frac::ceil`] are exact for every fraction. Only [`Frac::text`] takes memory, and only
+//! and [`Frac::ceil`] are exact for every fraction. [`quotient_order`] is the same order of two quotients
+//! that need not be in lowest terms. Only [`Frac::text`] takes memory, and only
 //! [`Frac::div`] asks something of its caller, that the divisor is not 0.
 //!
 //! The meaning of each call stands in `specs/`: `Fractions` says what the reduced form of a fraction
@@ -28,6 +29,7 @@ mod laws;
 mod order;
 
 pub use frac::Frac;
+pub use order::quotient_order;
 pub use laws::{
     operations_are_undone, order_is_of_difference, order_is_total, reduced_form_is_unique,
     whole_numbers_are_closest,

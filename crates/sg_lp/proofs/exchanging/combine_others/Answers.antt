@@ -1,0 +1,5 @@
+use Rattle.sg_lp.proofs.Exchanged.{all_combined, none_combined, one_more, passed}
+use Rattle.sg_lp.proofs.exchanging.combine_others.Goals as goal
+
+pub loop-k-init : goal.loop-k-init
+loop-k-init c = none_combined c.args.height c.args.rows.now c.args.products.now c.args.leaving c.args.pivot.now
