@@ -12,11 +12,13 @@ ghost use Rattle.sg_file.specs.Numbers.{Numbers};
 ghost use Rattle.sg_file.specs.Sections.{type_at};
 
 use crate::document::needed;
-use crate::fault::{GameError, OUT_OF_RANGE, check};
+use crate::fault::{GameError, check};
 use crate::keys::{Section, known_keys};
 use crate::names::{Index, Listing, add_name, names};
 use crate::value::{items, number, some, table};
 use sg_game::{GameFault, Place, TypeParts};
+use sg_model::limit::{ACTION_LIMIT, TYPE_LIMIT};
+use sg_model::reason::OUT_OF_RANGE;
 use std::alloc::Global;
 use std::collections::BTreeMap;
 use toml::{Table, Value};
@@ -140,7 +142,7 @@ fn matrix_type(
     value: &Value,
 ) -> Result<TypeParts, GameError>
     ensures gives { (before : List Attacker) → Numbers index.old (map (λ (x : Attacker). x.name) before)
-        → GivesPart attacker_of result (matrix_type_at (place_of.Attacker number) number_lists before (data_of value.now)) }
+        → GivesPart attacker_of result (matrix_type_at (place_of.Attacker number) rows before (data_of value.now)) }
     ensures indexed { (before : List (List ℕ)) → Numbers index.old before → number ≡ length before + 1
         → IfOk result (λ x. Numbers index.new (before ++ string_bytes x.name ∷ [])) }
 {
@@ -154,7 +156,7 @@ fn matrix_type(
     let second = needed(place, "follower", table)?;
     let name = add_name(alloc, index, place, number, own)?;
     let prior = prior(place, false, weight)?;
-    let actions = names(alloc, Listing::Actions(number), 64, named)?.list;
+    let actions = names(alloc, Listing::Actions(number), ACTION_LIMIT as u32, named)?.list;
     let leader = pay_table(alloc, place, rows, actions.len(), first)?;
     let follower = pay_table(alloc, place, rows, actions.len(), second)?;
     Ok(TypeParts {
@@ -214,9 +216,9 @@ fn types_of(alloc: Global, form: TypeForm, values: &[Value]) -> Result<Vec<TypeP
 }
 
 fn most_types(scaled: bool) -> usize
-    ensures { result ≡ (if scaled then 1 else 8) }
+    ensures { result ≡ (if scaled then 1 else TYPE_LIMIT) }
 {
-    if scaled { 1 } else { 8 }
+    if scaled { 1 } else { TYPE_LIMIT }
 }
 
 /// The types of a game in security form.
@@ -240,8 +242,8 @@ pub(crate) fn matrix_types(
     rows: usize,
     value: &Value,
 ) -> Result<Vec<TypeParts>, GameError>
-    ensures { GivesPart (λ v. map attacker_of v.items) result (matrix_types_at number_lists (data_of value.now)) }
+    ensures { GivesPart (λ v. map attacker_of v.items) result (matrix_types_at rows (data_of value.now)) }
 {
-    let values = some(Place::Document, 8, value)?;
+    let values = some(Place::Document, TYPE_LIMIT, value)?;
     types_of(alloc, TypeForm::Matrix(rows), values)
 }

@@ -11,11 +11,13 @@ mod fault;
 mod game_laws;
 mod kind;
 mod level;
+pub mod limit;
 mod optimality_laws;
 mod origami_laws;
 mod payoff_laws;
 mod play_laws;
 mod play_list_laws;
+pub mod reason;
 mod ticket;
 
 pub use examples::{worked_edges, worked_examples};
