@@ -43,8 +43,8 @@ use Rattle.sg_solve.proofs.Reports.{is_origami}
 same_level : (g : Game) → IsGame g → is_scaled g ≡ true → (k l : List Ticket) (a b : Fraction) (why reason : Level) → IsCommitment g k → IsCommitment g l → IsRightLevel g k a why → IsRightLevel g l b reason → a ≡ b
 same_level g is sc k l a b why reason ck cl p q =
     let o = is_origami g is sc in
-    let low : (b.num *ℤ a.den) ≤ℤ (a.num *ℤ b.den) = no_level_above g (resource_count g) o a.num a.den p.water.positive k ck p.coverage b.num b.den reason q.water in
-    let high : (a.num *ℤ b.den) ≤ℤ (b.num *ℤ a.den) = no_level_above g (resource_count g) o b.num b.den q.water.positive l cl q.coverage a.num a.den why p.water in
+    let low : (b.num *ℤ a.den) ≤ℤ (a.num *ℤ b.den) = no_level_above g o a.num a.den p.water.positive k ck p.coverage b.num b.den reason q.water in
+    let high : (a.num *ℤ b.den) ≤ℤ (b.num *ℤ a.den) = no_level_above g o b.num b.den q.water.positive l cl q.coverage a.num a.den why p.water in
     same_by_cross a b p.reduced q.reduced (omega (arith, ints, low, high))
 
 equal_from : (i j : ℕ) → (i < j → ⊥) → (j < i → ⊥) → i ≡ j
