@@ -200,7 +200,9 @@ compared-count g (p ∷ ps) all =
     let here = All-head (IsAct g) p ps all in
     let later = compared-count g ps (All-tail (IsAct g) p ps all) in
     let one = length-map {B = ℕ × ℕ} (filter (apart p.1) (numbers (action_count g p.0))) (λ (a : ℕ). (p.0, a)) ∙ apart-count p.1 (action_count g p.0) here.0 here.1 in
-    omega (arith, length-append (other_actions g p) (flat_map (other_actions g) ps), one, later)
+    let sum : length (other_actions g p) + length (flat_map (other_actions g) ps) ≡ (action_count g p.0 - 1) + sum_by (λ (q : ℕ × ℕ). action_count g q.0 - 1) ps =
+    omega (arith, one, later) in
+    length-append (other_actions g p) (flat_map (other_actions g) ps) ∙ sum
 
 pub play_rows_are_counted : PlayRowsAreCounted
 play_rows_are_counted g fix is_fix = ap (λ (m : ℕ). 1 + m) (compared-count g (fixed fix) is_fix.acts)
