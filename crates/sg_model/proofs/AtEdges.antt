@@ -1,6 +1,5 @@
 -- The cases at the edges, by computing and by the rule that is broken.
 use Rattle.std.proofs.Common.{◌≡◌, ◌≤◌, List, [], ◌∷◌, length, ℤ, pos, ◌≤ℤ◌, ap, refl, arith, codes, Some, None}
-use Rattle.std.specs.Fmt.{digits}
 use Rattle.std.proofs.lemmas.Int.{ints}
 use Rattle.sg_model.specs.Games.{Attacker, Named, nobody, unnamed}
 use Rattle.sg_model.specs.Names.{is_name}
