@@ -45,6 +45,6 @@ pub use play_laws::{
 };
 pub use play_list_laws::{
     legal_plays_are_all, legal_plays_are_counted, legal_plays_rise, plays_are_counted,
-    test_is_order,
+    test_is_order, worked_plays,
 };
 pub use ticket::{Play, Ticket};
