@@ -6,6 +6,7 @@ use Rattle.std.proofs.lemmas.Bool.{cases_eq}
 use Rattle.std.proofs.lemmas.Bool.Decides.{nat_tests}
 use Rattle.std.proofs.lemmas.List.{get_or_append_left, get_or-append-add, length-map}
 use Rattle.std.proofs.lemmas.List.Elements.{All-head, All-tail}
+use Rattle.std.proofs.lemmas.List.Sums.{sum_by-cons}
 use Rattle.std.proofs.Math.Nat.{suc-mul, zero-mul}
 use Rattle.sg_model.specs.declared.kind.Kind.TheVariants.{Security}
 use Rattle.sg_model.specs.Sums.{nth, numbers, numbers_from}
@@ -202,7 +203,7 @@ compared-count g (p ∷ ps) all =
     let one = length-map {B = ℕ × ℕ} (filter (apart p.1) (numbers (action_count g p.0))) (λ (a : ℕ). (p.0, a)) ∙ apart-count p.1 (action_count g p.0) here.0 here.1 in
     let sum : length (other_actions g p) + length (flat_map (other_actions g) ps) ≡ (action_count g p.0 - 1) + sum_by (λ (q : ℕ × ℕ). action_count g q.0 - 1) ps =
     omega (arith, one, later) in
-    length-append (other_actions g p) (flat_map (other_actions g) ps) ∙ sum
+    length-append (other_actions g p) (flat_map (other_actions g) ps) ∙ (sum ∙ sym (sum_by-cons (λ (q : ℕ × ℕ). action_count g q.0 - 1) p ps))
 
 pub play_rows_are_counted : PlayRowsAreCounted
 play_rows_are_counted g fix is_fix = ap (λ (m : ℕ). 1 + m) (compared-count g (fixed fix) is_fix.acts)
