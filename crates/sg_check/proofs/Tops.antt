@@ -7,7 +7,7 @@ use Rattle.std.proofs.lemmas.List.Elements.{All-append, All-cons, All-contains, 
 use Rattle.sg_model.proofs.Greatest.{Contains-head}
 use Rattle.sg_model.proofs.Ints.{v, times, le_by, le_from, cancel-le, mul-le}
 use Rattle.sg_frac.specs.Fractions.{Fraction, IsReduced, IsReducedForm}
-use Rattle.sg_frac.specs.Order.{IsNotAbove as IsStrict}
+use Rattle.sg_frac.specs.Order.{IsBelow as IsStrict}
 use Rattle.sg_frac.proofs.Apart.{same_by_cross}
 use Rattle.sg_bounds.specs.Accepted.{IsNotAbove, IsGreatest, IsSame}
 use Rattle.sg_check.specs.Answering.{IsGreatestBound, ShowsOnly}
