@@ -168,34 +168,34 @@ Decides-fact g fix (Water level why) = Decides-none false refl
 
 -- ---- levels
 
-abbrev reason_test : Game → ℕ → ℤ → ℤ → Level → Bool
-reason_test g patrols num den Resources = nat_le 1 (length (at_level g num den)) && int_eq (total (share g num den) (at_level g num den)) ((pos patrols *ℤ den) *ℤ g.scale)
-reason_test g patrols num den (Target j) = nat_le 1 j && (nat_le j (length g.goals) && int_eq ((payoff g 1 j).ac *ℤ den) num)
+abbrev reason_test : Game → ℤ → ℤ → Level → Bool
+reason_test g num den Resources = nat_le 1 (length (at_level g num den)) && int_eq (total (share g num den) (at_level g num den)) ((pos (resource_count g) *ℤ den) *ℤ g.scale)
+reason_test g num den (Target j) = nat_le 1 j && (nat_le j (length g.goals) && int_eq ((payoff g 1 j).ac *ℤ den) num)
 
 Decides-some : {X : Type 0} (xs : List X) → Decides (nat_le 1 (length xs)) (xs ≢ [])
 Decides-some [] = (λ e. absurd (true≢false (sym e)), λ h. absurd (h refl))
 Decides-some (x ∷ xs) = (λ e. λ none. let n : suc (length xs) ≡ 0 = ap length none in omega (arith, n), λ h. (Decides-le 1 (suc (length xs))).1 (omega arith))
 
-Decides-reason : (g : Game) (patrols : ℕ) (num den : ℤ) (why : Level) → Decides (reason_test g patrols num den why) (IsLevelFor g patrols num den why)
-Decides-reason g patrols num den Resources =
-    let a = nat_le 1 (length (at_level g num den)) in let b = int_eq (total (share g num den) (at_level g num den)) ((pos patrols *ℤ den) *ℤ g.scale) in
-    Decides-like (a && b) (λ k. record { some = k.0; sum = k.1 }) (λ (is : SpendsAll g patrols num den). (is.some, is.sum))
-    (Decides-and a b (Decides-some (at_level g num den)) (Decides-int_eq (total (share g num den) (at_level g num den)) ((pos patrols *ℤ den) *ℤ g.scale)))
-Decides-reason g patrols num den (Target j) =
+Decides-reason : (g : Game) (num den : ℤ) (why : Level) → Decides (reason_test g num den why) (IsLevelFor g num den why)
+Decides-reason g num den Resources =
+    let a = nat_le 1 (length (at_level g num den)) in let b = int_eq (total (share g num den) (at_level g num den)) ((pos (resource_count g) *ℤ den) *ℤ g.scale) in
+    Decides-like (a && b) (λ k. record { some = k.0; sum = k.1 }) (λ (is : SpendsAll g num den). (is.some, is.sum))
+    (Decides-and a b (Decides-some (at_level g num den)) (Decides-int_eq (total (share g num den) (at_level g num den)) ((pos (resource_count g) *ℤ den) *ℤ g.scale)))
+Decides-reason g num den (Target j) =
     let a = nat_le 1 j in let b = nat_le j (length g.goals) in let d = int_eq ((payoff g 1 j).ac *ℤ den) num in
     Decides-like (a && (b && d)) (λ k. record { from_one = k.0; in_range = k.1.0; pays = k.1.1 }) (λ (is : IsFullyCovered g num den j). (is.from_one, (is.in_range, is.pays)))
     (Decides-and a (b && d) (Decides-le 1 j) (Decides-and b d (Decides-le j (length g.goals)) (Decides-int_eq ((payoff g 1 j).ac *ℤ den) num)))
 
-abbrev water_test : Game → ℕ → ℤ → ℤ → Level → Bool
-water_test g patrols num den why = int_le (pos 1) den && reason_test g patrols num den why
+abbrev water_test : Game → ℤ → ℤ → Level → Bool
+water_test g num den why = int_le (pos 1) den && reason_test g num den why
 
-Decides-water : (g : Game) (patrols : ℕ) (num den : ℤ) (why : Level) → Decides (water_test g patrols num den why) (IsWater g patrols num den why)
-Decides-water g patrols num den why =
-    Decides-like (water_test g patrols num den why) (λ k. record { positive = k.0; level = k.1 }) (λ (is : IsWater g patrols num den why). (is.positive, is.level))
-    (Decides-and (int_le (pos 1) den) (reason_test g patrols num den why) (Decides-le_z (pos 1) den) (Decides-reason g patrols num den why))
+Decides-water : (g : Game) (num den : ℤ) (why : Level) → Decides (water_test g num den why) (IsWater g num den why)
+Decides-water g num den why =
+    Decides-like (water_test g num den why) (λ k. record { positive = k.0; level = k.1 }) (λ (is : IsWater g num den why). (is.positive, is.level))
+    (Decides-and (int_le (pos 1) den) (reason_test g num den why) (Decides-le_z (pos 1) den) (Decides-reason g num den why))
 
 abbrev level_test : Game → Node → Bool
-level_test g (closed (Water level why)) = water_test g (resource_count g) level.num level.den why
+level_test g (closed (Water level why)) = water_test g level.num level.den why
 level_test g t = false
 
 Decides-level : (g : Game) (t : Node) → Decides (level_test g t) (IsWaterTree g t)
@@ -203,7 +203,7 @@ Decides-level g unproved = Decides-none false refl
 Decides-level g (split l base parts) = Decides-none false refl
 Decides-level g (closed (Plays rho mu marks)) = Decides-none false refl
 Decides-level g (closed (Cover rho mu lines)) = Decides-none false refl
-Decides-level g (closed (Water level why)) = Decides-water g (resource_count g) level.num level.den why
+Decides-level g (closed (Water level why)) = Decides-water g level.num level.den why
 
 -- ---- the root
 

@@ -43,20 +43,15 @@ raised g is_peopled a b bound positive below =
           bound.positive;
     }
 
--- the patrols are the resources
-pub patrols-count : (g : Game) (patrols : ℕ) → g.patrols ≡ Some patrols → resource_count g ≡ patrols
-patrols-count g patrols e = rw e refl
-
-water_upper : (g : Game) → IsPeopled g → (patrols : ℕ) → IsOrigami g patrols → (caps : List Cap) (t : Node) (upper : Fraction) → pos 1 ≤ℤ upper.den
+water_upper : (g : Game) → IsPeopled g → IsOrigami g → (caps : List Cap) (t : Node) (upper : Fraction) → pos 1 ≤ℤ upper.den
     → IsWaterTree g t → All (λ (x : Fraction). IsNotAbove x upper) (tree_bounds_of g caps t) → IsUpperBound g upper.num upper.den
-water_upper g is_peopled patrols o caps unproved upper positive h all = absurd h
-water_upper g is_peopled patrols o caps (split l base parts) upper positive h all = absurd h
-water_upper g is_peopled patrols o caps (closed (Plays rho mu marks)) upper positive h all = absurd h
-water_upper g is_peopled patrols o caps (closed (Cover rho mu lines)) upper positive h all = absurd h
-water_upper g is_peopled patrols o caps (closed (Water level why)) upper positive h all =
+water_upper g is_peopled o caps unproved upper positive h all = absurd h
+water_upper g is_peopled o caps (split l base parts) upper positive h all = absurd h
+water_upper g is_peopled o caps (closed (Plays rho mu marks)) upper positive h all = absurd h
+water_upper g is_peopled o caps (closed (Cover rho mu lines)) upper positive h all = absurd h
+water_upper g is_peopled o caps (closed (Water level why)) upper positive h all =
     let b : Fraction = record { num = water_bound g level.num level.den; den = level.den *ℤ g.scale } in
-    let w : IsWater g patrols level.num level.den why = subst (λ (p : ℕ). IsWater g p level.num level.den why) (patrols-count g patrols o.identical) h in
-    raised g is_peopled b upper (water_bounds g patrols o level.num level.den why w) positive (All-head (λ (x : Fraction). IsNotAbove x upper) b [] all)
+    raised g is_peopled b upper (water_bounds g o level.num level.den why h) positive (All-head (λ (x : Fraction). IsNotAbove x upper) b [] all)
 
 upper_bound : (g : Game) → IsGame g → (r : Report) → IsAccepted g r → IsUpperBound g r.upper.num r.upper.den
 upper_bound g is_game r a = by_form (is_scaled g) refl
@@ -71,7 +66,7 @@ upper_bound g is_game r a = by_form (is_scaled g) refl
     all = let q = a.upper in All-tail (λ (x : Fraction). IsNotAbove x r.upper) r.value (tree_bounds_of g r.caps (node_of r.tree)) q.bounds
 
     by_form : (b : Bool) → is_scaled g ≡ b → IsUpperBound g r.upper.num r.upper.den
-    by_form true e = let o = origami g is_game e in water_upper g (peopled g is_game) o.0 o.1 r.caps (node_of r.tree) r.upper positive (when_true (IsWaterTree g (node_of r.tree)) (IsSplitTree g (node_of r.tree)) e a.tree) all
+    by_form true e = let o = origami g is_game e in water_upper g (peopled g is_game) o r.caps (node_of r.tree) r.upper positive (when_true (IsWaterTree g (node_of r.tree)) (IsSplitTree g (node_of r.tree)) e a.tree) all
     by_form false e = tree_bounds g (peopled g is_game) r.caps a.caps (node_of r.tree) (when_false (IsWaterTree g (node_of r.tree)) (IsSplitTree g (node_of r.tree)) e a.tree) r.upper positive all
 
 -- tickets whose value is the upper bound meet it

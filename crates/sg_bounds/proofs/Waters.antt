@@ -21,22 +21,18 @@ use Rattle.sg_num.specs.Exact.{Fits}
 use Rattle.sg_bounds.specs.Accepted.{IsNotAbove, IsGreatest, IsSplitTree, IsWaterTree, tree_sums}
 use Rattle.sg_bounds.specs.ReportLaws.{LevelReportIsAccepted}
 use Rattle.sg_bounds.proofs.Nodes.{node_of-Closed}
-use Rattle.sg_bounds.proofs.Reports.{patrols-count}
 
 pub level_accepted : LevelReportIsAccepted
 level_accepted g is_game scaled k is_k lowest value is_value reduced level why water shares weights values =
-    let o = origami g is_game scaled in
-    let p : ℕ = o.0 in
-    let is_o = o.1 in
-    let w : IsWater g p level.num level.den why = subst (λ (n : ℕ). IsWater g n level.num level.den why) (patrols-count g p is_o.identical) water in
+    let is_o = origami g is_game scaled in
     let bound : Fraction = record { num = water_bound g level.num level.den; den = level.den *ℤ g.scale } in
-    let best = tickets-optimal g p is_o level.num level.den w.positive k is_k shares why w in
+    let best = tickets-optimal g is_o level.num level.den water.positive k is_k shares why water in
     let same : node_of (Closed (Water level why)) ≡ closed (Water level why) = node_of-Closed (Water level why) in
     let one = is_o.one_type in
-    let low : IsNotAbove value bound = bound_above g (peopled g is_game) bound.num bound.den (water_bounds g p is_o level.num level.den why w) k is_k value.num value.den is_value in
+    let low : IsNotAbove value bound = bound_above g (peopled g is_game) bound.num bound.den (water_bounds g is_o level.num level.den why water) k is_k value.num value.den is_value in
     let high : IsNotAbove bound value =
     bound_above g (peopled g is_game) value.num value.den (optimal-bound g k is_k best value.num value.den is_value) k is_k bound.num bound.den
-    (tickets-value g p is_o level.num level.den w.positive k is_k shares why w) in
+    (tickets-value g is_o level.num level.den water.positive k is_k shares why water) in
     record {
       tickets = is_k;
       total = refl;

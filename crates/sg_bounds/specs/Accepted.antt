@@ -36,7 +36,7 @@ pub record IsGreatest (b : Fraction) (bs : List Fraction) : Type 0 where
 
 -- one water level that holds, and nothing else
 abbrev pub IsWaterTree : Game → Node → Type 0
-IsWaterTree g (closed (Water level why)) = IsWater g (resource_count g) level.num level.den why
+IsWaterTree g (closed (Water level why)) = IsWater g level.num level.den why
 IsWaterTree g t = ⊥
 
 -- a split with an open base, whose facts hold where their actions are taken

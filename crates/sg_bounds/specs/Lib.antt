@@ -17,3 +17,4 @@ pub mod Examples
 pub mod OrderExamples
 pub mod SizeExamples
 pub mod RowLaws
+pub mod RowExamples

@@ -64,7 +64,7 @@ level_report k value level why = record {
 abbrev pub LevelReportIsAccepted : Type 0
 LevelReportIsAccepted = (g : Game) → IsGame g → is_scaled g ≡ true → (k : List Ticket) → IsCommitment g k → AreLowest k
     → (value : Fraction) → IsValue g k value.num value.den → IsReduced value
-    → (level : Fraction) (why : Level) → IsWater g (resource_count g) level.num level.den why → AreLevelTickets g level.num level.den k
+    → (level : Fraction) (why : Level) → IsWater g level.num level.den why → AreLevelTickets g level.num level.den k
     → All Fits (weight_sums k) → All Fits (value_sums g k) → IsAccepted g (level_report k value level why)
 
 -- the sums under a value fit where the total, times the priors and the range of payoffs, does

@@ -1,6 +1,7 @@
 //! Laws about facts and caps, each as the contract of a function that does nothing.
 
 ghost use Rattle.sg_bounds.specs.FactLaws.{CapBounds, CoverIsPlays, EmptyRegion, FactBounds};
+ghost use Rattle.sg_bounds.specs.RowExamples.{AreWorkedRows};
 ghost use Rattle.sg_bounds.specs.RowLaws.{ColumnsAreAll, PlayRowsAreCounted, RowsInOrder};
 
 /// A fact of the coverage table is a fact over all legal plays.
@@ -37,4 +38,9 @@ pub fn play_rows_are_counted()
 /// The list of the coverage table's columns holds each column once, and nothing else.
 pub fn columns_are_all()
     ensures { ColumnsAreAll }
+{}
+
+/// The rows and columns of small programs, worked out by hand.
+pub fn worked_rows()
+    ensures { AreWorkedRows }
 {}

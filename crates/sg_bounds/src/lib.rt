@@ -17,7 +17,7 @@ pub use check_laws::{each_is_answered, first_is_one, passing_is_acceptance, refu
 pub use examples::{worked_orders, worked_reports, worked_sizes};
 pub use fact_laws::{
     cap_bounds, columns_are_all, cover_is_plays, empty_region, fact_bounds, play_rows_are_counted,
-    rows_in_order,
+    rows_in_order, worked_rows,
 };
 pub use report_laws::{
     accepted_means, leaf_is_met, level_report_is_accepted, small_totals_fit, tree_bounds,

@@ -126,7 +126,7 @@ num-small num den m d most low le same s =
 -- ---- a level that the patrols hold up
 
 module _ (g : Game) (game : IsGame g) (f : IsFillable g) (num den : ℤ) (reduced : IsReduced (record { num = num; den = den })) where
-  pub spent-small : SpendsAll g (resource_count g) num den → IsSmallHeight (record { num = num; den = den })
+  pub spent-small : SpendsAll g num den → IsSmallHeight (record { num = num; den = den })
   spent-small s =
       let xs : List ℕ = at_level g num den in
       let each = at_level_each g num den in
@@ -196,7 +196,7 @@ module _ (g : Game) (f : IsFillable g) (num den : ℤ) where
       (λ lt. let e = count-low g num den t (λ le. omega (arith, ints, lt, le)) in omega (arith, ints, e))
       (λ le. let e = count-high g num den t le in let p = product_nonneg (multiple g t) ((payoff g 1 t).au *ℤ den -ℤ num) (omega (arith, ints, m)) (omega (arith, ints, le)) in omega (arith, ints, e, p))
 
-  spent-shares : SpendsAll g (resource_count g) num den → pos 1 ≤ℤ den → den ≤ℤ pos (2 ^ 46)
+  spent-shares : SpendsAll g num den → pos 1 ≤ℤ den → den ≤ℤ pos (2 ^ 46)
       → (t : ℕ) → 1 ≤ t → t ≤ length g.goals → num ≤ℤ ((payoff g 1 t).au *ℤ den) → share g num den t ≤ℤ pos (2 ^ 86)
   spent-shares s den_low den_high t low high le =
       let n : ℕ = length g.goals in
@@ -240,7 +240,7 @@ module _ (g : Game) (game : IsGame g) (f : IsFillable g) (num den : ℤ) (reduce
         level-some g num den j h.from_one h.in_range (omega (arith, ints, above, h.pays)),
       )
 
-  pub water-bounding : (why : Level) → IsWater g (resource_count g) num den why → IsBounding g (record { num = num; den = den }) × (at_level g num den ≢ [])
+  pub water-bounding : (why : Level) → IsWater g num den why → IsBounding g (record { num = num; den = den }) × (at_level g num den ≢ [])
   water-bounding Resources w =
       let small = spent-small g game f num den reduced w.level in
       (record { small = small; shares = spent-shares g f num den w.level small.den.at_least small.den.at_most }, w.level.some)

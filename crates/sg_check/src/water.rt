@@ -229,7 +229,7 @@ fn is_equal(a: i128, b: i128) -> bool
 fn spends_all(game: &Game, level: &Height) -> bool
     requires fillable { IsFillable game.now }
     requires small { IsSmallHeight level.now }
-    ensures { IsTrue result ↔ SpendsAll game.now (resource_count game.now) level.now.num level.now.den }
+    ensures { IsTrue result ↔ SpendsAll game.now level.now.num level.now.den }
 {
     if has_target(game, level) {
         is_equal(needed(game, level), available(game, level))
@@ -281,7 +281,7 @@ fn is_floor(game: &Game, level: &Height, j: u16) -> bool
 fn is_spent(game: &Game, level: &Height) -> bool
     requires fillable { IsFillable game.now }
     requires reduced { IsReduced (record { num = level.now.num; den = level.now.den }) }
-    ensures { IsTrue result ↔ SpendsAll game.now (resource_count game.now) level.now.num level.now.den }
+    ensures { IsTrue result ↔ SpendsAll game.now level.now.num level.now.den }
 {
     game.promises();
     if is_small(level) {
@@ -295,7 +295,7 @@ fn is_spent(game: &Game, level: &Height) -> bool
 fn is_level(game: &Game, level: &Height, reason: &Level) -> bool
     requires fillable { IsFillable game.now }
     requires reduced { IsReduced (record { num = level.now.num; den = level.now.den }) }
-    ensures { IsTrue result ↔ IsWater game.now (resource_count game.now) level.now.num level.now.den reason.now }
+    ensures { IsTrue result ↔ IsWater game.now level.now.num level.now.den reason.now }
 {
     match reason {
         Level::Resources => is_spent(game, level),
@@ -391,7 +391,7 @@ fn bound(game: &Game, level: &Height) -> Frac
 /// The bound of a level, where it holds for this reason.
 pub(crate) fn tested(game: &Game, level: &Frac, reason: &Level) -> Option<Frac>
     requires { is_scaled game.now ≡ true }
-    ensures { MatchOption result (IsWater game.now (resource_count game.now) level.now.num level.now.den reason.now → ⊥) (λ b. IsWater game.now (resource_count game.now) level.now.num level.now.den reason.now × IsReducedForm (water_bound game.now level.now.num level.now.den) (level.now.den *ℤ game.now.scale) b) }
+    ensures { MatchOption result (IsWater game.now level.now.num level.now.den reason.now → ⊥) (λ b. IsWater game.now level.now.num level.now.den reason.now × IsReducedForm (water_bound game.now level.now.num level.now.den) (level.now.den *ℤ game.now.scale) b) }
 {
     game.promises();
     let height = Height {

@@ -71,7 +71,7 @@ by_both files name report status text s stands Next due h =
     let game = of_game (ByPair Next (bytes_under files report)) (game_of_bytes s.says.bytes) g due s.says.game
     (of_bytes game_limit (λ bytes. ByGame (ByPair Next (bytes_under files report)) (game_of_bytes bytes)) (bytes_under files name) s.says.bytes due s.says.reads.may_hold s.says.reads.within h) in
     let is = accepted s.says.bytes g s.says.game in
-    let one : length g.types ≡ 1 = (origami g is s.is_solved).1.one_type in
+    let one : length g.types ≡ 1 = (origami g is s.is_solved).one_type in
     let le : length text ≤ report_limit = omega (arith, ap length s.written, short g is r s.answer) in
     let file : ByFile report_limit (λ bytes. ByReport (Next g) (report_of bytes)) (bytes_under files report) due =
     MatchBool-at_true (ByFile report_limit (λ bytes. ByReport (Next g) (report_of bytes)) (bytes_under files report) due) (due ≡ 3) (ap (λ (n : ℕ). n == 1) one) game in

@@ -66,15 +66,15 @@ few_of g is sc =
     let o = origami g is sc in
     elim (game_cases g is) [
       | inl s ↦ (
-          let d : ArePatrols g o.0 = subst (IsDefended g) o.1.identical s.game.defended in
+          let d : ArePatrols g (resource_count g) = subst (IsDefended g) o.identical s.game.defended in
           record {
             security = s.kind;
-            patrols = o.0;
-            identical = o.1.identical;
-            few = subst (λ (b : Bool). o.0 ≤ (if b then 200 else 32)) sc d.few;
+            patrols = (resource_count g);
+            identical = o.identical;
+            few = subst (λ (b : Bool). (resource_count g) ≤ (if b then 200 else 32)) sc d.few;
             goals = subst (λ (b : Bool). length g.goals ≤ (if b then 10000 else 200)) sc s.game.target_count.at_most;
           })
-      | inr m ↦ absurd (let e : ◌≡◌ {A = Option ℕ} (Some o.0) None = sym o.1.identical ∙ m.game.no_patrols in cc)
+      | inr m ↦ absurd (let e : ◌≡◌ {A = Option ℕ} (Some (resource_count g)) None = sym o.identical ∙ m.game.no_patrols in cc)
     ]
 
 short_play : (g : Game) → HasFew g → (code : List ℕ) → IsLegal g code → IsShort code

@@ -185,7 +185,7 @@ module _ (g : Game) (h : IsGame g) (k : List Ticket) (positive : ArePositive k) 
 pub scaled-small : (g : Game) → IsGame g → pos 1 ≤ℤ g.scale → (k : List Ticket) → weight_total k ≤ℤ pos (2 ^ 96) → HasSmallTotal g k
 scaled-small g h scaled k few =
     let o = origami g h (sym (omega (arith, ints, scaled))) in
-    let p : prior_total g ≡ pos 1 = prior_is g o.0 o.1 in
+    let p : prior_total g ≡ pos 1 = prior_is g o in
     let one : weight_total k *ℤ prior_total g ≡ weight_total k = ap (λ (z : ℤ). weight_total k *ℤ z) p ∙ same_by (times (v (weight_total k)) (n 1)) (v (weight_total k)) (omega arith) in
     omega (arith, ints, one, few)
 

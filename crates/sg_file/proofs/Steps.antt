@@ -10,10 +10,11 @@ use Rattle.toml.specs.Parse.{parse_document}
 use Rattle.toml.specs.View.{members_view}
 use Rattle.toml.specs.declared.value.Value.{Value}
 use Rattle.sg_model.specs.declared.fault.Place.TheVariants.{Document}
-use Rattle.sg_format.specs.Steps.{refused, not_toml}
+use Rattle.sg_format.specs.Steps.{refused}
+use Rattle.sg_model.specs.declared.reason.TheConstants.{NOT_TOML}
 use Rattle.sg_format.specs.Documents.{document_of, has_only}
 
-pub document_of-refused : (bytes : List ℕ) → (IsUtf8 bytes → parse_document bytes ≡ None) → document_of bytes ≡ refused not_toml Document
+pub document_of-refused : (bytes : List ℕ) → (IsUtf8 bytes → parse_document bytes ≡ None) → document_of bytes ≡ refused NOT_TOML Document
 unfolding document_of
 document_of-refused bytes h =
     elim (cases_Bool (is_utf8 bytes)) [

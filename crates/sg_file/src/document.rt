@@ -6,8 +6,9 @@ ghost use Rattle.toml.specs.Data.{get_member};
 ghost use Rattle.sg_format.specs.Documents.{document_of, needed_at};
 ghost use Rattle.sg_file.specs.Answers.{GivesPart, TellsPart};
 
-use crate::fault::{GameError, MISSING_KEY, NOT_TOML, fault};
+use crate::fault::{GameError, fault};
 use sg_game::{GameFault, Place};
+use sg_model::reason::{MISSING_KEY, NOT_TOML};
 use std::alloc::Global;
 use toml::{Table, Value};
 

@@ -8,28 +8,6 @@ use sg_game::{GameFault, Place};
 use std::alloc::{AllocError, AllocFailed};
 use thiserror::Error;
 
-pub(crate) const NOT_TOML: u8 = 1;
-
-pub(crate) const BAD_VERSION: u8 = 2;
-
-pub(crate) const MISSING_KEY: u8 = 3;
-
-pub(crate) const WRONG_KIND: u8 = 4;
-
-pub(crate) const UNKNOWN_KEY: u8 = 5;
-
-pub(crate) const EMPTY_LIST: u8 = 6;
-
-pub(crate) const UNKNOWN_NAME: u8 = 7;
-
-pub(crate) const REPEATED_NAME: u8 = 8;
-
-pub(crate) const OUT_OF_RANGE: u8 = 9;
-
-pub(crate) const TOO_LARGE: u8 = 10;
-
-pub(crate) const BAD_SCALE: u8 = 11;
-
 /// Why there is no game.
 #[derive(Debug, Drop, Error)]
 pub enum GameError {

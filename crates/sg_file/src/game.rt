@@ -8,7 +8,7 @@ ghost use Rattle.sg_file.specs.Answers.{GivesPart, TellsPart};
 ghost use Rattle.toml.specs.Data.{get_member};
 
 use crate::document::{document, has_key, needed, value_at};
-use crate::fault::{BAD_VERSION, GameError, MISSING_KEY, OUT_OF_RANGE, WRONG_KIND, check, fault};
+use crate::fault::{GameError, check, fault};
 use crate::keys::{Section, known_keys};
 use crate::limits::within_limits;
 use crate::lists::{Group, lists};
@@ -16,6 +16,10 @@ use crate::names::{Listing, names};
 use crate::types::{matrix_types, security_types};
 use crate::value::{integer, number};
 use sg_game::{Game, GameFault, Kind, Parts, Place};
+use sg_model::limit::{
+    PATROL_LIMIT, ROW_LIMIT, SCALED_PATROL_LIMIT, SCALED_TARGET_LIMIT, TARGET_LIMIT,
+};
+use sg_model::reason::{BAD_VERSION, MISSING_KEY, OUT_OF_RANGE, WRONG_KIND};
 use std::alloc::Global;
 use toml::{Table, Value};
 
@@ -80,16 +84,24 @@ fn scale(table: &Table) -> Result<Option<i64>, GameFault>
 }
 
 fn most_targets(scaled: bool) -> u32
-    ensures exact { result ≡ (if scaled then 10000 else 200) }
+    ensures exact { result ≡ (if scaled then SCALED_TARGET_LIMIT else TARGET_LIMIT) }
     ensures small { result < 2 ^ 32 - 1 }
 {
-    if scaled { 10_000 } else { 200 }
+    if scaled {
+        SCALED_TARGET_LIMIT as u32
+    } else {
+        TARGET_LIMIT as u32
+    }
 }
 
 fn most_patrols(scaled: bool) -> i64
-    ensures { result ≡ pos (if scaled then 200 else 32) }
+    ensures { result ≡ pos (if scaled then SCALED_PATROL_LIMIT else PATROL_LIMIT) }
 {
-    if scaled { 200 } else { 32 }
+    if scaled {
+        SCALED_PATROL_LIMIT as i64
+    } else {
+        PATROL_LIMIT as i64
+    }
 }
 
 /// A game of identical patrols, whose number is given.
@@ -129,7 +141,7 @@ fn listed_game(
 ) -> Result<Parts, GameError>
     ensures { GivesPart game_of result (listed_game (data_of listed.now) (data_of given.now) (data_of manned.now) (data_of attackers.now)) }
 {
-    let targets = names(alloc, Listing::Targets, 200, listed)?;
+    let targets = names(alloc, Listing::Targets, TARGET_LIMIT as u32, listed)?;
     let schedules = lists(alloc, Group::Schedules, &targets.index, given)?;
     let resources = lists(alloc, Group::Resources, &schedules.index, manned)?;
     let types = security_types(alloc, false, targets.list.len(), attackers)?;
@@ -168,7 +180,7 @@ fn matrix_game(alloc: Global, table: &Table) -> Result<Parts, GameError>
     known_keys(Place::Document, Section::Matrix, table)?;
     let listed = needed(Place::Document, "rows", table)?;
     let attackers = needed(Place::Document, "type", table)?;
-    let rows = names(alloc, Listing::Rows, 4_096, listed)?.list;
+    let rows = names(alloc, Listing::Rows, ROW_LIMIT as u32, listed)?.list;
     let types = matrix_types(alloc, rows.len(), attackers)?;
     let parts = Parts {
         kind: Kind::Matrix,

@@ -4,15 +4,17 @@ ghost use Rattle.std.specs.Prelude.{◌≡◌, string_bytes, codes};
 ghost use Rattle.std.specs.List.{list_all};
 ghost use Rattle.std.specs.BTreeMap.{keys};
 ghost use Rattle.toml.specs.View.{table_view};
-ghost use Rattle.sg_format.specs.Steps.{passed, unknown_key};
+ghost use Rattle.sg_format.specs.Steps.{passed};
+ghost use Rattle.sg_model.specs.declared.reason.TheConstants.{UNKNOWN_KEY};
 ghost use Rattle.sg_format.specs.Documents.{has_only};
 ghost use Rattle.sg_format.specs.Lists.{is_named_key};
 ghost use Rattle.sg_format.specs.Types.{is_security_type_key, is_matrix_type_key};
 ghost use Rattle.sg_format.specs.GameFiles.{is_patrols_key, is_resources_key, is_matrix_key};
 ghost use Rattle.sg_file.specs.Sections.{is_key_of};
 
-use crate::fault::{UNKNOWN_KEY, check};
+use crate::fault::check;
 use sg_game::{GameFault, Place};
+use sg_model::reason::UNKNOWN_KEY;
 use toml::Table;
 
 /// The tables of a game file.
@@ -116,7 +118,7 @@ fn has_only(section: Section, table: &Table) -> bool
 
 /// Refuses a table with a key that it may not have.
 pub(crate) fn known_keys(place: Place, section: Section, table: &Table) -> Result<(), GameFault>
-    ensures { result ≡ passed (has_only (is_key_of section) (table_view table.now)) unknown_key place }
+    ensures { result ≡ passed (has_only (is_key_of section) (table_view table.now)) UNKNOWN_KEY place }
 {
     check(has_only(section, table), UNKNOWN_KEY, place)
 }

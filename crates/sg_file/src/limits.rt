@@ -9,8 +9,10 @@ ghost use Rattle.sg_game.specs.Seen.{number_lists, attacker_of, game_of};
 ghost use Rattle.sg_game.specs.declared.parts.TypeParts.{TypeParts};
 ghost use Rattle.sg_format.specs.GameFiles.{is_zero, fits_scale, limits_of};
 
-use crate::fault::{BAD_SCALE, TOO_LARGE, check};
+use crate::fault::check;
 use sg_game::{GameFault, Kind, Parts, Place, TypeParts};
+use sg_model::limit::PROGRAM_ROW_LIMIT;
+use sg_model::reason::{BAD_SCALE, TOO_LARGE};
 
 /// The number at a place, or 0 past the end.
 fn pay_at(pays: &[i64], place: usize) -> i64
@@ -117,6 +119,10 @@ pub(crate) fn within_limits(parts: &Parts, scaled: bool) -> Result<(), GameFault
     if scaled {
         check(fits_scale(parts), BAD_SCALE, Place::Attacker(1))
     } else {
-        check(program_rows(parts) <= 1_536, TOO_LARGE, Place::Document)
+        check(
+            program_rows(parts) <= PROGRAM_ROW_LIMIT as u128,
+            TOO_LARGE,
+            Place::Document,
+        )
     }
 }

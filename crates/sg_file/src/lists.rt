@@ -11,11 +11,15 @@ ghost use Rattle.sg_file.specs.Numbers.{Numbers, Marks};
 ghost use Rattle.sg_file.specs.Sections.{key_of, member_place, limit_of, members_limit, section_of};
 
 use crate::document::needed;
-use crate::fault::{GameError, REPEATED_NAME, UNKNOWN_NAME, fault};
+use crate::fault::{GameError, fault};
 use crate::keys::{Section, known_keys};
 use crate::names::{Index, add_name, find};
 use crate::value::{few, some, table, text};
 use sg_game::{GameFault, ListParts, Place};
+use sg_model::limit::{
+    RESOURCE_LIMIT, RESOURCE_SCHEDULE_LIMIT, SCHEDULE_LIMIT, SCHEDULE_TARGET_LIMIT,
+};
+use sg_model::reason::{REPEATED_NAME, UNKNOWN_NAME};
 use std::alloc::Global;
 use std::collections::{BTreeMap, BTreeSet};
 use toml::{Table, Value};
@@ -44,8 +48,8 @@ impl Group {
         ensures small { result ≤ 500 }
     {
         match self {
-            Group::Schedules => 500,
-            Group::Resources => 32,
+            Group::Schedules => SCHEDULE_LIMIT,
+            Group::Resources => RESOURCE_LIMIT,
         }
     }
 
@@ -53,8 +57,8 @@ impl Group {
         ensures { result ≡ members_limit self }
     {
         match self {
-            Group::Schedules => 200,
-            Group::Resources => 500,
+            Group::Schedules => SCHEDULE_TARGET_LIMIT,
+            Group::Resources => RESOURCE_SCHEDULE_LIMIT,
         }
     }
 

@@ -9,9 +9,10 @@ ghost use Rattle.sg_file.specs.Answers.{GivesPart, TellsPart};
 ghost use Rattle.sg_file.specs.Numbers.{Numbers};
 ghost use Rattle.sg_file.specs.Sections.{listing_place, entry_of};
 
-use crate::fault::{GameError, REPEATED_NAME, fault};
+use crate::fault::{GameError, fault};
 use crate::value::{name, some};
 use sg_game::{GameFault, Place};
+use sg_model::reason::REPEATED_NAME;
 use std::alloc::{AllocError, Global};
 use std::collections::BTreeMap;
 use toml::Value;

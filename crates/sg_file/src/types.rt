@@ -12,11 +12,13 @@ ghost use Rattle.sg_file.specs.Numbers.{Numbers};
 ghost use Rattle.sg_file.specs.Sections.{type_at};
 
 use crate::document::needed;
-use crate::fault::{GameError, OUT_OF_RANGE, check};
+use crate::fault::{GameError, check};
 use crate::keys::{Section, known_keys};
 use crate::names::{Index, Listing, add_name, names};
 use crate::value::{items, number, some, table};
 use sg_game::{GameFault, Place, TypeParts};
+use sg_model::limit::{ACTION_LIMIT, TYPE_LIMIT};
+use sg_model::reason::OUT_OF_RANGE;
 use std::alloc::Global;
 use std::collections::BTreeMap;
 use toml::{Table, Value};
@@ -154,7 +156,7 @@ fn matrix_type(
     let second = needed(place, "follower", table)?;
     let name = add_name(alloc, index, place, number, own)?;
     let prior = prior(place, false, weight)?;
-    let actions = names(alloc, Listing::Actions(number), 64, named)?.list;
+    let actions = names(alloc, Listing::Actions(number), ACTION_LIMIT as u32, named)?.list;
     let leader = pay_table(alloc, place, rows, actions.len(), first)?;
     let follower = pay_table(alloc, place, rows, actions.len(), second)?;
     Ok(TypeParts {
@@ -214,9 +216,9 @@ fn types_of(alloc: Global, form: TypeForm, values: &[Value]) -> Result<Vec<TypeP
 }
 
 fn most_types(scaled: bool) -> usize
-    ensures { result ≡ (if scaled then 1 else 8) }
+    ensures { result ≡ (if scaled then 1 else TYPE_LIMIT) }
 {
-    if scaled { 1 } else { 8 }
+    if scaled { 1 } else { TYPE_LIMIT }
 }
 
 /// The types of a game in security form.
@@ -242,6 +244,6 @@ pub(crate) fn matrix_types(
 ) -> Result<Vec<TypeParts>, GameError>
     ensures { GivesPart (λ v. map attacker_of v.items) result (matrix_types_at rows (data_of value.now)) }
 {
-    let values = some(Place::Document, 8, value)?;
+    let values = some(Place::Document, TYPE_LIMIT, value)?;
     types_of(alloc, TypeForm::Matrix(rows), values)
 }

@@ -8,8 +8,9 @@ ghost use Rattle.sg_format.specs.Documents.{integer_at, text_at, items_at, table
 ghost use Rattle.sg_format.specs.Lists.{few_at, some_at};
 ghost use Rattle.sg_file.specs.Answers.{TellsPart};
 
-use crate::fault::{EMPTY_LIST, OUT_OF_RANGE, TOO_LARGE, WRONG_KIND, check, fault};
+use crate::fault::{check, fault};
 use sg_game::{GameFault, Place};
+use sg_model::reason::{EMPTY_LIST, OUT_OF_RANGE, TOO_LARGE, WRONG_KIND};
 use toml::{Table, Value};
 
 pub(crate) fn integer(place: Place, value: &Value) -> Result<i64, GameFault>

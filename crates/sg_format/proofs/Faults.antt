@@ -6,7 +6,8 @@ use Rattle.std.proofs.lemmas.Bool.{cases_Bool, eqb-true}
 use Rattle.toml.specs.Data.{Data, Members, get_member}
 use Rattle.sg_model.specs.declared.fault.Place.TheVariants.{Document}
 use Rattle.sg_model.specs.declared.kind.Kind.{Kind}
-use Rattle.sg_format.specs.Steps.{refused, missing_key, unknown_key}
+use Rattle.sg_format.specs.Steps.{refused}
+use Rattle.sg_model.specs.declared.reason.TheConstants.{MISSING_KEY, UNKNOWN_KEY}
 use Rattle.sg_format.specs.Documents.{document_of, has_only}
 use Rattle.sg_format.specs.GameFiles.{form_of, game_of_bytes, game_of_form, game_of_table, is_matrix_key, is_one, is_patrols_key, is_resources_key, matrix_game, patrols_game, resources_game, version_of}
 use Rattle.sg_format.specs.Changes.{DiffersAt}
@@ -50,42 +51,42 @@ headed key value first second kind d head v f =
     let b : form_of second ≡ Ok kind = form_same first second (d.elsewhere (codes "form") f) ∙ head.form in
     rw (a, b) refl
 
-pub matrix_unknown : (t : Members) → has_only is_matrix_key t ≡ false → matrix_game t ≡ refused unknown_key Document
+pub matrix_unknown : (t : Members) → has_only is_matrix_key t ≡ false → matrix_game t ≡ refused UNKNOWN_KEY Document
 unfolding matrix_game
 matrix_unknown t e = rw e refl
 
-pub patrols_unknown : (given : Data) (t : Members) → has_only is_patrols_key t ≡ false → patrols_game given t ≡ refused unknown_key Document
+pub patrols_unknown : (given : Data) (t : Members) → has_only is_patrols_key t ≡ false → patrols_game given t ≡ refused UNKNOWN_KEY Document
 unfolding patrols_game
 patrols_unknown given t e = rw e refl
 
-pub listed_unknown : (t : Members) → has_only is_resources_key t ≡ false → resources_game t ≡ refused unknown_key Document
+pub listed_unknown : (t : Members) → has_only is_resources_key t ≡ false → resources_game t ≡ refused UNKNOWN_KEY Document
 unfolding resources_game
 listed_unknown t e = rw e refl
 
-pub no_rows : (t : Members) → has_only is_matrix_key t ≡ true → get_member (codes "rows") t ≡ None → matrix_game t ≡ refused missing_key Document
+pub no_rows : (t : Members) → has_only is_matrix_key t ≡ true → get_member (codes "rows") t ≡ None → matrix_game t ≡ refused MISSING_KEY Document
 unfolding matrix_game
 no_rows t a b = rw (a, b) refl
 
 pub no_matrix_types : (t : Members) (x : Data) → has_only is_matrix_key t ≡ true → get_member (codes "rows") t ≡ Some x → get_member (codes "type") t ≡ None
-    → matrix_game t ≡ refused missing_key Document
+    → matrix_game t ≡ refused MISSING_KEY Document
 unfolding matrix_game
 no_matrix_types t x a b e = rw (a, b, e) refl
 
-pub no_patrols_targets : (given : Data) (t : Members) → has_only is_patrols_key t ≡ true → get_member (codes "targets") t ≡ None → patrols_game given t ≡ refused missing_key Document
+pub no_patrols_targets : (given : Data) (t : Members) → has_only is_patrols_key t ≡ true → get_member (codes "targets") t ≡ None → patrols_game given t ≡ refused MISSING_KEY Document
 unfolding patrols_game
 no_patrols_targets given t a b = rw (a, b) refl
 
 pub no_patrols_types : (given : Data) (t : Members) (x : Data) → has_only is_patrols_key t ≡ true → get_member (codes "targets") t ≡ Some x → get_member (codes "type") t ≡ None
-    → patrols_game given t ≡ refused missing_key Document
+    → patrols_game given t ≡ refused MISSING_KEY Document
 unfolding patrols_game
 no_patrols_types given t x a b e = rw (a, b, e) refl
 
-pub no_targets : (t : Members) → has_only is_resources_key t ≡ true → get_member (codes "targets") t ≡ None → resources_game t ≡ refused missing_key Document
+pub no_targets : (t : Members) → has_only is_resources_key t ≡ true → get_member (codes "targets") t ≡ None → resources_game t ≡ refused MISSING_KEY Document
 unfolding resources_game
 no_targets t a b = rw (a, b) refl
 
 pub no_schedules : (t : Members) (x : Data) → has_only is_resources_key t ≡ true → get_member (codes "targets") t ≡ Some x → get_member (codes "schedule") t ≡ None
-    → resources_game t ≡ refused missing_key Document
+    → resources_game t ≡ refused MISSING_KEY Document
 unfolding resources_game
 no_schedules t x a b e = elim (cases_Bool (is_some (get_member (codes "scale") t))) [
   | inl holds ↦ rw (a, b, holds) refl
@@ -93,12 +94,12 @@ no_schedules t x a b e = elim (cases_Bool (is_some (get_member (codes "scale") t
 ]
 
 pub no_resources : (t : Members) (x y : Data) → has_only is_resources_key t ≡ true → get_member (codes "targets") t ≡ Some x → is_some (get_member (codes "scale") t) ≡ false
-    → get_member (codes "schedule") t ≡ Some y → get_member (codes "resource") t ≡ None → resources_game t ≡ refused missing_key Document
+    → get_member (codes "schedule") t ≡ Some y → get_member (codes "resource") t ≡ None → resources_game t ≡ refused MISSING_KEY Document
 unfolding resources_game
 no_resources t x y a b n e f = rw (a, b, n, e, f) refl
 
 pub no_types : (t : Members) (x y z : Data) → has_only is_resources_key t ≡ true → get_member (codes "targets") t ≡ Some x → is_some (get_member (codes "scale") t) ≡ false
-    → get_member (codes "schedule") t ≡ Some y → get_member (codes "resource") t ≡ Some z → get_member (codes "type") t ≡ None → resources_game t ≡ refused missing_key Document
+    → get_member (codes "schedule") t ≡ Some y → get_member (codes "resource") t ≡ Some z → get_member (codes "type") t ≡ None → resources_game t ≡ refused MISSING_KEY Document
 unfolding resources_game
 no_types t x y z a b n e f u = rw (a, b, n, e, f, u) refl
 

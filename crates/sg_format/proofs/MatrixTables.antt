@@ -7,7 +7,8 @@ use Rattle.sg_model.specs.declared.fault.Place.{Place}
 use Rattle.sg_model.specs.declared.fault.GameFault.{GameFault}
 use Rattle.sg_model.specs.Games.{Attacker}
 use Rattle.sg_model.specs.Steps.{◌>>=◌}
-use Rattle.sg_format.specs.Steps.{refused, wrong_kind, unknown_key}
+use Rattle.sg_format.specs.Steps.{refused}
+use Rattle.sg_model.specs.declared.reason.TheConstants.{WRONG_KIND, UNKNOWN_KEY}
 use Rattle.sg_format.specs.Documents.{has_only, needed_at}
 use Rattle.sg_format.specs.Lists.{names_at, new_name}
 use Rattle.sg_format.specs.Types.{is_matrix_type_key, matrix_type_at, pay_table_at, prior_at}
@@ -21,10 +22,10 @@ matrix_table_fails : (place : Place) (rows : ℕ) (others : List Attacker) (valu
     → reason_of (table_with (codes "name" ∷ codes "prior" ∷ codes "actions" ∷ codes "leader" ∷ codes "follower" ∷ [])) value ≡ Some r → matrix_type_at place rows others value ≡ refused r place
 unfolding matrix_type_at
 matrix_table_fails place rows others value r e =
-    need_fails (as_table value) wrong_kind _ place _ r e (λ t here e1.
+    need_fails (as_table value) WRONG_KIND _ place _ r e (λ t here e1.
     let keys = same_keys (λ k. list_any (bytes_eq k) (codes "name" ∷ codes "prior" ∷ codes "actions" ∷ codes "leader" ∷ codes "follower" ∷ [])) is_matrix_type_key
     (λ k. five_keys (bytes_eq k (codes "name")) (bytes_eq k (codes "prior")) (bytes_eq k (codes "actions")) (bytes_eq k (codes "leader")) (bytes_eq k (codes "follower"))) t in
-    test_fails (has_only is_matrix_type_key t) unknown_key _ place _ r (rw keys at e1) (λ fine e2.
+    test_fails (has_only is_matrix_type_key t) UNKNOWN_KEY _ place _ r (rw keys at e1) (λ fine e2.
     lack_fails (get_member (codes "name") t) _ place _ r e2 (λ own e3.
     lack_fails (get_member (codes "prior") t) _ place _ r e3 (λ weight e4.
     lack_fails (get_member (codes "actions") t) _ place _ r e4 (λ named e5.

@@ -13,7 +13,7 @@ use Rattle.sg_model.specs.declared.fault.GameFault.{GameFault}
 use Rattle.sg_model.specs.Games.{Attacker, Payoff, nothing, payoff_of}
 use Rattle.sg_model.specs.Limits.{IsPayoff, IsWithin}
 use Rattle.sg_model.specs.Steps.{◌>>=◌}
-use Rattle.sg_format.specs.Steps.{out_of_range}
+use Rattle.sg_model.specs.declared.reason.TheConstants.{OUT_OF_RANGE}
 use Rattle.sg_format.specs.Documents.{has_only, items_at, number_at}
 use Rattle.sg_format.specs.Lists.{each, item_count, new_name, some_at}
 use Rattle.sg_format.specs.Types.{is_security_type_key, pay_table_at, pays_at, prior_at, security_type_at, security_types_at}
@@ -127,7 +127,7 @@ other_row : (place : Place) (rows columns : ℕ) (items : Items) (xs : List (Lis
     → get_item k items ≡ Some old → pays_at place columns new ≡ Ok row → HasRow place rows columns k (array (set_item k new items)) row
 unfolding pay_table_at
 other_row place rows columns items xs k old new row h there e =
-    after_test (item_count items == rows) out_of_range place h (λ long rest.
+    after_test (item_count items == rows) OUT_OF_RANGE place h (λ long rest.
     let read : Data → Result (List ℤ) GameFault = pays_at place columns in
     let g = replaced read [] items xs k old new row rest there e in
     let still = count_set k new items in

@@ -15,7 +15,7 @@ use Rattle.sg_model.specs.Names.{AreNames, is_name}
 use Rattle.sg_model.specs.Sums.{nth}
 use Rattle.sg_model.specs.Games.{Attacker, Game, Named, nobody, unnamed}
 use Rattle.sg_model.specs.Limits.{AreListed, AreMembers, IsCount, IsDefended, IsGame, IsMatrixGame, IsMatrixType, IsSecurityGame, is_scaled}
-use Rattle.sg_format.specs.Steps.{missing_key, wrong_kind, unknown_key, empty_list, unknown_name, repeated_name, out_of_range, too_large}
+use Rattle.sg_model.specs.declared.reason.TheConstants.{MISSING_KEY, WRONG_KIND, UNKNOWN_KEY, EMPTY_LIST, UNKNOWN_NAME, REPEATED_NAME, OUT_OF_RANGE, TOO_LARGE}
 use Rattle.sg_format.specs.Documents.{has_only}
 use Rattle.sg_format.specs.Lists.{item_count}
 use Rattle.sg_format.specs.Parts.{NamedPart, NamesPart, Part, PaysPart, Rule, TypePart, before, entries_exactly, few_entries, goals, grouped, groups, known_besides, listed_rule, matrix_rule, matrix_type_rule, members, members_rule, name, name_besides, named_rule, names, names_of, names_rule, no_rule, number_within, of_follower, of_leader, of_targets, own_name, part_rule, patrols, patrols_rule, pay, pay_row, pays, pays_rule, resources, rule_by, scale, schedules, security_type_rule, some_entries, table_with, type_actions, type_name, type_pays, type_prior, typed, types, types_before, whole_named, whole_type}
@@ -26,11 +26,11 @@ use Rattle.sg_format.proofs.Shapes.{matrix_form, security_form}
 use Rattle.sg_format.proofs.Broken.{asked, lacking, reason_of}
 use Rattle.sg_format.proofs.PartFaults.{faulty_part}
 
-other_kind : {A : Type 0} (o : Option A) (later : A → Option ℕ) → is_some o ≡ false → asked o wrong_kind later ≡ Some wrong_kind
+other_kind : {A : Type 0} (o : Option A) (later : A → Option ℕ) → is_some o ≡ false → asked o WRONG_KIND later ≡ Some WRONG_KIND
 other_kind None later e = refl
 other_kind (Some x) later e = absurd (cc)
 
-kind_reason : (rule : Rule) (value : Data) → is_of_kind rule value ≡ false → reason_of rule value ≡ Some wrong_kind
+kind_reason : (rule : Rule) (value : Data) → is_of_kind rule value ≡ false → reason_of rule value ≡ Some WRONG_KIND
 kind_reason no_rule value e = absurd (cc)
 kind_reason (number_within low high) value e = other_kind (as_integer value) _ e
 kind_reason (name_besides others) value e = other_kind (as_str value) _ e
@@ -41,14 +41,14 @@ kind_reason (entries_exactly n) value e = other_kind (as_array value) _ e
 kind_reason (table_with keys) value e = other_kind (as_table value) _ e
 
 pub wrong : WrongKindIsRefused
-wrong first second g part value h d e = faulty_part first second g part value wrong_kind h d (kind_reason (part_rule g part) value e)
+wrong first second g part value h d e = faulty_part first second g part value WRONG_KIND h d (kind_reason (part_rule g part) value e)
 
 pub unknown_field : UnknownFieldIsRefused
 unknown_field first second inner g part keys key value h d rule there unknown =
     let fails : has_only (λ k. list_any (bytes_eq k) keys) inner ≡ false = unknown_found (λ k. list_any (bytes_eq k) keys) key inner value there unknown in
-    faulty_part first second g part (table inner) unknown_key h d (rw (rule, fails) refl)
+    faulty_part first second g part (table inner) UNKNOWN_KEY h d (rw (rule, fails) refl)
 
-lacks : (keys : List (List ℕ)) (key : List ℕ) (t : Members) → list_any (bytes_eq key) keys ≡ true → get_member key t ≡ None → lacking keys t ≡ Some missing_key
+lacks : (keys : List (List ℕ)) (key : List ℕ) (t : Members) → list_any (bytes_eq key) keys ≡ true → get_member key t ≡ None → lacking keys t ≡ Some MISSING_KEY
 lacks [] key t known none = absurd (cc)
 lacks (first ∷ keys) key t known none =
     elim (or_cases (bytes_eq key first) (list_any (bytes_eq key) keys) known) [
@@ -62,12 +62,12 @@ lacks (first ∷ keys) key t known none =
 pub missing_field : MissingFieldIsRefused
 missing_field first second inner g part keys key h d rule fine known none =
     let gone = lacks keys key inner known none in
-    faulty_part first second g part (table inner) missing_key h d (rw (rule, fine) gone)
+    faulty_part first second g part (table inner) MISSING_KEY h d (rw (rule, fine) gone)
 
 pub empty_part : EmptyPartIsRefused
-empty_part first second g part limit h d rule = faulty_part first second g part (array no_items) empty_list h d (rw rule refl)
+empty_part first second g part limit h d rule = faulty_part first second g part (array no_items) EMPTY_LIST h d (rw rule refl)
 
-long_reason : (rule : Rule) (limit : ℕ) (items : Items) → most_entries rule ≡ Some limit → limit < item_count items → reason_of rule (array items) ≡ Some too_large
+long_reason : (rule : Rule) (limit : ℕ) (items : Items) → most_entries rule ≡ Some limit → limit < item_count items → reason_of rule (array items) ≡ Some TOO_LARGE
 long_reason no_rule limit items e many = absurd (cc)
 long_reason (number_within low high) limit items e many = absurd (cc)
 long_reason (name_besides others) limit items e many = absurd (cc)
@@ -85,7 +85,7 @@ long_reason (entries_exactly n) limit items e many = absurd (cc)
 long_reason (table_with keys) limit items e many = absurd (cc)
 
 pub long_part : LongPartIsRefused
-long_part first second g part limit items h d most many = faulty_part first second g part (array items) too_large h d (long_reason (part_rule g part) limit items most many)
+long_part first second g part limit items h d most many = faulty_part first second g part (array items) TOO_LARGE h d (long_reason (part_rule g part) limit items most many)
 
 none_equal : (text : List ℕ) (known : List (List ℕ)) → All (λ other. text ≢ other) known → list_any (bytes_eq text) known ≡ false
 none_equal text [] all = refl
@@ -98,7 +98,7 @@ none_equal text (first ∷ known) all =
 pub unknown_name_is : UnknownNameIsRefused
 unknown_name_is first second g part known others text h d rule all =
     let none = none_equal text known all in
-    faulty_part first second g part (string text) unknown_name h d (rw (rule, none) refl)
+    faulty_part first second g part (string text) UNKNOWN_NAME h d (rw (rule, none) refl)
 
 any_at : (test : List ℕ → Bool) (xs : List (List ℕ)) (k : ℕ) (d : List ℕ) → k < length xs → test (get_or xs k d) ≡ true → list_any test xs ≡ true
 any_at test [] k d within e = absurd (omega (arith, within))
@@ -237,7 +237,7 @@ part_right g part h Security e = (let is = security_form g h e in security_right
 holds_of : (P : List ℕ → Type 0) (xs : List (List ℕ)) (text : List ℕ) → All P xs → Contains xs text → P text
 holds_of P xs text all c = subst P c.2 (all c.0 text c.1)
 
-repeat_reason : (rule : Rule) (text : List ℕ) → AreRight rule → Contains (names_before rule) text → reason_of rule (string text) ≡ Some repeated_name
+repeat_reason : (rule : Rule) (text : List ℕ) → AreRight rule → Contains (names_before rule) text → reason_of rule (string text) ≡ Some REPEATED_NAME
 repeat_reason no_rule text right c = absurd (omega (arith, c.1))
 repeat_reason (number_within low high) text right c = absurd (omega (arith, c.1))
 repeat_reason (name_besides others) text right c =
@@ -255,7 +255,7 @@ repeat_reason (table_with keys) text right c = absurd (omega (arith, c.1))
 
 pub repeated : RepeatedNameIsRefused
 repeated first second g part text h d c =
-    faulty_part first second g part (string text) repeated_name h d (repeat_reason (part_rule g part) text (part_right g part (game_of_table-game first g h) g.kind refl) c)
+    faulty_part first second g part (string text) REPEATED_NAME h d (repeat_reason (part_rule g part) text (part_right g part (game_of_table-game first g h) g.kind refl) c)
 
 outside : (low high z : ℤ) → (z <ℤ low) ⊎ (high <ℤ z) → (int_le low z && int_le z high) ≡ false
 outside low high z (inl below) = (let p : int_le low z ≡ false = sym (omega (arith, ints, below)) in rw p refl)
@@ -273,7 +273,7 @@ unequal m n ne = elim (cases_Bool (m == n)) [
 
 pub out : OutOfRangeIsRefused
 out = record {
-  number = λ first second g part low high z h d rule off. (let fails = outside low high z off in faulty_part first second g part (integer z) out_of_range h d (rw (rule, fails) refl));
-  spelling = λ first second g part others text h d rule wrong. faulty_part first second g part (string text) out_of_range h d (rw (rule, wrong) refl);
-  size = λ first second g part n items h d rule ne. (let fails = unequal (item_count items) n ne in faulty_part first second g part (array items) out_of_range h d (rw (rule, fails) refl));
+  number = λ first second g part low high z h d rule off. (let fails = outside low high z off in faulty_part first second g part (integer z) OUT_OF_RANGE h d (rw (rule, fails) refl));
+  spelling = λ first second g part others text h d rule wrong. faulty_part first second g part (string text) OUT_OF_RANGE h d (rw (rule, wrong) refl);
+  size = λ first second g part n items h d rule ne. (let fails = unequal (item_count items) n ne in faulty_part first second g part (array items) OUT_OF_RANGE h d (rw (rule, fails) refl));
 }

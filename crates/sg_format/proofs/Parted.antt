@@ -12,7 +12,8 @@ use Rattle.sg_model.specs.declared.fault.GameFault.{GameFault}
 use Rattle.sg_model.specs.Sums.{nth}
 use Rattle.sg_model.specs.Limits.{IsCount}
 use Rattle.sg_model.specs.Steps.{◌>>=◌}
-use Rattle.sg_format.specs.Steps.{needed, passed, refused, wrong_kind, unknown_name, repeated_name, out_of_range}
+use Rattle.sg_format.specs.Steps.{needed, passed, refused}
+use Rattle.sg_model.specs.declared.reason.TheConstants.{WRONG_KIND, UNKNOWN_NAME, REPEATED_NAME, OUT_OF_RANGE}
 use Rattle.sg_format.specs.Documents.{items_at}
 use Rattle.sg_format.specs.Lists.{each, item_count, known_at, member_at, members_at, names_at, new_name, number_of, some_at}
 use Rattle.sg_format.specs.Types.{pay_at, pay_table_at, pays_at}
@@ -127,19 +128,19 @@ member_fails : (place : Place) (known : List (List ℕ)) (numbers : List ℕ) (v
 unfolding member_at known_at
 member_fails place known numbers value r apart all e = by_text (as_str value) e
   where
-    by_number : (text : List ℕ) (o : Option ℕ) → number_of text known ≡ o → tested (is_some o) unknown_name (tested (not (list_any (bytes_eq text) (map (λ m. nth known m []) numbers))) repeated_name None) ≡ Some r
-        → (needed o unknown_name place >>= (λ n. passed (not (list_any (λ other. other == n) numbers)) repeated_name place >>= (λ u. Ok n))) ≡ refused r place
-    by_number text None is e = let one : unknown_name ≡ r = cc in rw one refl
+    by_number : (text : List ℕ) (o : Option ℕ) → number_of text known ≡ o → tested (is_some o) UNKNOWN_NAME (tested (not (list_any (bytes_eq text) (map (λ m. nth known m []) numbers))) REPEATED_NAME None) ≡ Some r
+        → (needed o UNKNOWN_NAME place >>= (λ n. passed (not (list_any (λ other. other == n) numbers)) REPEATED_NAME place >>= (λ u. Ok n))) ≡ refused r place
+    by_number text None is e = let one : UNKNOWN_NAME ≡ r = cc in rw one refl
     by_number text (Some n) is e = by_repeat (list_any (bytes_eq text) (map (λ m. nth known m []) numbers)) refl e
       where
-        by_repeat : (b : Bool) → list_any (bytes_eq text) (map (λ m. nth known m []) numbers) ≡ b → tested (not b) repeated_name None ≡ Some r
-            → (passed (not (list_any (λ other. other == n) numbers)) repeated_name place >>= (λ u. Ok n)) ≡ refused r place
-        by_repeat true h e = let one : repeated_name ≡ r = cc in let q = repeats known text n numbers apart is all h in rw (q, one) refl
+        by_repeat : (b : Bool) → list_any (bytes_eq text) (map (λ m. nth known m []) numbers) ≡ b → tested (not b) REPEATED_NAME None ≡ Some r
+            → (passed (not (list_any (λ other. other == n) numbers)) REPEATED_NAME place >>= (λ u. Ok n)) ≡ refused r place
+        by_repeat true h e = let one : REPEATED_NAME ≡ r = cc in let q = repeats known text n numbers apart is all h in rw (q, one) refl
         by_repeat false h e = no_reason r e
 
-    by_text : (o : Option (List ℕ)) → asked o wrong_kind (λ text. tested (list_any (bytes_eq text) known) unknown_name (tested (not (list_any (bytes_eq text) (map (λ m. nth known m []) numbers))) repeated_name None)) ≡ Some r
-        → ((needed o wrong_kind place >>= (λ text. needed (number_of text known) unknown_name place)) >>= (λ n. passed (not (list_any (λ other. other == n) numbers)) repeated_name place >>= (λ u. Ok n))) ≡ refused r place
-    by_text None e = let one : wrong_kind ≡ r = cc in rw one refl
+    by_text : (o : Option (List ℕ)) → asked o WRONG_KIND (λ text. tested (list_any (bytes_eq text) known) UNKNOWN_NAME (tested (not (list_any (bytes_eq text) (map (λ m. nth known m []) numbers))) REPEATED_NAME None)) ≡ Some r
+        → ((needed o WRONG_KIND place >>= (λ text. needed (number_of text known) UNKNOWN_NAME place)) >>= (λ n. passed (not (list_any (λ other. other == n) numbers)) REPEATED_NAME place >>= (λ u. Ok n))) ≡ refused r place
+    by_text None e = let one : WRONG_KIND ≡ r = cc in rw one refl
     by_text (Some text) e = by_number text (number_of text known) refl (rw (sym (position_any (bytes_eq text) 1 known)) at e)
 
 pub members_part_fails : (place : Place) (known : List (List ℕ)) (limit : ℕ) (first second : Data) (xs : List ℕ) (part : NamesPart) (value : Data) (r : ℕ) → AllPairs (λ x y. x ≢ y) known
@@ -164,10 +165,10 @@ members_part_fails place known limit first second xs (name n) value r apart h c 
 
 -- an array of a wrong length
 size_fails : {B : Type 0} (place : Place) (n : ℕ) (value : Data) (next : Items → Result B GameFault) (r : ℕ) → reason_of (entries_exactly n) value ≡ Some r
-    → (items_at place value >>= (λ items. passed (item_count items == n) out_of_range place >>= (λ u. next items))) ≡ refused r place
+    → (items_at place value >>= (λ items. passed (item_count items == n) OUT_OF_RANGE place >>= (λ u. next items))) ≡ refused r place
 size_fails place n value next r e =
-    need_fails (as_array value) wrong_kind _ place _ r e (λ items here e1.
-    test_fails (item_count items == n) out_of_range None place _ r e1 (λ test e2. no_reason r e2))
+    need_fails (as_array value) WRONG_KIND _ place _ r e (λ items here e1.
+    test_fails (item_count items == n) OUT_OF_RANGE None place _ r e1 (λ test e2. no_reason r e2))
 
 pays_size_fails : (place : Place) (count : ℕ) (value : Data) (r : ℕ) → reason_of (entries_exactly count) value ≡ Some r → pays_at place count value ≡ refused r place
 unfolding pays_at
@@ -179,8 +180,8 @@ unfolding pays_at
 pay_fails place count first second xs i value r h c e =
     let read : List ℤ → Data → Result ℤ GameFault = λ others. pay_at place in
     let was : first ≡ array c.old = only first (array c.old) c.was in
-    let start : (passed (item_count c.old == count) out_of_range place >>= (λ u. each read [] c.old)) ≡ Ok xs = rw was at h in
-    after_test (item_count c.old == count) out_of_range place start (λ long rest.
+    let start : (passed (item_count c.old == count) OUT_OF_RANGE place >>= (λ u. each read [] c.old)) ≡ Ok xs = rw was at h in
+    after_test (item_count c.old == count) OUT_OF_RANGE place start (λ long rest.
     let entry = entry_at read c.old xs c.index c.entry rest c.there in
     let broken = number_fails place (pos 0 -ℤ pos (2 ^ 30)) (pos (2 ^ 30)) c.value r (rw (sym c.agree) at e) in
     let f = entry.fails c.new c.value (record { reason = r; place = place }) c.earlier c.here broken in
@@ -197,8 +198,8 @@ unfolding pay_table_at
 row_fails place rows columns first second xs k items others entry value fault h was there is here earlier still broken =
     let read : List (List ℤ) → Data → Result (List ℤ) GameFault = λ others. pays_at place columns in
     let old : first ≡ array items = only first (array items) was in
-    let start : (passed (item_count items == rows) out_of_range place >>= (λ u. each read [] items)) ≡ Ok xs = rw old at h in
-    after_test (item_count items == rows) out_of_range place start (λ long rest.
+    let start : (passed (item_count items == rows) OUT_OF_RANGE place >>= (λ u. each read [] items)) ≡ Ok xs = rw old at h in
+    after_test (item_count items == rows) OUT_OF_RANGE place start (λ long rest.
     let row = entry_at read items xs k entry rest there in
     let f = row.fails others value fault earlier here (broken row.value row.is) in
     rw (is, still, long) f)

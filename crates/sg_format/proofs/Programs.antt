@@ -9,7 +9,8 @@ use Rattle.sg_model.specs.declared.fault.GameFault.{GameFault}
 use Rattle.sg_model.specs.declared.kind.Kind.TheVariants.{Security, Matrix}
 use Rattle.sg_model.specs.Games.{Attacker, Game, Named, is_kind_matrix, resource_count}
 use Rattle.sg_model.specs.Limits.{is_scaled, program_rows}
-use Rattle.sg_format.specs.Steps.{refused, too_large}
+use Rattle.sg_format.specs.Steps.{refused}
+use Rattle.sg_model.specs.declared.reason.TheConstants.{TOO_LARGE}
 use Rattle.sg_format.specs.Lists.{each, few_at, item_count, named_at, named_lists_at, names_at, resources_at, schedules_at, some_at}
 use Rattle.sg_format.specs.Types.{security_type_at, security_types_at}
 use Rattle.sg_model.specs.Sums.{positive_part}
@@ -43,7 +44,7 @@ types_count targets items types h =
     let whole : each read [] items ≡ Ok types = rw (some_is place_of.Document 8 items found e) at rest in
     omega (arith, length-each read [] items types whole))
 
-rows_fail : (g : Game) → 1536 < program_rows g → limits_of g false ≡ refused too_large place_of.Document
+rows_fail : (g : Game) → 1536 < program_rows g → limits_of g false ≡ refused TOO_LARGE place_of.Document
 unfolding limits_of
 rows_fail g many = let long : nat_le (program_rows g) 1536 ≡ false = grind (arith, nat_tests) in rw long refl
 
@@ -53,12 +54,12 @@ patrols_count g n e = rw e refl
 listed_count : (g : Game) → g.patrols ≡ None → resource_count g ≡ length g.resources
 listed_count g e = rw e refl
 
-limits_off : (g : Game) (scaled : Bool) → scaled ≡ false → limits_of g false ≡ refused too_large place_of.Document → limits_of g scaled ≡ refused too_large place_of.Document
+limits_off : (g : Game) (scaled : Bool) → scaled ≡ false → limits_of g false ≡ refused TOO_LARGE place_of.Document → limits_of g scaled ≡ refused TOO_LARGE place_of.Document
 limits_off g scaled e h = rw e h
 
 patrols_program : (first second : Members) (g : Game) (given : Data) (items : Items) → IsHeaded first Security → get_member (codes "patrols") first ≡ Some given → IsPatrolsFile given first g
     → is_scaled g ≡ false → DiffersAt (codes "type") (Some (array items)) first second → fault_in (security_types_at (is_scaled g) (length g.goals) (array items)) ≡ None
-    → 1536 < rows_for (resource_count g) (length g.goals) (item_count items) → game_of_table second ≡ refused too_large place_of.Document
+    → 1536 < rows_for (resource_count g) (length g.goals) (item_count items) → game_of_table second ≡ refused TOO_LARGE place_of.Document
 patrols_program first second g given items head there p off d fine many =
     let key = codes "type" in
     let declared = get_member (codes "scale") first in
@@ -81,7 +82,7 @@ patrols_program first second g given items head there p off d fine many =
     let hands : resource_count g ≡ positive_part p.count = patrols_count g p.patrols p.identical ∙ p.counted in
     let long : 1536 < program_rows game = rw (hands, sym size) at many in
     headed key (Some (array items)) first second Security d head (apart (codes "version") key refl) (apart (codes "form") key refl)
-    ∙ (rw still (limits_fail given second declared p.listed (array items) g.goals p.scale p.count types (record { reason = too_large; place = place_of.Document }) read
+    ∙ (rw still (limits_fail given second declared p.listed (array items) g.goals p.scale p.count types (record { reason = TOO_LARGE; place = place_of.Document }) read
     (limits_off game (is_some declared) none (rows_fail game long))))
   where
     types_off : (scaled : Bool) (targets : ℕ) (value : Data) (types : List Attacker) → scaled ≡ false → security_types_at false targets value ≡ Ok types → security_types_at scaled targets value ≡ Ok types
@@ -99,7 +100,7 @@ listed_limits_fail listed given manned attackers targets schedules resources typ
 
 listed_program : (first second : Members) (g : Game) (items : Items) → IsHeaded first Security → get_member (codes "patrols") first ≡ None → IsListedFile first g
     → DiffersAt (codes "type") (Some (array items)) first second → fault_in (security_types_at false (length g.goals) (array items)) ≡ None
-    → 1536 < rows_for (resource_count g) (length g.goals) (item_count items) → game_of_table second ≡ refused too_large place_of.Document
+    → 1536 < rows_for (resource_count g) (length g.goals) (item_count items) → game_of_table second ≡ refused TOO_LARGE place_of.Document
 listed_program first second g items head there l d fine many =
     let key = codes "type" in
     let read_types = reads_by (security_types_at false (length g.goals) (array items)) fine in
@@ -116,13 +117,13 @@ listed_program first second g items head there l d fine many =
     let long : 1536 < program_rows (listed_of g.goals g.schedules g.resources types) = rw (listed_count g l.no_patrols, sym size) at many in
     listed_to key (array items) first second head there d (apart (codes "version") key refl) (apart (codes "form") key refl) (apart (codes "patrols") key refl)
     ∙ (listed_steps second l.listed l.given l.manned (array items) keys
-    ∙ listed_limits_fail l.listed l.given l.manned (array items) g.goals g.schedules g.resources types (record { reason = too_large; place = place_of.Document }) l.targets l.schedules l.resources read_types.1
+    ∙ listed_limits_fail l.listed l.given l.manned (array items) g.goals g.schedules g.resources types (record { reason = TOO_LARGE; place = place_of.Document }) l.targets l.schedules l.resources read_types.1
     (rows_fail (listed_of g.goals g.schedules g.resources types) long))
 
 -- more patrols
 more_patrols : (first second : Members) (g : Game) (given : Data) (n : ℕ) → IsHeaded first Security → get_member (codes "patrols") first ≡ Some given → IsPatrolsFile given first g
     → is_scaled g ≡ false → DiffersAt (codes "patrols") (Some (integer (pos n))) first second → n ≤ 32 → 1536 < rows_for n (length g.goals) (length g.types)
-    → game_of_table second ≡ refused too_large place_of.Document
+    → game_of_table second ≡ refused TOO_LARGE place_of.Document
 more_patrols first second g given n head there p off d few many =
     let key = codes "patrols" in
     let declared = get_member (codes "scale") first in
@@ -140,7 +141,7 @@ more_patrols first second g given n head there p off d few many =
       types_read = p.types;
     } in
     headed key (Some (integer (pos n))) first second Security d head (apart (codes "version") key refl) (apart (codes "form") key refl)
-    ∙ (rw here (limits_fail (integer (pos n)) second declared p.listed p.attackers g.goals p.scale (pos n) g.types (record { reason = too_large; place = place_of.Document }) read
+    ∙ (rw here (limits_fail (integer (pos n)) second declared p.listed p.attackers g.goals p.scale (pos n) g.types (record { reason = TOO_LARGE; place = place_of.Document }) read
     (limits_off game (is_some declared) none (rows_fail game many))))
   where
     count_off : (scaled : Bool) → scaled ≡ false → number_at place_of.Document (pos 0) (pos (if scaled then 200 else 32)) (integer (pos n)) ≡ Ok (pos n)
@@ -158,7 +159,7 @@ resources_count schedules items resources h =
 -- other resources
 more_resources : (first second : Members) (g : Game) (items : Items) → IsHeaded first Security → get_member (codes "patrols") first ≡ None → IsListedFile first g
     → DiffersAt (codes "resource") (Some (array items)) first second → fault_in (resources_at g.schedules (array items)) ≡ None
-    → 1536 < rows_for (item_count items) (length g.goals) (length g.types) → game_of_table second ≡ refused too_large place_of.Document
+    → 1536 < rows_for (item_count items) (length g.goals) (length g.types) → game_of_table second ≡ refused TOO_LARGE place_of.Document
 more_resources first second g items head there l d fine many =
     let key = codes "resource" in
     let read = reads_by (resources_at g.schedules (array items)) fine in
@@ -174,7 +175,7 @@ more_resources first second g items head there l d fine many =
     let long : 1536 < program_rows (listed_of g.goals g.schedules read.0 g.types) = rw (sym size) at many in
     listed_to key (array items) first second head there d (apart (codes "version") key refl) (apart (codes "form") key refl) (apart (codes "patrols") key refl)
     ∙ (listed_steps second l.listed l.given (array items) l.attackers keys
-    ∙ listed_limits_fail l.listed l.given (array items) l.attackers g.goals g.schedules read.0 g.types (record { reason = too_large; place = place_of.Document }) l.targets l.schedules read.1 l.types
+    ∙ listed_limits_fail l.listed l.given (array items) l.attackers g.goals g.schedules read.0 g.types (record { reason = TOO_LARGE; place = place_of.Document }) l.targets l.schedules read.1 l.types
     (rows_fail (listed_of g.goals g.schedules read.0 g.types) long))
 
 other_form : {Goal : Type 0} (g : Game) → g.kind ≡ Matrix → g.kind ≡ Security → Goal
@@ -182,15 +183,15 @@ other_form g a b = absurd (let other : Matrix ≡ Security = sym a ∙ b in true
 
 pub programs : LongProgramIsRefused
 programs = record {
-  types = λ first second g items h kind off d fine many. by_file first g (game_of_table second ≡ refused too_large place_of.Document) h
+  types = λ first second g items h kind off d fine many. by_file first g (game_of_table second ≡ refused TOO_LARGE place_of.Document) h
       (λ head m. other_form g m.kind kind)
       (λ head given there p. patrols_program first second g given items head there p off d (rw (p.kind, p.identical) at fine) many)
       (λ head there l. listed_program first second g items head there l d (rw (l.kind, l.no_patrols) at fine) many);
-  patrols = λ first second g n h some off d few many. by_file first g (game_of_table second ≡ refused too_large place_of.Document) h
+  patrols = λ first second g n h some off d few many. by_file first g (game_of_table second ≡ refused TOO_LARGE place_of.Document) h
       (λ head m. absurd (some (matrix_form g (game_of_table-game first g h) m.kind).no_patrols))
       (λ head given there p. more_patrols first second g given n head there p off d few many)
       (λ head there l. absurd (some l.no_patrols));
-  resources = λ first second g items h kind none d fine many. by_file first g (game_of_table second ≡ refused too_large place_of.Document) h
+  resources = λ first second g items h kind none d fine many. by_file first g (game_of_table second ≡ refused TOO_LARGE place_of.Document) h
       (λ head m. other_form g m.kind kind)
       (λ head given there p. absurd (let e : None ≡ Some p.patrols = sym none ∙ p.identical in cc))
       (λ head there l. more_resources first second g items head there l d (rw (l.kind, l.no_patrols) at fine) many);

@@ -14,7 +14,8 @@ use Rattle.sg_model.specs.Games.{Attacker, Game, Payoff, attacker, nobody, nothi
 use Rattle.sg_model.specs.Limits.{IsGame, IsPayoff, IsSecurityGame, IsWithin, is_scaled}
 use Rattle.sg_model.specs.Origami.{IsScaled}
 use Rattle.sg_model.proofs.Deciding.{all_pass}
-use Rattle.sg_format.specs.Steps.{refused, bad_scale}
+use Rattle.sg_format.specs.Steps.{refused}
+use Rattle.sg_model.specs.declared.reason.TheConstants.{BAD_SCALE}
 use Rattle.sg_format.specs.Documents.{has_only, integer_at, needed_at, number_at, table_at}
 use Rattle.sg_format.specs.Lists.{item_count, names_at, new_name, some_at}
 use Rattle.sg_format.specs.Types.{is_security_type_key, pay_table_at, prior_at, security_type_at, security_types_at}
@@ -71,7 +72,7 @@ limits_fail given t o listed attackers targets z count types fault h f =
     rw (a, b, c, s, n, q, m, u, f) refl
 
 unscaled_fails : (g : Game) (k l : ℕ) → k < length g.types → l < length (get_or g.types k nobody).payoffs → ¬ (IsScaled g.scale (get_or (get_or g.types k nobody).payoffs l nothing))
-    → limits_of g true ≡ refused bad_scale (place_of.Attacker 1)
+    → limits_of g true ≡ refused BAD_SCALE (place_of.Attacker 1)
 unfolding limits_of
 unscaled_fails g k l one within off =
     let fit : Attacker → Bool = λ x. list_all (fits_scale g.scale) x.payoffs in
@@ -162,7 +163,7 @@ payoff_there g (suc k) is one low high z off =
 
 declared_fails : (first second : Members) (g : Game) (given : Data) (z : ℤ) (t : ℕ) → IsGame g → IsHeaded first Security → get_member (codes "patrols") first ≡ Some given → IsPatrolsFile given first g
     → IsTopChange (codes "scale") [] (integer z) first second → length g.types ≡ 1 → (attacker g 1).prior ≡ pos 1 → IsWithin (pos 1) (pos (2 ^ 32)) z → 1 ≤ t → t ≤ length g.goals
-    → ¬ (IsScaled z (payoff g 1 t)) → game_of_table second ≡ refused bad_scale (place_of.Attacker 1)
+    → ¬ (IsScaled z (payoff g 1 t)) → game_of_table second ≡ refused BAD_SCALE (place_of.Attacker 1)
 declared_fails first second g given z t is head there p c one prior within low high off =
     let key = codes "scale" in
     let d = c.differs in
@@ -182,14 +183,14 @@ declared_fails first second g given z t is head there p c one prior within low h
     let at = payoff_there g t (security_form g is p.kind) one low high z off in
     let fails = unscaled_fails (read_game g.goals (Some z) p.count g.types) 0 (t - 1) (omega (arith, one)) at.0 at.1 in
     headed key (Some c.new) first second Security d head (apart (codes "version") key refl) (apart (codes "form") key refl)
-    ∙ (rw still (limits_fail given second (Some (integer z)) p.listed p.attackers g.goals (Some z) p.count g.types (record { reason = bad_scale; place = place_of.Attacker 1 }) read fails))
+    ∙ (rw still (limits_fail given second (Some (integer z)) p.listed p.attackers g.goals (Some z) p.count g.types (record { reason = BAD_SCALE; place = place_of.Attacker 1 }) read fails))
 
 declared_scale : (first second : Members) (g : Game) (z : ℤ) (t : ℕ) → game_of_table first ≡ Ok g → DiffersIn g scale (integer z) first second → g.patrols ≢ None
     → length g.types ≡ 1 → (attacker g 1).prior ≡ pos 1 → IsWithin (pos 1) (pos (2 ^ 32)) z → 1 ≤ t → t ≤ length g.goals → ¬ (IsScaled z (payoff g 1 t))
-    → game_of_table second ≡ refused bad_scale (place_of.Attacker 1)
+    → game_of_table second ≡ refused BAD_SCALE (place_of.Attacker 1)
 declared_scale first second g z t h d some one prior within low high off =
     let is = game_of_table-game first g h in
-    by_file first g (game_of_table second ≡ refused bad_scale (place_of.Attacker 1)) h
+    by_file first g (game_of_table second ≡ refused BAD_SCALE (place_of.Attacker 1)) h
     (λ head m. absurd (some (matrix_form g is m.kind).no_patrols))
     (λ head given there p. declared_fails first second g given z t is head there p (top_change (codes "scale") [] (integer z) first second d) one prior within low high off)
     (λ head there l. absurd (some l.no_patrols))
@@ -197,7 +198,7 @@ declared_scale first second g z t h d some one prior within low high off =
 types_on : (scaled : Bool) (targets : ℕ) (value : Data) (types : List Attacker) → scaled ≡ true → security_types_at true targets value ≡ Ok types → security_types_at scaled targets value ≡ Ok types
 types_on scaled targets value types on h = rw on h
 
-limits_on : (g : Game) (scaled : Bool) → scaled ≡ true → limits_of g true ≡ refused bad_scale (place_of.Attacker 1) → limits_of g scaled ≡ refused bad_scale (place_of.Attacker 1)
+limits_on : (g : Game) (scaled : Bool) → scaled ≡ true → limits_of g true ≡ refused BAD_SCALE (place_of.Attacker 1) → limits_of g scaled ≡ refused BAD_SCALE (place_of.Attacker 1)
 limits_on g scaled on h = rw on h
 
 off_at : (a b : ℤ) (p q : Payoff) → a ≡ b → q ≡ p → ¬ (IsScaled a p) → ¬ (IsScaled b q)
@@ -205,7 +206,7 @@ off_at a b p q e f off = λ is. off (subst (λ (z : ℤ). IsScaled z p) (sym e) 
 
 payoffs_fail : (first second : Members) (g : Game) (given : Data) (t : ℕ) (p : Payoff) → IsHeaded first Security → get_member (codes "patrols") first ≡ Some given → IsPatrolsFile given first g
     → is_scaled g ≡ true → IsTopChange (codes "type") (at_number 1 ∷ at_key (codes "payoffs") ∷ at_number t ∷ []) (payoff_array p) first second → IsPayoff p → ¬ (IsScaled g.scale p)
-    → game_of_table second ≡ refused bad_scale (place_of.Attacker 1)
+    → game_of_table second ≡ refused BAD_SCALE (place_of.Attacker 1)
 payoffs_fail first second g given t p head there f scaled c is off =
     let key = codes "type" in
     let d = c.differs in
@@ -226,18 +227,18 @@ payoffs_fail first second g given t p head there f scaled c is off =
     } in
     let same_scale : g.scale ≡ unwrap_or f.scale (pos 0) = f.scale_is in
     let off_there = off_at g.scale (unwrap_or f.scale (pos 0)) p (get_or made.attacker.payoffs made.index nothing) same_scale made.there off in
-    let fails : limits_of game true ≡ refused bad_scale (place_of.Attacker 1) = unscaled_fails game 0 made.index (omega arith) made.within off_there in
+    let fails : limits_of game true ≡ refused BAD_SCALE (place_of.Attacker 1) = unscaled_fails game 0 made.index (omega arith) made.within off_there in
     headed key (Some c.new) first second Security d head (apart (codes "version") key refl) (apart (codes "form") key refl)
-    ∙ (rw still (limits_fail given second declared f.listed c.new g.goals f.scale f.count (made.attacker ∷ []) (record { reason = bad_scale; place = place_of.Attacker 1 }) read (limits_on game (is_some declared) on fails)))
+    ∙ (rw still (limits_fail given second declared f.listed c.new g.goals f.scale f.count (made.attacker ∷ []) (record { reason = BAD_SCALE; place = place_of.Attacker 1 }) read (limits_on game (is_some declared) on fails)))
 
 scale_off : (g : Game) → g.scale ≡ pos 0 → is_scaled g ≡ false
 scale_off g e = ap (int_lt (pos 0)) e
 
 other_payoffs_scale : (first second : Members) (g : Game) (t : ℕ) (p : Payoff) → game_of_table first ≡ Ok g → is_scaled g ≡ true
-    → DiffersIn g (typed 1 (type_pays of_targets (pay_row t))) (payoff_array p) first second → IsPayoff p → ¬ (IsScaled g.scale p) → game_of_table second ≡ refused bad_scale (place_of.Attacker 1)
+    → DiffersIn g (typed 1 (type_pays of_targets (pay_row t))) (payoff_array p) first second → IsPayoff p → ¬ (IsScaled g.scale p) → game_of_table second ≡ refused BAD_SCALE (place_of.Attacker 1)
 other_payoffs_scale first second g t p h scaled d is off =
     let game = game_of_table-game first g h in
-    by_file first g (game_of_table second ≡ refused bad_scale (place_of.Attacker 1)) h
+    by_file first g (game_of_table second ≡ refused BAD_SCALE (place_of.Attacker 1)) h
     (λ head m. absurd (true≢false (sym scaled ∙ scale_off g (matrix_form g game m.kind).no_scale)))
     (λ head given there f. payoffs_fail first second g given t p head there f scaled
     (top_change (codes "type") (at_number 1 ∷ at_key (codes "payoffs") ∷ at_number t ∷ []) (payoff_array p) first second d) is off)

@@ -5,7 +5,8 @@ use Rattle.std.specs.List.{list_any}
 use Rattle.toml.specs.Data.{Data, Members, as_table, get_member, table}
 use Rattle.sg_model.specs.declared.fault.Place.{Place}
 use Rattle.sg_model.specs.Games.{Attacker}
-use Rattle.sg_format.specs.Steps.{refused, wrong_kind, unknown_key}
+use Rattle.sg_format.specs.Steps.{refused}
+use Rattle.sg_model.specs.declared.reason.TheConstants.{WRONG_KIND, UNKNOWN_KEY}
 use Rattle.sg_format.specs.Documents.{has_only, needed_at}
 use Rattle.sg_format.specs.Lists.{new_name}
 use Rattle.sg_format.specs.Types.{is_security_type_key, pay_table_at, prior_at, security_type_at}
@@ -19,10 +20,10 @@ security_table_fails : (place : Place) (scaled : Bool) (targets : ℕ) (others :
     → reason_of (table_with (codes "name" ∷ codes "prior" ∷ codes "payoffs" ∷ [])) value ≡ Some r → security_type_at place scaled targets others value ≡ refused r place
 unfolding security_type_at
 security_table_fails place scaled targets others value r e =
-    need_fails (as_table value) wrong_kind _ place _ r e (λ t here e1.
+    need_fails (as_table value) WRONG_KIND _ place _ r e (λ t here e1.
     let keys = same_keys (λ k. list_any (bytes_eq k) (codes "name" ∷ codes "prior" ∷ codes "payoffs" ∷ [])) is_security_type_key
     (λ k. three_keys (bytes_eq k (codes "name")) (bytes_eq k (codes "prior")) (bytes_eq k (codes "payoffs"))) t in
-    test_fails (has_only is_security_type_key t) unknown_key _ place _ r (rw keys at e1) (λ fine e2.
+    test_fails (has_only is_security_type_key t) UNKNOWN_KEY _ place _ r (rw keys at e1) (λ fine e2.
     lack_fails (get_member (codes "name") t) _ place _ r e2 (λ own e3.
     lack_fails (get_member (codes "prior") t) _ place _ r e3 (λ weight e4.
     lack_fails (get_member (codes "payoffs") t) _ place _ r e4 (λ listed e5. no_reason r e5)))))

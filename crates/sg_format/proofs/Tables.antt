@@ -9,7 +9,8 @@ use Rattle.sg_model.specs.declared.fault.Place.{Place}
 use Rattle.sg_model.specs.declared.fault.GameFault.{GameFault}
 use Rattle.sg_model.specs.Games.{Named}
 use Rattle.sg_model.specs.Steps.{◌>>=◌}
-use Rattle.sg_format.specs.Steps.{needed, refused, missing_key, wrong_kind, unknown_key}
+use Rattle.sg_format.specs.Steps.{needed, refused}
+use Rattle.sg_model.specs.declared.reason.TheConstants.{MISSING_KEY, WRONG_KIND, UNKNOWN_KEY}
 use Rattle.sg_format.specs.Documents.{has_only, needed_at}
 use Rattle.sg_format.specs.Lists.{is_named_key, members_at, named_at, new_name}
 use Rattle.sg_format.specs.Changes.{DiffersAt}
@@ -44,18 +45,18 @@ five_keys false true c d e = refl
 five_keys false false c d e = three_keys c d e
 
 -- a key that isn't there, or a fault of what comes after it
-pub lack_fails : {B : Type 0} (o : Option Data) (later : Option ℕ) (place : Place) (next : Data → Result B GameFault) (r : ℕ) → tested (is_some o) missing_key later ≡ Some r
-    → ((x : Data) → later ≡ Some r → next x ≡ refused r place) → (needed o missing_key place >>= next) ≡ refused r place
-lack_fails None later place next r e k = let one : missing_key ≡ r = cc in rw one refl
+pub lack_fails : {B : Type 0} (o : Option Data) (later : Option ℕ) (place : Place) (next : Data → Result B GameFault) (r : ℕ) → tested (is_some o) MISSING_KEY later ≡ Some r
+    → ((x : Data) → later ≡ Some r → next x ≡ refused r place) → (needed o MISSING_KEY place >>= next) ≡ refused r place
+lack_fails None later place next r e k = let one : MISSING_KEY ≡ r = cc in rw one refl
 lack_fails (Some x) later place next r e k = k x e
 
 named_table_fails : (place : Place) (key : List ℕ) (known : List (List ℕ)) (limit : ℕ) (others : List Named) (value : Data) (r : ℕ) → reason_of (table_with (codes "name" ∷ key ∷ [])) value ≡ Some r
     → named_at place key known limit others value ≡ refused r place
 unfolding named_at
 named_table_fails place key known limit others value r e =
-    need_fails (as_table value) wrong_kind _ place _ r e (λ t here e1.
+    need_fails (as_table value) WRONG_KIND _ place _ r e (λ t here e1.
     let keys = same_keys (λ k. list_any (bytes_eq k) (codes "name" ∷ key ∷ [])) (is_named_key key) (λ k. two_keys (bytes_eq k (codes "name")) (bytes_eq k key)) t in
-    test_fails (has_only (is_named_key key) t) unknown_key _ place _ r (rw keys at e1) (λ fine e2.
+    test_fails (has_only (is_named_key key) t) UNKNOWN_KEY _ place _ r (rw keys at e1) (λ fine e2.
     lack_fails (get_member (codes "name") t) _ place _ r e2 (λ own e3.
     lack_fails (get_member key t) _ place _ r e3 (λ listed e4. no_reason r e4))))
 

@@ -1,6 +1,7 @@
 -- A document in which one key was changed, the keys of a game's document, and the fault of a value at one of them.
 use Rattle.std.specs.Prelude.{◌≡◌, ◌≢◌, ℕ, Bool, false, if◌then◌else◌, List, length, Option, Some, None, Result, Ok, Err, codes, bytes_eq}
 use Rattle.toml.specs.Data.{Data, Members, get_member}
+use Rattle.sg_model.specs.declared.limit.TheConstants.{ROW_LIMIT, SCALED_TARGET_LIMIT, TARGET_LIMIT}
 use Rattle.sg_model.specs.declared.kind.Kind.{Kind}
 use Rattle.sg_model.specs.declared.kind.Kind.TheVariants.{Security, Matrix}
 use Rattle.sg_model.specs.declared.fault.GameFault.{GameFault}
@@ -30,15 +31,15 @@ fault_in (Err fault) = Some fault
 -- the fault of a list of targets, rows, schedules, resources or types that stands at its key in the document of a game
 abbrev pub list_fault : Kind → Option ℕ → Game → List ℕ → Data → Option GameFault
 list_fault Matrix patrols g key value =
-    if bytes_eq key (codes "rows") then fault_in (names_at place_of.Document place_of.Row 4096 value)
+    if bytes_eq key (codes "rows") then fault_in (names_at place_of.Document place_of.Row ROW_LIMIT value)
     else if bytes_eq key (codes "type") then fault_in (matrix_types_at (length g.goals) value)
     else None
 list_fault Security (Some n) g key value =
-    if bytes_eq key (codes "targets") then fault_in (names_at place_of.Document place_of.Target (if is_scaled g then 10000 else 200) value)
+    if bytes_eq key (codes "targets") then fault_in (names_at place_of.Document place_of.Target (if is_scaled g then SCALED_TARGET_LIMIT else TARGET_LIMIT) value)
     else if bytes_eq key (codes "type") then fault_in (security_types_at (is_scaled g) (length g.goals) value)
     else None
 list_fault Security None g key value =
-    if bytes_eq key (codes "targets") then fault_in (names_at place_of.Document place_of.Target 200 value)
+    if bytes_eq key (codes "targets") then fault_in (names_at place_of.Document place_of.Target TARGET_LIMIT value)
     else if bytes_eq key (codes "schedule") then fault_in (schedules_at g.goals value)
     else if bytes_eq key (codes "resource") then fault_in (resources_at g.schedules value)
     else if bytes_eq key (codes "type") then fault_in (security_types_at false (length g.goals) value)

@@ -2,6 +2,7 @@
 use Rattle.std.specs.Prelude.{ℕ, ◌^◌, ◌==◌, Bool, false, not, ◌&&◌, ◌||◌, nat_le, ℤ, pos, negsuc, int_lt, int_rem, List, [], length, Option, Some, None, is_some, unwrap_or, Result, Ok, codes, bytes_eq, if◌then◌else◌}
 use Rattle.std.specs.List.{list_all}
 use Rattle.toml.specs.Data.{Data, Members, get_member}
+use Rattle.sg_model.specs.declared.limit.TheConstants.{PATROL_LIMIT, PROGRAM_ROW_LIMIT, ROW_LIMIT, SCALED_PATROL_LIMIT, SCALED_TARGET_LIMIT, TARGET_LIMIT}
 use Rattle.sg_model.specs.declared.fault.Place.TheVariants as place_of
 use Rattle.sg_model.specs.declared.fault.GameFault.{GameFault}
 use Rattle.sg_model.specs.declared.kind.Kind.{Kind}
@@ -11,7 +12,8 @@ use Rattle.sg_model.specs.Limits.{program_rows}
 use Rattle.sg_model.specs.Origami.{gap}
 use Rattle.sg_model.specs.Steps.{◌>>=◌}
 use Rattle.sg_model.specs.Sums.{positive_part}
-use Rattle.sg_format.specs.Steps.{needed, passed, bad_version, missing_key, unknown_key, out_of_range, too_large, bad_scale}
+use Rattle.sg_format.specs.Steps.{needed, passed}
+use Rattle.sg_model.specs.declared.reason.TheConstants.{BAD_VERSION, MISSING_KEY, UNKNOWN_KEY, OUT_OF_RANGE, TOO_LARGE, BAD_SCALE}
 use Rattle.sg_format.specs.Documents.{document_of, has_only, needed_at, integer_at, text_at, number_at}
 use Rattle.sg_format.specs.Lists.{names_at, schedules_at, resources_at}
 use Rattle.sg_format.specs.Types.{security_types_at, matrix_types_at}
@@ -26,7 +28,7 @@ unfoldable pub version_of : Members → Result (Unit {0}) GameFault
 version_of table = do
   value ← needed_at place_of.Document (codes "version") table
   version ← integer_at place_of.Document value
-  passed (is_one version) bad_version place_of.Document
+  passed (is_one version) BAD_VERSION place_of.Document
 
 -- the form that a text names
 abbrev pub kind_of : List ℕ → Option Kind
@@ -37,7 +39,7 @@ unfoldable pub form_of : Members → Result Kind GameFault
 form_of table = do
   value ← needed_at place_of.Document (codes "form") table
   text ← text_at place_of.Document value
-  needed (kind_of text) out_of_range place_of.Document
+  needed (kind_of text) OUT_OF_RANGE place_of.Document
 
 -- the top keys of a game of identical patrols
 abbrev pub is_patrols_key : List ℕ → Bool
@@ -72,20 +74,20 @@ fits_scale scale p = int_lt p.du p.dc && int_lt p.ac p.au && is_zero (int_rem sc
 -- with a scale, the payoffs fit it; without one, the game's linear program isn't too large
 unfoldable pub limits_of : Game → Bool → Result (Unit {0}) GameFault
 limits_of g scaled =
-    if scaled then passed (list_all (λ (x : Attacker). list_all (fits_scale g.scale) x.payoffs) g.types) bad_scale (place_of.Attacker 1)
-    else passed (nat_le (program_rows g) 1536) too_large place_of.Document
+    if scaled then passed (list_all (λ (x : Attacker). list_all (fits_scale g.scale) x.payoffs) g.types) BAD_SCALE (place_of.Attacker 1)
+    else passed (nat_le (program_rows g) PROGRAM_ROW_LIMIT) TOO_LARGE place_of.Document
 
 -- a game of identical patrols, whose number is given
 unfoldable pub patrols_game : Data → Members → Result Game GameFault
 patrols_game given table = do
-  keys ← passed (has_only is_patrols_key table) unknown_key place_of.Document
+  keys ← passed (has_only is_patrols_key table) UNKNOWN_KEY place_of.Document
   listed ← needed_at place_of.Document (codes "targets") table
   attackers ← needed_at place_of.Document (codes "type") table
   let declared = get_member (codes "scale") table
   let scaled = is_some declared
-  targets ← names_at place_of.Document place_of.Target (if scaled then 10000 else 200) listed
+  targets ← names_at place_of.Document place_of.Target (if scaled then SCALED_TARGET_LIMIT else TARGET_LIMIT) listed
   scale ← scale_at declared
-  patrols ← number_at place_of.Document (pos 0) (pos (if scaled then 200 else 32)) given
+  patrols ← number_at place_of.Document (pos 0) (pos (if scaled then SCALED_PATROL_LIMIT else PATROL_LIMIT)) given
   types ← security_types_at scaled (length targets) attackers
   let g : Game = record {
     kind = Security;
@@ -102,7 +104,7 @@ patrols_game given table = do
 -- a game of listed schedules and resources, from the values of its targets, schedules, resources and types
 unfoldable pub listed_game : Data → Data → Data → Data → Result Game GameFault
 listed_game listed given manned attackers = do
-  targets ← names_at place_of.Document place_of.Target 200 listed
+  targets ← names_at place_of.Document place_of.Target TARGET_LIMIT listed
   schedules ← schedules_at targets given
   resources ← resources_at schedules manned
   types ← security_types_at false (length targets) attackers
@@ -121,9 +123,9 @@ listed_game listed given manned attackers = do
 -- a game of listed schedules and resources
 unfoldable pub resources_game : Members → Result Game GameFault
 resources_game table = do
-  keys ← passed (has_only is_resources_key table) unknown_key place_of.Document
+  keys ← passed (has_only is_resources_key table) UNKNOWN_KEY place_of.Document
   listed ← needed_at place_of.Document (codes "targets") table
-  unscaled ← passed (not (is_some (get_member (codes "scale") table))) missing_key place_of.Document
+  unscaled ← passed (not (is_some (get_member (codes "scale") table))) MISSING_KEY place_of.Document
   given ← needed_at place_of.Document (codes "schedule") table
   manned ← needed_at place_of.Document (codes "resource") table
   attackers ← needed_at place_of.Document (codes "type") table
@@ -137,10 +139,10 @@ security_game None table = resources_game table
 -- a game in matrix form
 unfoldable pub matrix_game : Members → Result Game GameFault
 matrix_game table = do
-  keys ← passed (has_only is_matrix_key table) unknown_key place_of.Document
+  keys ← passed (has_only is_matrix_key table) UNKNOWN_KEY place_of.Document
   listed ← needed_at place_of.Document (codes "rows") table
   attackers ← needed_at place_of.Document (codes "type") table
-  rows ← names_at place_of.Document place_of.Row 4096 listed
+  rows ← names_at place_of.Document place_of.Row ROW_LIMIT listed
   types ← matrix_types_at (length rows) attackers
   let g : Game = record {
     kind = Matrix;

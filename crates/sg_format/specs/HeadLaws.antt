@@ -4,7 +4,8 @@ use Rattle.toml.specs.Data.{Data, Members, as_integer, as_str, get_member, integ
 use Rattle.sg_model.specs.declared.fault.Place.TheVariants.{Document}
 use Rattle.sg_model.specs.declared.kind.Kind.{Kind}
 use Rattle.sg_model.specs.declared.kind.Kind.TheVariants.{Security}
-use Rattle.sg_format.specs.Steps.{refused, missing_key, wrong_kind, unknown_key, out_of_range}
+use Rattle.sg_format.specs.Steps.{refused}
+use Rattle.sg_model.specs.declared.reason.TheConstants.{MISSING_KEY, WRONG_KIND, UNKNOWN_KEY, OUT_OF_RANGE}
 use Rattle.sg_format.specs.Documents.{has_only}
 use Rattle.sg_format.specs.GameText.{form_name}
 use Rattle.sg_format.specs.GameFiles.{game_of_table}
@@ -25,16 +26,16 @@ is_own_key kind document key = is_top_key kind (if is_some (get_member (codes "p
 
 -- the tests before those of the values, in their order: each asks that those before it pass
 pub record HeadIsRefused : Type 0 where
-  pub no_version : (document : Members) → get_member (codes "version") document ≡ None → game_of_table document ≡ refused missing_key Document
-  pub version_kind : (document : Members) (value : Data) → get_member (codes "version") document ≡ Some value → as_integer value ≡ None → game_of_table document ≡ refused wrong_kind Document
-  pub no_form : (document : Members) → IsFirstVersion document → get_member (codes "form") document ≡ None → game_of_table document ≡ refused missing_key Document
-  pub form_kind : (document : Members) (value : Data) → IsFirstVersion document → get_member (codes "form") document ≡ Some value → as_str value ≡ None → game_of_table document ≡ refused wrong_kind Document
+  pub no_version : (document : Members) → get_member (codes "version") document ≡ None → game_of_table document ≡ refused MISSING_KEY Document
+  pub version_kind : (document : Members) (value : Data) → get_member (codes "version") document ≡ Some value → as_integer value ≡ None → game_of_table document ≡ refused WRONG_KIND Document
+  pub no_form : (document : Members) → IsFirstVersion document → get_member (codes "form") document ≡ None → game_of_table document ≡ refused MISSING_KEY Document
+  pub form_kind : (document : Members) (value : Data) → IsFirstVersion document → get_member (codes "form") document ≡ Some value → as_str value ≡ None → game_of_table document ≡ refused WRONG_KIND Document
   pub other_form : (document : Members) (text : List ℕ) → IsFirstVersion document → get_member (codes "form") document ≡ Some (string text) → text ≢ codes "security" → text ≢ codes "matrix"
-      → game_of_table document ≡ refused out_of_range Document
+      → game_of_table document ≡ refused OUT_OF_RANGE Document
   pub unknown : (kind : Kind) (document : Members) (key : List ℕ) (value : Data) → IsOfForm kind document → get_member key document ≡ Some value → is_own_key kind document key ≡ false
-      → game_of_table document ≡ refused unknown_key Document
+      → game_of_table document ≡ refused UNKNOWN_KEY Document
   pub missing : (kind : Kind) (document : Members) (key : List ℕ) → IsOfForm kind document → has_only (is_own_key kind document) document ≡ true → is_own_key kind document key ≡ true
-      → key ≢ codes "scale" → get_member key document ≡ None → game_of_table document ≡ refused missing_key Document
+      → key ≢ codes "scale" → get_member key document ≡ None → game_of_table document ≡ refused MISSING_KEY Document
   -- a scale asks for patrols
   pub lone_scale : (document : Members) (value : Data) → IsOfForm Security document → has_only (is_own_key Security document) document ≡ true → get_member (codes "scale") document ≡ Some value
-      → get_member (codes "patrols") document ≡ None → game_of_table document ≡ refused missing_key Document
+      → get_member (codes "patrols") document ≡ None → game_of_table document ≡ refused MISSING_KEY Document

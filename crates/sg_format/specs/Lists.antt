@@ -2,12 +2,14 @@
 use Rattle.std.specs.Prelude.{ℕ, suc, ◌+◌, ◌==◌, Bool, not, ◌||◌, nat_le, nat_lt, List, [], ◌∷◌, ◌++◌, map, length, Option, Result, Ok, codes, bytes_eq}
 use Rattle.std.specs.List.{list_any, position_from}
 use Rattle.toml.specs.Data.{Data, Items, no_items, item}
+use Rattle.sg_model.specs.declared.limit.TheConstants.{RESOURCE_LIMIT, RESOURCE_SCHEDULE_LIMIT, SCHEDULE_LIMIT, SCHEDULE_TARGET_LIMIT}
 use Rattle.sg_model.specs.declared.fault.Place.{Place}
 use Rattle.sg_model.specs.declared.fault.Place.TheVariants.{Document, Schedule, Resource}
 use Rattle.sg_model.specs.declared.fault.GameFault.{GameFault}
 use Rattle.sg_model.specs.Games.{Named}
 use Rattle.sg_model.specs.Steps.{◌>>=◌}
-use Rattle.sg_format.specs.Steps.{needed, passed, unknown_key, empty_list, unknown_name, repeated_name, too_large}
+use Rattle.sg_format.specs.Steps.{needed, passed}
+use Rattle.sg_model.specs.declared.reason.TheConstants.{UNKNOWN_KEY, EMPTY_LIST, UNKNOWN_NAME, REPEATED_NAME, TOO_LARGE}
 use Rattle.sg_format.specs.Documents.{has_only, needed_at, text_at, items_at, table_at, name_at}
 
 -- how many items there are
@@ -26,22 +28,22 @@ each read before (item value rest) = do
 unfoldable pub few_at : Place → ℕ → Data → Result Items GameFault
 few_at place limit value = do
   items ← items_at place value
-  few ← passed (nat_le (item_count items) limit) too_large place
+  few ← passed (nat_le (item_count items) limit) TOO_LARGE place
   Ok items
 
 -- the items of an array of one to limit
 unfoldable pub some_at : Place → ℕ → Data → Result Items GameFault
 some_at place limit value = do
   items ← items_at place value
-  some ← passed (nat_lt 0 (item_count items)) empty_list place
-  few ← passed (nat_le (item_count items) limit) too_large place
+  some ← passed (nat_lt 0 (item_count items)) EMPTY_LIST place
+  few ← passed (nat_le (item_count items) limit) TOO_LARGE place
   Ok items
 
 -- a name that isn't among those before it
 unfoldable pub new_name : Place → List (List ℕ) → Data → Result (List ℕ) GameFault
 new_name place before value = do
   name ← name_at place value
-  new ← passed (not (list_any (bytes_eq name) before)) repeated_name place
+  new ← passed (not (list_any (bytes_eq name) before)) REPEATED_NAME place
   Ok name
 
 -- one to limit names, no two the same: faults of the array stand at whole, and those of the n-th name at place n
@@ -58,13 +60,13 @@ number_of name names = position_from (bytes_eq name) 1 names
 unfoldable pub known_at : Place → List (List ℕ) → Data → Result ℕ GameFault
 known_at place known value = do
   name ← text_at place value
-  needed (number_of name known) unknown_name place
+  needed (number_of name known) UNKNOWN_NAME place
 
 -- the number of one of the known names, which isn't among the numbers before it
 unfoldable pub member_at : Place → List (List ℕ) → List ℕ → Data → Result ℕ GameFault
 member_at place known before value = do
   number ← known_at place known value
-  new ← passed (not (list_any (λ other. other == number) before)) repeated_name place
+  new ← passed (not (list_any (λ other. other == number) before)) REPEATED_NAME place
   Ok number
 
 -- the numbers of one to limit of the known names, no two the same
@@ -81,7 +83,7 @@ is_named_key members_key key = bytes_eq key (codes "name") || bytes_eq key membe
 unfoldable pub named_at : Place → List ℕ → List (List ℕ) → ℕ → List Named → Data → Result Named GameFault
 named_at place key known limit before value = do
   table ← table_at place value
-  keys ← passed (has_only (is_named_key key) table) unknown_key place
+  keys ← passed (has_only (is_named_key key) table) UNKNOWN_KEY place
   own ← needed_at place (codes "name") table
   listed ← needed_at place key table
   name ← new_name place (map (λ (x : Named). x.name) before) own
@@ -96,8 +98,8 @@ named_lists_at place key known limit members_limit value = do
 
 -- at most 500 schedules, each with a name and one to 200 of the targets
 abbrev pub schedules_at : List (List ℕ) → Data → Result (List Named) GameFault
-schedules_at targets value = named_lists_at Schedule (codes "targets") targets 500 200 value
+schedules_at targets value = named_lists_at Schedule (codes "targets") targets SCHEDULE_LIMIT SCHEDULE_TARGET_LIMIT value
 
 -- at most 32 resources, each with a name and one to 500 of the schedules
 abbrev pub resources_at : List Named → Data → Result (List Named) GameFault
-resources_at schedules value = named_lists_at Resource (codes "schedules") (map (λ (x : Named). x.name) schedules) 32 500 value
+resources_at schedules value = named_lists_at Resource (codes "schedules") (map (λ (x : Named). x.name) schedules) RESOURCE_LIMIT RESOURCE_SCHEDULE_LIMIT value

@@ -2,6 +2,7 @@
 use Rattle.std.specs.Prelude.{◌≡◌, ◌≢◌, ◌⊎◌, ℕ, ◌+◌, ◌-◌, ◌*◌, ◌^◌, ◌<◌, ◌≤◌, Bool, true, false, List, [], length, ℤ, pos, ◌<ℤ◌, Option, Some, None, is_some, Ok, All, Contains, bytes_eq, codes}
 use Rattle.std.specs.List.{list_any}
 use Rattle.toml.specs.Data.{Data, Items, Members, array, as_array, as_integer, as_str, as_table, get_member, integer, item, no_items, string, table}
+use Rattle.sg_model.specs.declared.limit.TheConstants.{PATROL_LIMIT, PROGRAM_ROW_LIMIT}
 use Rattle.sg_model.specs.Names.{is_name}
 use Rattle.sg_model.specs.Games.{Game, Payoff, attacker, payoff, resource_count}
 use Rattle.sg_model.specs.declared.kind.Kind.TheVariants.{Security}
@@ -9,7 +10,8 @@ use Rattle.sg_format.specs.Changes.{DiffersAt, list_fault}
 use Rattle.sg_model.specs.Limits.{IsPayoff, IsWithin, is_scaled}
 use Rattle.sg_model.specs.Origami.{IsScaled}
 use Rattle.sg_model.specs.declared.fault.Place.TheVariants as place_of
-use Rattle.sg_format.specs.Steps.{refused, missing_key, wrong_kind, unknown_key, empty_list, unknown_name, repeated_name, out_of_range, too_large, bad_scale}
+use Rattle.sg_format.specs.Steps.{refused}
+use Rattle.sg_model.specs.declared.reason.TheConstants.{MISSING_KEY, WRONG_KIND, UNKNOWN_KEY, EMPTY_LIST, UNKNOWN_NAME, REPEATED_NAME, OUT_OF_RANGE, TOO_LARGE, BAD_SCALE}
 use Rattle.sg_format.specs.Documents.{has_only}
 use Rattle.sg_format.specs.Lists.{item_count}
 use Rattle.sg_format.specs.GameFiles.{game_of_table}
@@ -59,48 +61,48 @@ most_entries (table_with keys) = None
 -- a value of another kind
 abbrev pub WrongKindIsRefused : Type 0
 WrongKindIsRefused = (first second : Members) (g : Game) (part : Part) (value : Data) → game_of_table first ≡ Ok g → AgreesUpTo g part value first second
-    → is_of_kind (part_rule g part) value ≡ false → IsRefusedAt g part wrong_kind second
+    → is_of_kind (part_rule g part) value ≡ false → IsRefusedAt g part WRONG_KIND second
 
 -- a table with a key that isn't one of its own
 abbrev pub UnknownFieldIsRefused : Type 0
 UnknownFieldIsRefused = (first second members : Members) (g : Game) (part : Part) (keys : List (List ℕ)) (key : List ℕ) (value : Data) → game_of_table first ≡ Ok g
     → AgreesUpTo g part (table members) first second → part_rule g part ≡ table_with keys → get_member key members ≡ Some value → list_any (bytes_eq key) keys ≡ false
-    → IsRefusedAt g part unknown_key second
+    → IsRefusedAt g part UNKNOWN_KEY second
 
 -- a table without one of its keys, and with no other key
 abbrev pub MissingFieldIsRefused : Type 0
 MissingFieldIsRefused = (first second members : Members) (g : Game) (part : Part) (keys : List (List ℕ)) (key : List ℕ) → game_of_table first ≡ Ok g
     → AgreesUpTo g part (table members) first second → part_rule g part ≡ table_with keys → has_only (λ k. list_any (bytes_eq k) keys) members ≡ true
-    → list_any (bytes_eq key) keys ≡ true → get_member key members ≡ None → IsRefusedAt g part missing_key second
+    → list_any (bytes_eq key) keys ≡ true → get_member key members ≡ None → IsRefusedAt g part MISSING_KEY second
 
 -- no entries in an array that needs one
 abbrev pub EmptyPartIsRefused : Type 0
 EmptyPartIsRefused = (first second : Members) (g : Game) (part : Part) (limit : ℕ) → game_of_table first ≡ Ok g → AgreesUpTo g part (array no_items) first second
-    → part_rule g part ≡ some_entries limit → IsRefusedAt g part empty_list second
+    → part_rule g part ≡ some_entries limit → IsRefusedAt g part EMPTY_LIST second
 
 -- a name that nothing has
 abbrev pub UnknownNameIsRefused : Type 0
 UnknownNameIsRefused = (first second : Members) (g : Game) (part : Part) (known others : List (List ℕ)) (text : List ℕ) → game_of_table first ≡ Ok g
-    → AgreesUpTo g part (string text) first second → part_rule g part ≡ known_besides known others → All (λ other. text ≢ other) known → IsRefusedAt g part unknown_name second
+    → AgreesUpTo g part (string text) first second → part_rule g part ≡ known_besides known others → All (λ other. text ≢ other) known → IsRefusedAt g part UNKNOWN_NAME second
 
 -- a name that stands before it in its list
 abbrev pub RepeatedNameIsRefused : Type 0
 RepeatedNameIsRefused = (first second : Members) (g : Game) (part : Part) (text : List ℕ) → game_of_table first ≡ Ok g → AgreesUpTo g part (string text) first second
-    → Contains (names_before (part_rule g part)) text → IsRefusedAt g part repeated_name second
+    → Contains (names_before (part_rule g part)) text → IsRefusedAt g part REPEATED_NAME second
 
 -- a number outside its range, a name in a wrong spelling, or an array of a wrong length
 pub record OutOfRangeIsRefused : Type 0 where
   pub number : (first second : Members) (g : Game) (part : Part) (low high z : ℤ) → game_of_table first ≡ Ok g → AgreesUpTo g part (integer z) first second
-      → part_rule g part ≡ number_within low high → (z <ℤ low) ⊎ (high <ℤ z) → IsRefusedAt g part out_of_range second
+      → part_rule g part ≡ number_within low high → (z <ℤ low) ⊎ (high <ℤ z) → IsRefusedAt g part OUT_OF_RANGE second
   pub spelling : (first second : Members) (g : Game) (part : Part) (others : List (List ℕ)) (text : List ℕ) → game_of_table first ≡ Ok g → AgreesUpTo g part (string text) first second
-      → part_rule g part ≡ name_besides others → is_name text ≡ false → IsRefusedAt g part out_of_range second
+      → part_rule g part ≡ name_besides others → is_name text ≡ false → IsRefusedAt g part OUT_OF_RANGE second
   pub size : (first second : Members) (g : Game) (part : Part) (n : ℕ) (items : Items) → game_of_table first ≡ Ok g → AgreesUpTo g part (array items) first second
-      → part_rule g part ≡ entries_exactly n → item_count items ≢ n → IsRefusedAt g part out_of_range second
+      → part_rule g part ≡ entries_exactly n → item_count items ≢ n → IsRefusedAt g part OUT_OF_RANGE second
 
 -- more entries than the array may have
 abbrev pub LongPartIsRefused : Type 0
 LongPartIsRefused = (first second : Members) (g : Game) (part : Part) (limit : ℕ) (items : Items) → game_of_table first ≡ Ok g → AgreesUpTo g part (array items) first second
-    → most_entries (part_rule g part) ≡ Some limit → limit < item_count items → IsRefusedAt g part too_large second
+    → most_entries (part_rule g part) ≡ Some limit → limit < item_count items → IsRefusedAt g part TOO_LARGE second
 
 -- the payoffs at a target as they stand in a file
 abbrev pub payoff_array : Payoff → Data
@@ -111,10 +113,10 @@ pub record BadScaleIsRefused : Type 0 where
   -- another scale, or one where none was declared, for patrols and one type of prior 1
   pub declared : (first second : Members) (g : Game) (z : ℤ) (t : ℕ) → game_of_table first ≡ Ok g → DiffersIn g scale (integer z) first second → g.patrols ≢ None
       → length g.types ≡ 1 → (attacker g 1).prior ≡ pos 1 → IsWithin (pos 1) (pos (2 ^ 32)) z → 1 ≤ t → t ≤ length g.goals → ¬ (IsScaled z (payoff g 1 t))
-      → game_of_table second ≡ refused bad_scale (place_of.Attacker 1)
+      → game_of_table second ≡ refused BAD_SCALE (place_of.Attacker 1)
   -- other payoffs at target t
   pub payoffs : (first second : Members) (g : Game) (t : ℕ) (p : Payoff) → game_of_table first ≡ Ok g → is_scaled g ≡ true
-      → DiffersIn g (typed 1 (type_pays of_targets (pay_row t))) (payoff_array p) first second → IsPayoff p → ¬ (IsScaled g.scale p) → game_of_table second ≡ refused bad_scale (place_of.Attacker 1)
+      → DiffersIn g (typed 1 (type_pays of_targets (pay_row t))) (payoff_array p) first second → IsPayoff p → ¬ (IsScaled g.scale p) → game_of_table second ≡ refused BAD_SCALE (place_of.Attacker 1)
 
 -- the rows of the largest linear program of a game in security form, of so many resources, targets and types
 abbrev pub rows_for : ℕ → ℕ → ℕ → ℕ
@@ -125,11 +127,11 @@ pub record LongProgramIsRefused : Type 0 where
   -- other types
   pub types : (first second : Members) (g : Game) (items : Items) → game_of_table first ≡ Ok g → g.kind ≡ Security → is_scaled g ≡ false
       → DiffersAt (codes "type") (Some (array items)) first second → list_fault g.kind g.patrols g (codes "type") (array items) ≡ None
-      → 1536 < rows_for (resource_count g) (length g.goals) (item_count items) → game_of_table second ≡ refused too_large place_of.Document
+      → PROGRAM_ROW_LIMIT < rows_for (resource_count g) (length g.goals) (item_count items) → game_of_table second ≡ refused TOO_LARGE place_of.Document
   -- more patrols
   pub patrols : (first second : Members) (g : Game) (n : ℕ) → game_of_table first ≡ Ok g → g.patrols ≢ None → is_scaled g ≡ false
-      → DiffersAt (codes "patrols") (Some (integer (pos n))) first second → n ≤ 32 → 1536 < rows_for n (length g.goals) (length g.types) → game_of_table second ≡ refused too_large place_of.Document
+      → DiffersAt (codes "patrols") (Some (integer (pos n))) first second → n ≤ PATROL_LIMIT → PROGRAM_ROW_LIMIT < rows_for n (length g.goals) (length g.types) → game_of_table second ≡ refused TOO_LARGE place_of.Document
   -- other resources
   pub resources : (first second : Members) (g : Game) (items : Items) → game_of_table first ≡ Ok g → g.kind ≡ Security → g.patrols ≡ None
       → DiffersAt (codes "resource") (Some (array items)) first second → list_fault g.kind g.patrols g (codes "resource") (array items) ≡ None
-      → 1536 < rows_for (item_count items) (length g.goals) (length g.types) → game_of_table second ≡ refused too_large place_of.Document
+      → PROGRAM_ROW_LIMIT < rows_for (item_count items) (length g.goals) (length g.types) → game_of_table second ≡ refused TOO_LARGE place_of.Document

@@ -2,6 +2,7 @@
 use Rattle.sg_format.specs.Lists.{item_count}
 use Rattle.std.specs.Prelude.{◌≡◌, ◌≢◌, ◌<◌, is_some, true, bytes_eq, ℕ, zero, suc, ◌-◌, ◌^◌, Bool, false, if◌then◌else◌, List, [], ◌∷◌, map, length, take, ℤ, pos, ◌-ℤ◌, Option, Some, None, codes}
 use Rattle.toml.specs.Data.{Data, Items, Members, no_items, item, get_item, get_member, array, table}
+use Rattle.sg_model.specs.declared.limit.TheConstants.{ACTION_LIMIT, PATROL_LIMIT, RESOURCE_LIMIT, RESOURCE_SCHEDULE_LIMIT, ROW_LIMIT, SCALED_PATROL_LIMIT, SCALED_TARGET_LIMIT, SCHEDULE_LIMIT, SCHEDULE_TARGET_LIMIT, TARGET_LIMIT, TYPE_LIMIT}
 use Rattle.sg_model.specs.declared.fault.Place.{Place}
 use Rattle.sg_model.specs.declared.fault.Place.TheVariants as place_of
 use Rattle.sg_model.specs.declared.kind.Kind.{Kind}
@@ -188,7 +189,7 @@ abbrev pub matrix_type_rule : ℕ → List (List ℕ) → List (List ℕ) → Ty
 matrix_type_rule rows actions others whole_type = table_with (codes "name" ∷ codes "prior" ∷ codes "actions" ∷ codes "leader" ∷ codes "follower" ∷ [])
 matrix_type_rule rows actions others type_name = name_besides others
 matrix_type_rule rows actions others type_prior = number_within (pos 1) (pos (2 ^ 20))
-matrix_type_rule rows actions others (type_actions part) = names_rule 64 actions part
+matrix_type_rule rows actions others (type_actions part) = names_rule ACTION_LIMIT actions part
 matrix_type_rule rows actions others (type_pays of_targets part) = no_rule
 matrix_type_rule rows actions others (type_pays of_leader part) = pays_rule rows (length actions) part
 matrix_type_rule rows actions others (type_pays of_follower part) = pays_rule rows (length actions) part
@@ -209,34 +210,34 @@ types_before n g = map (λ (x : Attacker). x.name) (before n g.types)
 
 -- the rule of a part in matrix form
 abbrev pub matrix_rule : Game → Part → Rule
-matrix_rule g (goals part) = names_rule 4096 g.goals part
+matrix_rule g (goals part) = names_rule ROW_LIMIT g.goals part
 matrix_rule g scale = no_rule
 matrix_rule g patrols = no_rule
 matrix_rule g (groups group) = no_rule
 matrix_rule g (grouped group n part) = no_rule
-matrix_rule g types = some_entries 8
+matrix_rule g types = some_entries TYPE_LIMIT
 matrix_rule g (typed n part) = matrix_type_rule (length g.goals) (attacker g n).actions (types_before n g) part
 
 -- the rule of a part of a game of identical patrols; a declared scale allows more targets and patrols, and one type
 abbrev pub patrols_rule : Bool → Game → Part → Rule
-patrols_rule scaled g (goals part) = names_rule (if scaled then 10000 else 200) g.goals part
+patrols_rule scaled g (goals part) = names_rule (if scaled then SCALED_TARGET_LIMIT else TARGET_LIMIT) g.goals part
 patrols_rule scaled g scale = number_within (pos 1) (pos (2 ^ 32))
-patrols_rule scaled g patrols = number_within (pos 0) (pos (if scaled then 200 else 32))
+patrols_rule scaled g patrols = number_within (pos 0) (pos (if scaled then SCALED_PATROL_LIMIT else PATROL_LIMIT))
 patrols_rule scaled g (groups group) = no_rule
 patrols_rule scaled g (grouped group n part) = no_rule
-patrols_rule scaled g types = some_entries (if scaled then 1 else 8)
+patrols_rule scaled g types = some_entries (if scaled then 1 else TYPE_LIMIT)
 patrols_rule scaled g (typed n part) = security_type_rule scaled (length g.goals) (types_before n g) part
 
 -- the rule of a part of a game of listed schedules and resources
 abbrev pub listed_rule : Game → Part → Rule
-listed_rule g (goals part) = names_rule 200 g.goals part
+listed_rule g (goals part) = names_rule TARGET_LIMIT g.goals part
 listed_rule g scale = no_rule
 listed_rule g patrols = no_rule
-listed_rule g (groups schedules) = few_entries 500
-listed_rule g (groups resources) = few_entries 32
-listed_rule g (grouped schedules n part) = named_rule (codes "targets") 200 g.goals (nth g.schedules n unnamed).members (names_of (before n g.schedules)) part
-listed_rule g (grouped resources n part) = named_rule (codes "schedules") 500 (names_of g.schedules) (nth g.resources n unnamed).members (names_of (before n g.resources)) part
-listed_rule g types = some_entries 8
+listed_rule g (groups schedules) = few_entries SCHEDULE_LIMIT
+listed_rule g (groups resources) = few_entries RESOURCE_LIMIT
+listed_rule g (grouped schedules n part) = named_rule (codes "targets") SCHEDULE_TARGET_LIMIT g.goals (nth g.schedules n unnamed).members (names_of (before n g.schedules)) part
+listed_rule g (grouped resources n part) = named_rule (codes "schedules") RESOURCE_SCHEDULE_LIMIT (names_of g.schedules) (nth g.resources n unnamed).members (names_of (before n g.resources)) part
+listed_rule g types = some_entries TYPE_LIMIT
 listed_rule g (typed n part) = security_type_rule false (length g.goals) (types_before n g) part
 
 -- the rule of a part, by the form of the game

@@ -17,6 +17,8 @@ use crate::convert::{attackers_from, lists_from, names_from};
 use crate::entries::passed;
 use crate::game::{Attacker, Name, Named, Payoff};
 use crate::parts::Parts;
+use sg_model::limit::PROGRAM_ROW_LIMIT;
+use sg_model::reason::{BAD_SCALE, TOO_LARGE};
 use sg_model::{GameFault, Kind, Place};
 use sqlite_items::Items;
 use std::alloc::{AllocError, Global};
@@ -188,9 +190,9 @@ pub(crate) fn test_whole(is_scale_given: bool, draft: &Draft) -> Result<(), Game
 {
     let types = draft.types.as_slice();
     if is_scale_given {
-        passed(is_scaled(draft.scale, types), 11, Place::Attacker(1))
+        passed(is_scaled(draft.scale, types), BAD_SCALE, Place::Attacker(1))
     } else {
         let rows = rows_of(draft.kind, resources_of(draft), draft.goals.len(), types);
-        passed(rows <= 1536, 10, Place::Document)
+        passed(rows <= PROGRAM_ROW_LIMIT, TOO_LARGE, Place::Document)
     }
 }

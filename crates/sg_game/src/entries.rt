@@ -10,6 +10,7 @@ ghost use Rattle.sg_game.specs.Faults.{each_member_fault, entries_fault, is_with
 
 use crate::fault::BuildFault;
 use crate::parts::ListParts;
+use sg_model::reason::{EMPTY_LIST, OUT_OF_RANGE, REPEATED_NAME, TOO_LARGE, UNKNOWN_NAME};
 use sg_model::{GameFault, Place};
 use std::alloc::Global;
 use std::collections::BTreeSet;
@@ -92,9 +93,9 @@ pub(crate) fn take_name(
     ensures finds { (before : List (List ℕ)) → Holds seen.old before → Finds result (name_fault before place name.now) }
     ensures holds { (before : List (List ℕ)) → Holds seen.old before → OnOk result (Holds seen.new (before ++ name.now ∷ [])) }
 {
-    passed(is_spelled(name), 9, place)?;
+    passed(is_spelled(name), OUT_OF_RANGE, place)?;
     let is_new = seen.insert(String::from_str(alloc, name)?)?;
-    passed(is_new, 8, place)?;
+    passed(is_new, REPEATED_NAME, place)?;
     Ok(())
 }
 
@@ -125,8 +126,8 @@ fn is_among(members: &[u32], m: u32) -> bool
 fn test_member(count: usize, place: Place, before: &[u32], m: u32) -> Result<(), GameFault>
     ensures { FindsAlways result (member_fault count place before.now m) }
 {
-    passed(1 <= m && m as usize <= count, 7, place)?;
-    passed(!is_among(before, m), 8, place)
+    passed(1 <= m && m as usize <= count, UNKNOWN_NAME, place)?;
+    passed(!is_among(before, m), REPEATED_NAME, place)
 }
 
 /// Tests members in order.
@@ -143,8 +144,8 @@ fn test_each_member(count: usize, place: Place, members: &[u32]) -> Result<(), G
 fn test_members(count: usize, limit: usize, place: Place, list: &ListParts) -> Result<(), GameFault>
     ensures { FindsAlways result (members_fault count limit place list.now) }
 {
-    passed(1 <= list.members.len(), 6, place)?;
-    passed(list.members.len() <= limit, 10, place)?;
+    passed(1 <= list.members.len(), EMPTY_LIST, place)?;
+    passed(list.members.len() <= limit, TOO_LARGE, place)?;
     test_each_member(count, place, list.members.as_slice())
 }
 
@@ -203,6 +204,6 @@ pub(crate) fn test_lists(
     requires { limit ≤ 10000 }
     ensures { Finds result (lists_fault count limit members_limit (place_of listing) lists.now) }
 {
-    passed(lists.len() <= limit, 10, Place::Document)?;
+    passed(lists.len() <= limit, TOO_LARGE, Place::Document)?;
     test_each_list(alloc, listing, count, members_limit, lists)
 }

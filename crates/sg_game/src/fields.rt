@@ -11,6 +11,12 @@ ghost use Rattle.sg_model.specs.Places.{goal_place};
 use crate::entries::{Listing, is_within, passed, take_name, test_lists, test_names};
 use crate::fault::BuildFault;
 use crate::parts::{Parts, TypeParts};
+use sg_model::limit::{
+    ACTION_LIMIT, PATROL_LIMIT, RESOURCE_LIMIT, RESOURCE_SCHEDULE_LIMIT, ROW_LIMIT,
+    SCALED_PATROL_LIMIT, SCALED_TARGET_LIMIT, SCHEDULE_LIMIT, SCHEDULE_TARGET_LIMIT, TARGET_LIMIT,
+    TYPE_LIMIT,
+};
+use sg_model::reason::{EMPTY_LIST, MISSING_KEY, OUT_OF_RANGE, TOO_LARGE};
 use sg_model::{GameFault, Kind, Place};
 use std::alloc::Global;
 use std::collections::BTreeSet;
@@ -57,11 +63,19 @@ fn test_tables(alloc: Global, goals: usize, l: u32, x: &TypeParts) -> Result<(),
 {
     let place = Place::Attacker(l);
     let actions = x.actions.len();
-    passed(1 <= actions, 6, place)?;
-    passed(actions <= 64, 10, place)?;
+    passed(1 <= actions, EMPTY_LIST, place)?;
+    passed(actions <= ACTION_LIMIT, TOO_LARGE, place)?;
     test_names(alloc, Listing::Actions(l), x.actions.as_slice())?;
-    passed(is_table(goals, actions, x.leader.as_slice()), 9, place)?;
-    passed(is_table(goals, actions, x.follower.as_slice()), 9, place)?;
+    passed(
+        is_table(goals, actions, x.leader.as_slice()),
+        OUT_OF_RANGE,
+        place,
+    )?;
+    passed(
+        is_table(goals, actions, x.follower.as_slice()),
+        OUT_OF_RANGE,
+        place,
+    )?;
     Ok(())
 }
 
@@ -99,7 +113,11 @@ fn test_type(
 ) -> Result<(), BuildFault>
     ensures { Finds result (type_fault kind prior_limit goals (Attacker l) x.now) }
 {
-    passed(is_within(1, prior_limit, x.prior), 9, Place::Attacker(l))?;
+    passed(
+        is_within(1, prior_limit, x.prior),
+        OUT_OF_RANGE,
+        Place::Attacker(l),
+    )?;
     test_pays(alloc, kind, goals, l, x)
 }
 
@@ -150,14 +168,18 @@ fn prior_limit(is_scaled: bool) -> i64
 fn type_limit(is_scaled: bool) -> usize
     ensures { result ≡ type_limit is_scaled }
 {
-    if is_scaled { 1 } else { 8 }
+    if is_scaled { 1 } else { TYPE_LIMIT }
 }
 
 /// How many patrols there may be.
 fn patrol_limit(is_scaled: bool) -> i64
     ensures { result ≡ patrol_limit is_scaled }
 {
-    if is_scaled { 200 } else { 32 }
+    if is_scaled {
+        SCALED_PATROL_LIMIT as i64
+    } else {
+        PATROL_LIMIT as i64
+    }
 }
 
 /// How many targets or rows there may be.
@@ -166,8 +188,14 @@ fn goal_limit(kind: Kind, is_scaled: bool) -> usize
     ensures few { result ≤ 10000 }
 {
     match kind {
-        Kind::Security => { if is_scaled { 10000 } else { 200 } }
-        Kind::Matrix => 4096,
+        Kind::Security => {
+            if is_scaled {
+                SCALED_TARGET_LIMIT
+            } else {
+                TARGET_LIMIT
+            }
+        }
+        Kind::Matrix => ROW_LIMIT,
     }
 }
 
@@ -186,8 +214,8 @@ fn test_goal_names(alloc: Global, kind: Kind, goals: &[String]) -> Result<(), Bu
 fn test_count(count: usize, limit: usize) -> Result<(), GameFault>
     ensures { FindsAlways result (count_fault count limit) }
 {
-    passed(1 <= count, 6, Place::Document)?;
-    passed(count <= limit, 10, Place::Document)
+    passed(1 <= count, EMPTY_LIST, Place::Document)?;
+    passed(count <= limit, TOO_LARGE, Place::Document)
 }
 
 /// Tests the targets or rows.
@@ -206,7 +234,7 @@ fn test_option(low: i64, high: i64, number: Option<i64>) -> Result<(), GameFault
     ensures { FindsAlways result (option_fault low high number) }
 {
     match number {
-        Some(z) => passed(is_within(low, high, z), 9, Place::Document),
+        Some(z) => passed(is_within(low, high, z), OUT_OF_RANGE, Place::Document),
         None => Ok(()),
     }
 }
@@ -244,23 +272,27 @@ pub(crate) fn test_fields(alloc: Global, parts: &Parts) -> Result<(), BuildFault
     ensures { Finds result (fields_fault parts.now) }
 {
     let is_scaled = parts.scale.is_some();
-    passed(!is_scaled || parts.patrols.is_some(), 3, Place::Document)?;
+    passed(
+        !is_scaled || parts.patrols.is_some(),
+        MISSING_KEY,
+        Place::Document,
+    )?;
     test_goals(alloc, is_scaled, parts)?;
     test_numbers(is_scaled, parts)?;
     test_lists(
         alloc,
         Listing::Schedules,
         parts.goals.len(),
-        500,
-        200,
+        SCHEDULE_LIMIT,
+        SCHEDULE_TARGET_LIMIT,
         parts.schedules.as_slice(),
     )?;
     test_lists(
         alloc,
         Listing::Resources,
         parts.schedules.len(),
-        32,
-        500,
+        RESOURCE_LIMIT,
+        RESOURCE_SCHEDULE_LIMIT,
         parts.resources.as_slice(),
     )?;
     test_types(alloc, is_scaled, parts)

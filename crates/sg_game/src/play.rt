@@ -145,7 +145,7 @@ fn has_scale(game: &Game) -> bool
 /// Whether the game has identical patrols, one attacker of prior 1, and a scale: exactly where a scale is declared.
 pub fn is_origami(game: &Game) -> bool
     ensures scaled { IsTrue result ↔ (game.now.scale ≢ pos 0) }
-    ensures origami { IsTrue result ↔ ((patrols : ℕ) × IsOrigami game.now patrols) }
+    ensures origami { IsTrue result ↔ IsOrigami game.now }
 {
     game.promises();
     has_scale(game)

@@ -59,26 +59,26 @@ one_item [] h = absurd (omega (arith, h))
 one_item (x ∷ []) h = refl
 one_item (x ∷ y ∷ ys) h = absurd (omega (arith, h))
 
-pub worth_is : (g : Game) (patrols : ℕ) → IsOrigami g patrols → (k : List Ticket) → worth g k ≡ take_of g k 1
-worth_is g patrols o k =
+pub worth_is : (g : Game) → IsOrigami g → (k : List Ticket) → worth g k ≡ take_of g k 1
+worth_is g o k =
     let f = λ (l : ℕ). (attacker g l).prior *ℤ take_of g k l in
     let a : worth g k ≡ total f (numbers 1) = ap (λ (m : ℕ). total f (numbers m)) o.one_type in
     a ∙ (ap (λ (z : ℤ). (z *ℤ take_of g k 1) +ℤ pos 0) o.prior_one ∙ same_by (plus (times (n 1) (v (take_of g k 1))) (n 0)) (v (take_of g k 1)) (omega arith))
 
-pub prior_is : (g : Game) (patrols : ℕ) → IsOrigami g patrols → prior_total g ≡ pos 1
-prior_is g patrols o =
+pub prior_is : (g : Game) → IsOrigami g → prior_total g ≡ pos 1
+prior_is g o =
     let a : prior_total g ≡ (attacker g 1).prior +ℤ pos 0 = ap (total (λ (x : Attacker). x.prior)) (one_item g.types o.one_type) in
     omega (arith, ints, a, o.prior_one)
 
-pub water_bounds : (g : Game) (patrols : ℕ) → IsOrigami g patrols → (num den : ℤ) (why : Level) → IsWater g patrols num den why → IsUpperBound g (water_bound g num den) (den *ℤ g.scale)
-water_bounds g patrols o num den why w =
+pub water_bounds : (g : Game) → IsOrigami g → (num den : ℤ) (why : Level) → IsWater g num den why → IsUpperBound g (water_bound g num den) (den *ℤ g.scale)
+water_bounds g o num den why w =
     let den_nonneg : pos 0 ≤ℤ den = omega (arith, ints, w.positive) in
     record {
       positive = le_by (n 1) (times (v den) (v g.scale)) (omega (arith, le_from (times (n 1) (v g.scale)) (times (v den) (v g.scale)) (mul-le (pos 1) den g.scale w.positive (omega (arith, ints, o.scaled))), le_from (n 1) (v g.scale) o.scaled));
       bounds = λ k is_k.
           let d : ℤ = weight_total k in
           let d_positive = weight_total-positive k is_k.some is_k.positive in
-          let reached = level_reached g patrols o num den why w k is_k in
+          let reached = level_reached g o num den why w k is_k in
           let actions : action_count g 1 ≡ length g.goals = rw (no_matrix g o.security) refl in
           let takes = take_of-reached g k 1 (omega (arith, actions, reached.1.from_one, reached.1.in_range)) in
           let t : ℕ = takes.0 in
@@ -101,7 +101,7 @@ water_bounds g patrols o num den why w =
           let below : All (λ t. f t ≤ℤ water_bound g num den) (at_level g num den) = All-from_map f (λ z. z ≤ℤ water_bound g num den) (at_level g num den) (greatest-bounds (map f (at_level g num den))) in
           let part : f t ≤ℤ water_bound g num den = All-numbers-at (λ t. test t ≡ true → f t ≤ℤ water_bound g num den) (length g.goals) (passes_have test (λ t. f t ≤ℤ water_bound g num den) (numbers (length g.goals)) below) t takes.1.from_one in_range (sym (omega (arith, ints, high))) in
           let times_d = mul-le (f t) (water_bound g num den) d part (omega (arith, ints, d_positive)) in
-          let is_worth : worth g k ≡ (p.du *ℤ d) +ℤ ((p.dc -ℤ p.du) *ℤ count) = worth_is g patrols o k ∙ (takes.1.gives ∙ sum_d_is g (no_matrix g o.security) k t) in
+          let is_worth : worth g k ≡ (p.du *ℤ d) +ℤ ((p.dc -ℤ p.du) *ℤ count) = worth_is g o k ∙ (takes.1.gives ∙ sum_d_is g (no_matrix g o.security) k t) in
           let left : (worth g k *ℤ (den *ℤ g.scale)) ≤ℤ (water_bound g num den *ℤ d) = subst (λ (z : ℤ). (z *ℤ (den *ℤ g.scale)) ≤ℤ (water_bound g num den *ℤ d)) (sym is_worth) (omega (arith, ints, here, times_d)) in
-          subst (λ (z : ℤ). (worth g k *ℤ (den *ℤ g.scale)) ≤ℤ ((water_bound g num den *ℤ d) *ℤ z)) (sym (prior_is g patrols o)) (omega (arith, ints, left, same_by (times (v (water_bound g num den *ℤ d)) (n 1)) (v (water_bound g num den *ℤ d)) (omega arith)));
+          subst (λ (z : ℤ). (worth g k *ℤ (den *ℤ g.scale)) ≤ℤ ((water_bound g num den *ℤ d) *ℤ z)) (sym (prior_is g o)) (omega (arith, ints, left, same_by (times (v (water_bound g num den *ℤ d)) (n 1)) (v (water_bound g num den *ℤ d)) (omega arith)));
     }

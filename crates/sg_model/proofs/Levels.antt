@@ -7,7 +7,7 @@ use Rattle.std.proofs.lemmas.List.Elements.{All-contains, All-filter, filter_pas
 use Rattle.sg_model.specs.declared.ticket.Ticket.{Ticket}
 use Rattle.sg_model.specs.declared.level.Level.{Level}
 use Rattle.sg_model.specs.Commitments.{IsCommitment, cover_count, sum_a, weight_total}
-use Rattle.sg_model.specs.Games.{Game, is_matrix, payoff}
+use Rattle.sg_model.specs.Games.{Game, is_matrix, payoff, resource_count}
 use Rattle.sg_model.specs.Origami.{IsOrigami, IsScaled, IsWater, SpendsAll, at_level, gap, share}
 use Rattle.sg_model.specs.Plays.{covers, pay_a}
 use Rattle.sg_model.specs.Sums.{numbers, total}
@@ -72,9 +72,9 @@ pub record Pays (g : Game) (k : List Ticket) (num den : ℤ) (t : ℕ) : Type 0 
   pub in_range : t ≤ length g.goals
   pub enough : (num *ℤ weight_total k) ≤ℤ (sum_a g k 1 t *ℤ den)
 
-spent_case : (g : Game) (patrols : ℕ) → IsOrigami g patrols → (num den : ℤ) → pos 1 ≤ℤ den → SpendsAll g patrols num den
+spent_case : (g : Game) → IsOrigami g → (num den : ℤ) → pos 1 ≤ℤ den → SpendsAll g num den
     → (k : List Ticket) → IsCommitment g k → All (λ t. (sum_a g k 1 t *ℤ den) <ℤ (num *ℤ weight_total k)) (at_level g num den) → ⊥
-spent_case g patrols o num den positive spends k is_k short =
+spent_case g o num den positive spends k is_k short =
     let d : ℤ = weight_total k in
     let chosen : List ℕ = at_level g num den in
     let count = cover_count g k in
@@ -92,19 +92,19 @@ spent_case g patrols o num den positive spends k is_k short =
     let b = total-scaled (share g num den) d chosen in
     let c = total-scaled count (g.scale *ℤ den) chosen in
     let e = total-filter-le count (λ t. int_le num ((payoff g 1 t).au *ℤ den)) (numbers (length g.goals)) (λ i x lt. (cover_count-bounds g k (slice_index_or (numbers (length g.goals)) i x) is_k.positive).0) in
-    let f = cover_count-sum g patrols o.identical (no_matrix g o.security) k is_k in
+    let f = cover_count-sum g (resource_count g) o.identical (no_matrix g o.security) k is_k in
     let part : ℤ = total count chosen in
-    let whole : part ≤ℤ (pos patrols *ℤ d) = omega (arith, ints, e, f) in
-    let h = mul-le part (pos patrols *ℤ d) (g.scale *ℤ den) whole (product_nonneg g.scale den (omega (arith, ints, o.scaled)) (omega (arith, ints))) in
+    let whole : part ≤ℤ (pos (resource_count g) *ℤ d) = omega (arith, ints, e, f) in
+    let h = mul-le part (pos (resource_count g) *ℤ d) (g.scale *ℤ den) whole (product_nonneg g.scale den (omega (arith, ints, o.scaled)) (omega (arith, ints))) in
     let q : (d *ℤ total (share g num den) chosen) <ℤ ((g.scale *ℤ den) *ℤ part) = subst (λ (z : ℤ). z <ℤ ((g.scale *ℤ den) *ℤ part)) b (subst (λ (z : ℤ). total (λ t. d *ℤ share g num den t) chosen <ℤ z) c a) in
-    let r : (d *ℤ ((pos patrols *ℤ den) *ℤ g.scale)) <ℤ ((g.scale *ℤ den) *ℤ part) = subst (λ (z : ℤ). (d *ℤ z) <ℤ ((g.scale *ℤ den) *ℤ part)) spends.sum q in
-    let vd = v d in let vs = v g.scale in let vz = v den in let vp = v part in let np = n patrols in
+    let r : (d *ℤ ((pos (resource_count g) *ℤ den) *ℤ g.scale)) <ℤ ((g.scale *ℤ den) *ℤ part) = subst (λ (z : ℤ). (d *ℤ z) <ℤ ((g.scale *ℤ den) *ℤ part)) spends.sum q in
+    let vd = v d in let vs = v g.scale in let vz = v den in let vp = v part in let np = n (resource_count g) in
     omega (arith, lt_from (times vd (times (times np vz) vs)) (times (times vs vz) vp) r, le_from (times vp (times vs vz)) (times (times np vd) (times vs vz)) h)
 
 -- every commitment pays the attacker the level at some target
-pub level_reached : (g : Game) (patrols : ℕ) → IsOrigami g patrols → (num den : ℤ) (why : Level) → IsWater g patrols num den why
+pub level_reached : (g : Game) → IsOrigami g → (num den : ℤ) (why : Level) → IsWater g num den why
     → (k : List Ticket) → IsCommitment g k → (t : ℕ) × Pays g k num den t
-level_reached g patrols o num den (Target j) w k is_k =
+level_reached g o num den (Target j) w k is_k =
     let p = payoff g 1 j in
     let scaled = o.targets j w.level.from_one w.level.in_range in (
       j,
@@ -115,9 +115,9 @@ level_reached g patrols o num den (Target j) w k is_k =
             (cover_count-bounds g k j is_k.positive).1 (omega (arith, ints, w.positive)) (sum_a_is g (no_matrix g o.security) k j) w.level.pays;
       },
     )
-level_reached g patrols o num den Resources w k is_k =
+level_reached g o num den Resources w k is_k =
     elim (some_or_none (λ t. sum_a g k 1 t *ℤ den) (λ t. num *ℤ weight_total k) (at_level g num den)) [
       | inl q ↦ (let at = All-contains (IsAtLevel g num den) (at_level g num den) q.0 (at_level_each g num den) q.1 in
           (q.0, record { from_one = at.from_one; in_range = at.in_range; enough = q.2 }))
-      | inr short ↦ absurd (spent_case g patrols o num den w.positive w.level k is_k short)
+      | inr short ↦ absurd (spent_case g o num den w.positive w.level k is_k short)
     ]

@@ -1,5 +1,5 @@
 -- What the promises of a game file give: people, scales, sizes and ranges.
-use Rattle.std.proofs.Common.{◌≡◌, ◌≢◌, ℕ, zero, suc, ◌≤◌, Bool, true, false, cond, List, [], ◌∷◌, length, ℤ, pos, ◌^◌, ◌≤ℤ◌, ap, subst, sym, refl, arith, ◌⊎◌, inl, inr, Option, Some, None, slice_index_or, slice_index}
+use Rattle.std.proofs.Common.{◌≡◌, ◌∙◌, ◌≢◌, ℕ, zero, suc, ◌≤◌, Bool, true, false, cond, List, [], ◌∷◌, length, ℤ, pos, ◌^◌, ◌≤ℤ◌, ap, subst, sym, refl, arith, ◌⊎◌, inl, inr, Option, Some, None, slice_index_or, slice_index}
 use Rattle.std.specs.List.{All}
 use Rattle.std.proofs.lemmas.Int.{ints}
 use Rattle.std.proofs.lemmas.List.Elements.{All-nil, All-head, All-tail, All-weaker, All-same}
@@ -67,7 +67,10 @@ some_of : {X : Type 0} (o : Option X) → o ≢ None → (x : X) × (o ≡ Some 
 some_of (Some x) h = (x, refl)
 some_of None h = absurd (h refl)
 
-pub origami : (g : Game) → IsGame g → is_scaled g ≡ true → (patrols : ℕ) × IsOrigami g patrols
+counted : (g : Game) (patrols : ℕ) → g.patrols ≡ Some patrols → resource_count g ≡ patrols
+counted g patrols e = rw e refl
+
+pub origami : (g : Game) → IsGame g → is_scaled g ≡ true → IsOrigami g
 origami g h scaled = elim (game_cases g h) [
   | inl s ↦ (
       let positive : pos 1 ≤ℤ g.scale = omega (arith, ints, scaled) in
@@ -75,23 +78,21 @@ origami g h scaled = elim (game_cases g h) [
       let found = some_of g.patrols is.identical in
       let first : 1 ≤ length g.types = omega (arith, is.one_type) in
       let the_type = nth-all (IsSecurityType (length g.goals)) g.types nobody s.game.each_type 1 (omega arith) first in
-      let gaps = nth-all (λ (x : Attacker). All (IsScaled g.scale) x.payoffs) g.types nobody is.targets 1 (omega arith) first in (
-        found.0,
-        record {
-          security = s.kind;
-          identical = found.1;
-          scaled = positive;
-          one_type = is.one_type;
-          prior_one = nth-all (λ (x : Attacker). x.prior ≡ pos 1) g.types nobody is.prior_one 1 (omega arith) first;
-          targets = λ t low high. nth-all (IsScaled g.scale) (attacker g 1).payoffs nothing gaps t low (omega (arith, high, the_type.one_each));
-        },
-      ))
+      let gaps = nth-all (λ (x : Attacker). All (IsScaled g.scale) x.payoffs) g.types nobody is.targets 1 (omega arith) first in
+      record {
+        security = s.kind;
+        identical = found.1 ∙ ap (λ (k : ℕ). Some k) (sym (counted g found.0 found.1));
+        scaled = positive;
+        one_type = is.one_type;
+        prior_one = nth-all (λ (x : Attacker). x.prior ≡ pos 1) g.types nobody is.prior_one 1 (omega arith) first;
+        targets = λ t low high. nth-all (IsScaled g.scale) (attacker g 1).payoffs nothing gaps t low (omega (arith, high, the_type.one_each));
+      })
   | inr m ↦ absurd (omega (arith, ints, scaled, m.game.no_scale))
 ]
 
 -- a game that declares a scale, within its limits
 pub record IsLimited (g : Game) : Type 0 where
-  pub origami : IsOrigami g (resource_count g)
+  pub origami : IsOrigami g
   pub few_patrols : resource_count g ≤ 200
   pub scale : IsWithin (pos 1) (pos (2 ^ 32)) g.scale
   pub targets : (1 ≤ length g.goals) × (length g.goals ≤ 10000)
@@ -99,23 +100,17 @@ pub record IsLimited (g : Game) : Type 0 where
 few_patrols : (g : Game) (patrols : ℕ) → g.patrols ≡ Some patrols → IsDefended g g.patrols → is_scaled g ≡ true → patrols ≤ 200
 few_patrols g patrols e h scaled = let d = rw e at h in let few = d.few in let limit = rw scaled at few in limit
 
-counted : (g : Game) (patrols : ℕ) → g.patrols ≡ Some patrols → resource_count g ≡ patrols
-counted g patrols e = rw e refl
-
 pub limited : (g : Game) → IsGame g → is_scaled g ≡ true → IsLimited g
 limited g h scaled =
-    let found = origami g h scaled in
-    let o = found.1 in
-    let patrols = found.0 in
-    let same = counted g patrols o.identical in
+    let o = origami g h scaled in
     elim (game_cases g h) [
       | inl s ↦ (
           let goals = s.game.target_count in
           let few = goals.at_most in
           let limit = rw scaled at few in
           record {
-            origami = subst (IsOrigami g) (sym same) o;
-            few_patrols = subst (λ (k : ℕ). k ≤ 200) (sym same) (few_patrols g patrols o.identical s.game.defended scaled);
+            origami = o;
+            few_patrols = few_patrols g (resource_count g) o.identical s.game.defended scaled;
             scale = record { at_least = o.scaled; at_most = s.game.scale_range.at_most };
             targets = (goals.at_least, limit);
           })

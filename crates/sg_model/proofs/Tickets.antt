@@ -56,7 +56,7 @@ cond_when b x y e = ap (λ (b : Bool). cond b x y) e
 cond_unless : (b : Bool) (x y : ℤ) → b ≡ false → cond b x y ≡ y
 cond_unless b x y e = ap (λ (b : Bool). cond b x y) e
 
-module _ (g : Game) (patrols : ℕ) (o : IsOrigami g patrols) (num den : ℤ) (positive : pos 1 ≤ℤ den) (k : List Ticket) (is_k : IsCommitment g k) (tickets : AreLevelTickets g num den k) where
+module _ (g : Game) (o : IsOrigami g) (num den : ℤ) (positive : pos 1 ≤ℤ den) (k : List Ticket) (is_k : IsCommitment g k) (tickets : AreLevelTickets g num den k) where
   parts_positive : pos 1 ≤ℤ (den *ℤ g.scale)
   parts_positive = omega (arith, ints, o.scaled, mul-le (pos 1) den g.scale positive (omega (arith, ints, o.scaled)))
 
@@ -119,9 +119,9 @@ module _ (g : Game) (patrols : ℕ) (o : IsOrigami g patrols) (num den : ℤ) (p
       omega (arith, ints, gives, more, same)
 
   -- a level that some target pays in any case is at most this one
-  pub no_level_above : (a b : ℤ) (reason : Level) → IsWater g patrols a b reason → (a *ℤ den) ≤ℤ (num *ℤ b)
+  pub no_level_above : (a b : ℤ) (reason : Level) → IsWater g a b reason → (a *ℤ den) ≤ℤ (num *ℤ b)
   no_level_above a b reason w =
-      let r = level_reached g patrols o a b reason w k is_k in
+      let r = level_reached g o a b reason w k is_k in
       let d : ℤ = weight_total k in
       let s : ℤ = sum_a g k 1 r.0 in
       let low = mul-le (a *ℤ d) (s *ℤ b) den r.1.enough (omega (arith, ints, positive)) in
@@ -131,10 +131,10 @@ module _ (g : Game) (patrols : ℕ) (o : IsOrigami g patrols) (num den : ℤ) (p
       let h : (num *ℤ d) *ℤ b ≡ (num *ℤ b) *ℤ d = same_by (times (times (v num) (v d)) (v b)) (times (times (v num) (v b)) (v d)) (omega arith) in
       cancel-le (a *ℤ den) (num *ℤ b) d (omega (arith, ints, low, high, e, f, h)) total_positive
 
-  module _ (why : Level) (w : IsWater g patrols num den why) where
+  module _ (why : Level) (w : IsWater g num den why) where
     level-some : at_level g num den ≢ []
     level-some = λ e.
-        let r = level_reached g patrols o num den why w k is_k in
+        let r = level_reached g o num den why w k is_k in
         let t : ℕ = r.0 in
         let none : int_le num ((payoff g 1 t).au *ℤ den) ≡ false =
         All-numbers-at (λ t. int_le num ((payoff g 1 t).au *ℤ den) ≡ false) (length g.goals)
@@ -145,13 +145,13 @@ module _ (g : Game) (patrols : ℕ) (o : IsOrigami g patrols) (num den : ℤ) (p
     tickets-value =
         let bound : ℤ = water_bound g num den in
         let d : ℤ = weight_total k in
-        let above = (water_bounds g patrols o num den why w).bounds k is_k in
-        let one : (bound *ℤ d) *ℤ prior_total g ≡ bound *ℤ d = ap (λ (z : ℤ). (bound *ℤ d) *ℤ z) (prior_is g patrols o) ∙ same_by (times (v (bound *ℤ d)) (n 1)) (v (bound *ℤ d)) (omega arith) in
-        let is_take : worth g k *ℤ (den *ℤ g.scale) ≡ take_of g k 1 *ℤ (den *ℤ g.scale) = ap (λ (z : ℤ). z *ℤ (den *ℤ g.scale)) (worth_is g patrols o k) in
+        let above = (water_bounds g o num den why w).bounds k is_k in
+        let one : (bound *ℤ d) *ℤ prior_total g ≡ bound *ℤ d = ap (λ (z : ℤ). (bound *ℤ d) *ℤ z) (prior_is g o) ∙ same_by (times (v (bound *ℤ d)) (n 1)) (v (bound *ℤ d)) (omega arith) in
+        let is_take : worth g k *ℤ (den *ℤ g.scale) ≡ take_of g k 1 *ℤ (den *ℤ g.scale) = ap (λ (z : ℤ). z *ℤ (den *ℤ g.scale)) (worth_is g o k) in
         record { positive = parts_positive; same = omega (arith, ints, above, one, is_take, taken level-some) }
 
     pub tickets-optimal : IsOptimal g k
-    tickets-optimal = optimal_at_bound g k is_k (water_bound g num den) (den *ℤ g.scale) (water_bounds g patrols o num den why w) tickets-value.same
+    tickets-optimal = optimal_at_bound g k is_k (water_bound g num den) (den *ℤ g.scale) (water_bounds g o num den why w) tickets-value.same
 
     -- the best answers are the targets of the level
     pub best-at-level : (t : ℕ) → 1 ≤ t → t ≤ length g.goals
@@ -161,7 +161,7 @@ module _ (g : Game) (patrols : ℕ) (o : IsOrigami g patrols) (num den : ℤ) (p
         let inside : num ≤ℤ ((payoff g 1 t).au *ℤ den) → is_best g k 1 t ≡ true = λ le. is_best-from g k 1 t (level-best t low high le) in
         let outside : ((payoff g 1 t).au *ℤ den) <ℤ num → is_best g k 1 t ≡ false =
         λ lt. is_best-not g k 1 t (λ best.
-        let r = level_reached g patrols o num den why w k is_k in
+        let r = level_reached g o num den why w k is_k in
         let more = mul-le (sum_a g k 1 r.0) (sum_a g k 1 t) den (best r.0 r.1.from_one (omega (arith, actions, r.1.in_range))) (omega (arith, ints, positive)) in
         omega (arith, ints, outside-paid t low high lt, r.1.enough, more)) in
         let same : is_best g k 1 t ≡ test = by_lt_z ((payoff g 1 t).au *ℤ den) num
@@ -172,7 +172,7 @@ module _ (g : Game) (patrols : ℕ) (o : IsOrigami g patrols) (num den : ℤ) (p
     pub minimax : (other : List Ticket) → IsCommitment g other
         → (s : ℕ) × (1 ≤ s) × (s ≤ length g.goals) × ((t : ℕ) → 1 ≤ t → t ≤ length g.goals → (sum_a g k 1 t *ℤ weight_total other) ≤ℤ (sum_a g other 1 s *ℤ weight_total k))
     minimax other is_other =
-        let r = level_reached g patrols o num den why w other is_other in (
+        let r = level_reached g o num den why w other is_other in (
           r.0,
           r.1.from_one,
           r.1.in_range,

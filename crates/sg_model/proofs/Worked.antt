@@ -72,7 +72,7 @@ patrolled-game patrols scale payoffs (names, count, few, low, high, in_range, fi
       };
     }
 
-patrolled-origami : (patrols : ℕ) (scale : ℤ) (payoffs : List Payoff) → PatrolledTest patrols scale payoffs → IsOrigami (patrolled patrols scale payoffs) patrols
+patrolled-origami : (patrols : ℕ) (scale : ℤ) (payoffs : List Payoff) → PatrolledTest patrols scale payoffs → IsOrigami (patrolled patrols scale payoffs)
 patrolled-origami patrols scale payoffs (names, count, few, low, high, in_range, fits) = record {
   security = refl;
   identical = refl;
@@ -85,9 +85,9 @@ patrolled-origami patrols scale payoffs (names, count, few, low, high, in_range,
 }
 
 -- a solved game of identical patrols
-solved : (patrols : ℕ) (scale : ℤ) (payoffs : List Payoff) → PatrolledTest patrols scale payoffs → (num den : ℤ) (why : Level) → IsWater (patrolled patrols scale payoffs) patrols num den why
+solved : (patrols : ℕ) (scale : ℤ) (payoffs : List Payoff) → PatrolledTest patrols scale payoffs → (num den : ℤ) (why : Level) → IsWater (patrolled patrols scale payoffs) num den why
     → (k : List Ticket) → commitment_test (patrolled patrols scale payoffs) k ≡ true → AreLevelTickets (patrolled patrols scale payoffs) num den k
-    → (a b : ℤ) → IsValue (patrolled patrols scale payoffs) k a b → IsSolved (patrolled patrols scale payoffs) patrols num den why k a b
+    → (a b : ℤ) → IsValue (patrolled patrols scale payoffs) k a b → IsSolved (patrolled patrols scale payoffs) num den why k a b
 solved patrols scale payoffs test num den why w k tested tickets a b is =
     let g = patrolled patrols scale payoffs in
     let o = patrolled-origami patrols scale payoffs test in
@@ -97,7 +97,7 @@ solved patrols scale payoffs test num den why w k tested tickets a b is =
       origami = o;
       level = w;
       tickets = tickets;
-      optimal = tickets-optimal g patrols o num den w.positive k is_k tickets why w;
+      optimal = tickets-optimal g o num den w.positive k is_k tickets why w;
     }
 
 -- what is asked of a game of resources with schedules
@@ -179,25 +179,25 @@ upto_three P one two three (suc (suc (suc (suc t)))) low high = absurd (omega (a
 abbrev InShare : Game → ℤ → ℤ → List Ticket → ℕ → Type 0
 InShare g num den k t = cover_count g k t *ℤ (den *ℤ g.scale) ≡ count_at g num den t *ℤ weight_total k
 
-one_patrol : IsSolved two_targets 1 (pos 4) (pos 3) Resources two_tickets (pos 2) (pos 3)
+one_patrol : IsSolved two_targets (pos 4) (pos 3) Resources two_tickets (pos 2) (pos 3)
 unfolding is_name
 one_patrol =
     solved 1 (pos 4) two_payoffs (refl, refl, refl, refl, refl, refl, refl) (pos 4) (pos 3) Resources (record { positive = at_most_z refl; level = record { some = λ e. cc; sum = refl } })
     two_tickets refl (upto_two (InShare two_targets (pos 4) (pos 3) two_tickets) refl refl) (pos 2) (pos 3) (record { positive = at_most_z refl; same = refl })
 
-no_patrol : IsSolved unpatrolled 0 (pos 4) (pos 1) Resources idle (minus 2) (pos 1)
+no_patrol : IsSolved unpatrolled (pos 4) (pos 1) Resources idle (minus 2) (pos 1)
 unfolding is_name
 no_patrol =
     solved 0 (pos 4) two_payoffs (refl, refl, refl, refl, refl, refl, refl) (pos 4) (pos 1) Resources (record { positive = at_most_z refl; level = record { some = λ e. cc; sum = refl } })
     idle refl (upto_two (InShare unpatrolled (pos 4) (pos 1) idle) refl refl) (minus 2) (pos 1) (record { positive = at_most_z refl; same = refl })
 
-two_patrols : IsSolved three_targets 2 (pos 1) (pos 3) Resources pairs (minus 1) (pos 3)
+two_patrols : IsSolved three_targets (pos 1) (pos 3) Resources pairs (minus 1) (pos 3)
 unfolding is_name
 two_patrols =
     solved 2 (pos 1) (plain ∷ plain ∷ plain ∷ []) (refl, refl, refl, refl, refl, refl, refl) (pos 1) (pos 3) Resources (record { positive = at_most_z refl; level = record { some = λ e. cc; sum = refl } })
     pairs refl (upto_three (InShare three_targets (pos 1) (pos 3) pairs) refl refl refl) (minus 1) (pos 3) (record { positive = at_most_z refl; same = refl })
 
-three_patrols : IsSolved well_patrolled 3 (pos 1) (pos 1) (Target 2) held_down (pos 1) (pos 1)
+three_patrols : IsSolved well_patrolled (pos 1) (pos 1) (Target 2) held_down (pos 1) (pos 1)
 unfolding is_name
 three_patrols =
     solved 3 (pos 4) (pays (pos 2) (minus 2) (pos 0) (pos 4) ∷ pays (pos 1) (minus 1) (pos 1) (pos 2) ∷ []) (refl, refl, refl, refl, refl, refl, refl) (pos 1) (pos 1) (Target 2)
@@ -339,8 +339,8 @@ illegal = record {
 
 no_levels : AreNoLevels
 no_levels = record {
-  takes_more = λ is. let k : SpendsAll two_targets 1 (pos 1) (pos 1) = is.level in let e : pos 5 ≡ pos 4 = k.sum in omega (arith, ints, e);
-  takes_less = λ is. let k : SpendsAll two_targets 1 (pos 3) (pos 1) = is.level in let e : pos 1 ≡ pos 4 = k.sum in omega (arith, ints, e);
+  takes_more = λ is. let k : SpendsAll two_targets (pos 1) (pos 1) = is.level in let e : pos 5 ≡ pos 4 = k.sum in omega (arith, ints, e);
+  takes_less = λ is. let k : SpendsAll two_targets (pos 3) (pos 1) = is.level in let e : pos 1 ≡ pos 4 = k.sum in omega (arith, ints, e);
   below_the_floor = λ is. let k : IsFullyCovered well_patrolled (pos 0) (pos 1) 2 = is.level in let e : pos 1 ≡ pos 0 = k.pays in omega (arith, ints, e);
   past_the_targets = λ is. let k : IsFullyCovered two_targets (pos 0) (pos 1) 3 = is.level in let high : 3 ≤ 2 = k.in_range in omega (arith, high);
   target_zero = λ is. let k : IsFullyCovered two_targets (pos 0) (pos 1) 0 = is.level in let low : 1 ≤ 0 = k.from_one in omega (arith, low);

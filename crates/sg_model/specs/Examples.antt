@@ -213,10 +213,10 @@ pub record IsWorth (g : Game) (k : List Ticket) (a b : ℤ) : Type 0 where
   pub value : IsValue g k a b
 
 -- a game of identical patrols, its level with the reason, and tickets in the shares of the level, which are optimal with value a / b
-pub record IsSolved (g : Game) (patrols : ℕ) (num den : ℤ) (why : Level) (k : List Ticket) (a b : ℤ) : Type 0 where
+pub record IsSolved (g : Game) (num den : ℤ) (why : Level) (k : List Ticket) (a b : ℤ) : Type 0 where
   pub worth : IsWorth g k a b
-  pub origami : IsOrigami g patrols
-  pub level : IsWater g patrols num den why
+  pub origami : IsOrigami g
+  pub level : IsWater g num den why
   pub tickets : AreLevelTickets g num den k
   pub optimal : IsOptimal g k
 
@@ -271,11 +271,11 @@ pub record AreIllegal : Type 0 where
 -- no water-level facts: a level that takes more than the one patrol, or less; one below what a target pays though it is covered for certain;
 -- and targets that aren't there
 pub record AreNoLevels : Type 0 where
-  pub takes_more : IsWater two_targets 1 (pos 1) (pos 1) Resources → ⊥
-  pub takes_less : IsWater two_targets 1 (pos 3) (pos 1) Resources → ⊥
-  pub below_the_floor : IsWater well_patrolled 3 (pos 0) (pos 1) (Target 2) → ⊥
-  pub past_the_targets : IsWater two_targets 1 (pos 0) (pos 1) (Target 3) → ⊥
-  pub target_zero : IsWater two_targets 1 (pos 0) (pos 1) (Target 0) → ⊥
+  pub takes_more : IsWater two_targets (pos 1) (pos 1) Resources → ⊥
+  pub takes_less : IsWater two_targets (pos 3) (pos 1) Resources → ⊥
+  pub below_the_floor : IsWater well_patrolled (pos 0) (pos 1) (Target 2) → ⊥
+  pub past_the_targets : IsWater two_targets (pos 0) (pos 1) (Target 3) → ⊥
+  pub target_zero : IsWater two_targets (pos 0) (pos 1) (Target 0) → ⊥
 
 -- a schedule of one resource that guards two targets
 abbrev pub holding : List ℕ → Game
@@ -307,10 +307,10 @@ always_first = ticket 1 (1 ∷ []) ∷ []
 
 -- the answers, as worked out by hand
 pub record WorkedExamples : Type 0 where
-  pub one_patrol : IsSolved two_targets 1 (pos 4) (pos 3) Resources two_tickets (pos 2) (pos 3)
-  pub no_patrol : IsSolved unpatrolled 0 (pos 4) (pos 1) Resources idle (minus 2) (pos 1)
-  pub two_patrols : IsSolved three_targets 2 (pos 1) (pos 3) Resources pairs (minus 1) (pos 3)
-  pub three_patrols : IsSolved well_patrolled 3 (pos 1) (pos 1) (Target 2) held_down (pos 1) (pos 1)
+  pub one_patrol : IsSolved two_targets (pos 4) (pos 3) Resources two_tickets (pos 2) (pos 3)
+  pub no_patrol : IsSolved unpatrolled (pos 4) (pos 1) Resources idle (minus 2) (pos 1)
+  pub two_patrols : IsSolved three_targets (pos 1) (pos 3) Resources pairs (minus 1) (pos 3)
+  pub three_patrols : IsSolved well_patrolled (pos 1) (pos 1) (Target 2) held_down (pos 1) (pos 1)
   pub two_resources : IsWorth four_targets four_tickets (minus 1) (pos 4)
   pub one_shared : IsWorth neighbours neighbour_tickets (minus 1) (pos 3)
   pub one_resource : IsWorth in_a_row row_tickets (minus 1) (pos 2)
@@ -333,6 +333,6 @@ pub record WorkedExamples : Type 0 where
   pub spelled : AreSpelled
   pub unscaled : AreUnscaled
   pub illegal : AreIllegal
-  pub prior_two : IsOrigami twice_two_targets 1 → ⊥
+  pub prior_two : IsOrigami twice_two_targets → ⊥
   pub no_games : AreNoGames
   pub no_levels : AreNoLevels

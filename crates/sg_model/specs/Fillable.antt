@@ -6,7 +6,7 @@ use Rattle.sg_model.specs.Origami.{IsOrigami}
 
 -- a game that declares a scale, within its limits
 pub record IsFillable (g : Game) : Type 0 where
-  pub origami : IsOrigami g (resource_count g)
+  pub origami : IsOrigami g
   pub security : is_matrix g ≡ false
   pub one_type : length g.types ≡ 1
   pub few_patrols : resource_count g ≤ 200

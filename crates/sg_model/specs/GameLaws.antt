@@ -49,7 +49,7 @@ GameIsPeopled = (g : Game) → IsGame g → IsPeopled g
 
 -- a declared scale means identical patrols and one attacker, with gaps that divide the scale
 abbrev pub ScaleMeansOrigami : Type 0
-ScaleMeansOrigami = (g : Game) → IsGame g → is_scaled g ≡ true → (patrols : ℕ) × IsOrigami g patrols
+ScaleMeansOrigami = (g : Game) → IsGame g → is_scaled g ≡ true → IsOrigami g
 
 -- all lists are short, and all counts small
 abbrev pub GameIsSmall : Type 0

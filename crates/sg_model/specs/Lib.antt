@@ -21,4 +21,5 @@ pub mod OptimalityLaws
 pub mod OrigamiLaws
 pub mod Examples
 pub mod EdgeExamples
+pub mod PlayListExamples
 pub mod LimitLaws

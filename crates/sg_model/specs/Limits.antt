@@ -2,6 +2,7 @@
 use Rattle.std.specs.Prelude.{◌≡◌, ◌≢◌, ℕ, ◌+◌, ◌-◌, ◌*◌, ◌^◌, ◌≤◌, Bool, if◌then◌else◌, List, [], map, length, sum_by, ℤ, pos, ◌-ℤ◌, ◌≤ℤ◌, int_lt, All, AllPairs, Option, Some, None}
 use Rattle.sg_model.specs.declared.kind.Kind.{Kind}
 use Rattle.sg_model.specs.declared.kind.Kind.TheVariants.{Security, Matrix}
+use Rattle.sg_model.specs.declared.limit.TheConstants.{ACTION_LIMIT, PATROL_LIMIT, PROGRAM_ROW_LIMIT, RESOURCE_LIMIT, RESOURCE_SCHEDULE_LIMIT, ROW_LIMIT, SCALED_PATROL_LIMIT, SCALED_TARGET_LIMIT, SCHEDULE_LIMIT, SCHEDULE_TARGET_LIMIT, TARGET_LIMIT, TYPE_LIMIT}
 use Rattle.sg_model.specs.Names.{AreNames}
 use Rattle.sg_model.specs.Games.{Payoff, Attacker, Named, Game, resource_count, is_matrix}
 use Rattle.sg_model.specs.Origami.{IsScaled}
@@ -62,14 +63,14 @@ pub record IsSecurityType (targets : ℕ) (x : Attacker) : Type 0 where
 pub record IsMatrixType (rows : ℕ) (x : Attacker) : Type 0 where
   pub prior : IsWithin (pos 1) (pos (2 ^ 20)) x.prior
   pub no_payoffs : x.payoffs ≡ []
-  pub action_count : IsCount 1 64 (length x.actions)
+  pub action_count : IsCount 1 ACTION_LIMIT (length x.actions)
   pub action_names : AreNames x.actions
   pub leader : IsTable rows (length x.actions) x.leader
   pub follower : IsTable rows (length x.actions) x.follower
 
 -- one to eight types, with names of their own
 pub record AreTypes (types : List Attacker) : Type 0 where
-  pub count : IsCount 1 8 (length types)
+  pub count : IsCount 1 TYPE_LIMIT (length types)
   pub names : AreNames (map (λ (x : Attacker). x.name) types)
 
 -- the rows of the largest linear program of the game: 1 + R + 2T + L * (T - 1) with R resources, T targets and L types,
@@ -88,14 +89,14 @@ pub record IsScaledGame (g : Game) : Type 0 where
 
 -- patrols within the limit, and nothing listed beside them
 pub record ArePatrols (g : Game) (patrols : ℕ) : Type 0 where
-  pub few : patrols ≤ (if is_scaled g then 200 else 32)
+  pub few : patrols ≤ (if is_scaled g then SCALED_PATROL_LIMIT else PATROL_LIMIT)
   pub no_schedules : g.schedules ≡ []
   pub no_resources : g.resources ≡ []
 
 -- at most 500 schedules of one to 200 targets, and at most 32 resources with one to 500 of them
 pub record AreListed (g : Game) : Type 0 where
-  pub schedules : AreLists (length g.goals) 500 200 g.schedules
-  pub resources : AreLists (length g.schedules) 32 500 g.resources
+  pub schedules : AreLists (length g.goals) SCHEDULE_LIMIT SCHEDULE_TARGET_LIMIT g.schedules
+  pub resources : AreLists (length g.schedules) RESOURCE_LIMIT RESOURCE_SCHEDULE_LIMIT g.resources
 
 -- identical patrols, or resources with schedules
 abbrev pub IsDefended : Game → Option ℕ → Type 0
@@ -105,25 +106,25 @@ IsDefended g None = AreListed g
 -- a game in security form
 pub record IsSecurityGame (g : Game) : Type 0 where
   pub targets : AreNames g.goals
-  pub target_count : IsCount 1 (if is_scaled g then 10000 else 200) (length g.goals)
+  pub target_count : IsCount 1 (if is_scaled g then SCALED_TARGET_LIMIT else TARGET_LIMIT) (length g.goals)
   pub scale_range : IsWithin (pos 0) (pos (2 ^ 32)) g.scale
   pub defended : IsDefended g g.patrols
   pub types : AreTypes g.types
   pub each_type : All (IsSecurityType (length g.goals)) g.types
-  pub few_rows : g.scale ≡ pos 0 → program_rows g ≤ 1536
+  pub few_rows : g.scale ≡ pos 0 → program_rows g ≤ PROGRAM_ROW_LIMIT
   pub scaled : pos 1 ≤ℤ g.scale → IsScaledGame g
 
 -- a game in matrix form
 pub record IsMatrixGame (g : Game) : Type 0 where
   pub rows : AreNames g.goals
-  pub row_count : IsCount 1 4096 (length g.goals)
+  pub row_count : IsCount 1 ROW_LIMIT (length g.goals)
   pub no_scale : g.scale ≡ pos 0
   pub no_patrols : g.patrols ≡ None
   pub no_schedules : g.schedules ≡ []
   pub no_resources : g.resources ≡ []
   pub types : AreTypes g.types
   pub each_type : All (IsMatrixType (length g.goals)) g.types
-  pub few_rows : program_rows g ≤ 1536
+  pub few_rows : program_rows g ≤ PROGRAM_ROW_LIMIT
 
 -- what every game file promises of its game
 abbrev pub IsGame : Game → Type 0

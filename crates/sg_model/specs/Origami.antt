@@ -5,7 +5,7 @@ use Rattle.sg_model.specs.declared.level.Level.{Level}
 use Rattle.sg_model.specs.declared.level.Level.TheVariants.{Resources, Target}
 use Rattle.sg_model.specs.Sums.{total, greatest, numbers}
 use Rattle.sg_model.specs.declared.ticket.Ticket.{Ticket}
-use Rattle.sg_model.specs.Games.{Game, Payoff, attacker, payoff}
+use Rattle.sg_model.specs.Games.{Game, Payoff, attacker, payoff, resource_count}
 use Rattle.sg_model.specs.Commitments.{weight_total, cover_count}
 
 -- what the attacker loses where a target is covered
@@ -19,9 +19,9 @@ pub record IsScaled (scale : ℤ) (p : Payoff) : Type 0 where
   pub divides : int_rem scale (gap p) ≡ pos 0
 
 -- one attacker of prior 1, and patrols each of which may cover any one target
-pub record IsOrigami (g : Game) (patrols : ℕ) : Type 0 where
+pub record IsOrigami (g : Game) : Type 0 where
   pub security : g.kind ≡ Security
-  pub identical : g.patrols ≡ Some patrols
+  pub identical : g.patrols ≡ Some (resource_count g)
   pub scaled : pos 1 ≤ℤ g.scale
   pub one_type : length g.types ≡ 1
   pub prior_one : (attacker g 1).prior ≡ pos 1
@@ -36,9 +36,9 @@ abbrev pub share : Game → ℤ → ℤ → ℕ → ℤ
 share g num den t = int_div g.scale (gap (payoff g 1 t)) *ℤ ((payoff g 1 t).au *ℤ den -ℤ num)
 
 -- the patrols are just enough to bring all targets of the level down to it
-pub record SpendsAll (g : Game) (patrols : ℕ) (num den : ℤ) : Type 0 where
+pub record SpendsAll (g : Game) (num den : ℤ) : Type 0 where
   pub some : at_level g num den ≢ []
-  pub sum : total (share g num den) (at_level g num den) ≡ (pos patrols *ℤ den) *ℤ g.scale
+  pub sum : total (share g num den) (at_level g num den) ≡ (pos (resource_count g) *ℤ den) *ℤ g.scale
 
 -- target j, covered for certain, still pays the attacker the level
 pub record IsFullyCovered (g : Game) (num den : ℤ) (j : ℕ) : Type 0 where
@@ -47,14 +47,14 @@ pub record IsFullyCovered (g : Game) (num den : ℤ) (j : ℕ) : Type 0 where
   pub pays : (payoff g 1 j).ac *ℤ den ≡ num
 
 -- the reason that holds the level up
-abbrev pub IsLevelFor : Game → ℕ → ℤ → ℤ → Level → Type 0
-IsLevelFor g patrols num den Resources = SpendsAll g patrols num den
-IsLevelFor g patrols num den (Target j) = IsFullyCovered g num den j
+abbrev pub IsLevelFor : Game → ℤ → ℤ → Level → Type 0
+IsLevelFor g num den Resources = SpendsAll g num den
+IsLevelFor g num den (Target j) = IsFullyCovered g num den j
 
 -- the water-level fact: the attacker's best payoff can't fall below num / den, for this reason
-pub record IsWater (g : Game) (patrols : ℕ) (num den : ℤ) (why : Level) : Type 0 where
+pub record IsWater (g : Game) (num den : ℤ) (why : Level) : Type 0 where
   pub positive : pos 1 ≤ℤ den
-  pub level : IsLevelFor g patrols num den why
+  pub level : IsLevelFor g num den why
 
 -- the greatest payoff du + (dc - du) * (au - level) / (au - ac) over the targets of the level, times den and the scale
 abbrev pub water_bound : Game → ℤ → ℤ → ℤ

@@ -11,11 +11,13 @@ mod fault;
 mod game_laws;
 mod kind;
 mod level;
+pub mod limit;
 mod optimality_laws;
 mod origami_laws;
 mod payoff_laws;
 mod play_laws;
 mod play_list_laws;
+pub mod reason;
 mod ticket;
 
 pub use examples::{worked_edges, worked_examples};
@@ -43,6 +45,6 @@ pub use play_laws::{
 };
 pub use play_list_laws::{
     legal_plays_are_all, legal_plays_are_counted, legal_plays_rise, plays_are_counted,
-    test_is_order,
+    test_is_order, worked_plays,
 };
 pub use ticket::{Play, Ticket};

@@ -1,6 +1,7 @@
 //! Laws about the order of lists and the list of legal plays, each as the contract of a function that does nothing.
 
 ghost use Rattle.sg_model.specs.Orders.{TestIsOrder};
+ghost use Rattle.sg_model.specs.PlayListExamples.{AreWorkedPlays};
 ghost use Rattle.sg_model.specs.PlayListLaws.{
   LegalPlaysAreAll,
   LegalPlaysAreCounted,
@@ -31,4 +32,9 @@ pub fn legal_plays_are_counted()
 /// Whatever list holds each legal play once is as long as the number of plays says.
 pub fn plays_are_counted()
     ensures { PlaysAreCounted }
+{}
+
+/// Lists of legal plays, worked out by hand.
+pub fn worked_plays()
+    ensures { AreWorkedPlays }
 {}

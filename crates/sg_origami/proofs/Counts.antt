@@ -4,7 +4,7 @@ use Rattle.std.specs.List.{filter}
 use Rattle.std.specs.Prelude.{int_le}
 use Rattle.std.proofs.lemmas.Int.{ints}
 use Rattle.sg_model.specs.Sums.{total, numbers}
-use Rattle.sg_model.specs.Games.{Game, payoff}
+use Rattle.sg_model.specs.Games.{Game, payoff, resource_count}
 use Rattle.sg_model.specs.Origami.{share, gap, count_at}
 use Rattle.sg_model.proofs.Levels.{multiple_is}
 use Rattle.sg_model.proofs.Ints.{v, n, less, times, le_by, le_from, product_nonneg}
@@ -20,8 +20,8 @@ total-passing f p (x ∷ xs) =
     [ true ↦ omega (arith, ints, total-passing f p xs) | false ↦ omega (arith, ints, total-passing f p xs) ]
 
 -- the counts are no more than the patrols can
-pub counts_few : (g : Game) (patrols : ℕ) (num den : ℤ) → IsReachable g patrols num den → total (count_at g num den) (numbers (length g.goals)) ≤ℤ ((pos patrols *ℤ den) *ℤ g.scale)
-counts_few g patrols num den h =
+pub counts_few : (g : Game) (num den : ℤ) → IsReachable g num den → total (count_at g num den) (numbers (length g.goals)) ≤ℤ ((pos (resource_count g) *ℤ den) *ℤ g.scale)
+counts_few g num den h =
     omega (arith, ints, total-passing (share g num den) (λ t. int_le num ((payoff g 1 t).au *ℤ den)) (numbers (length g.goals)), h.enough)
 
 -- what a target needs is at most the whole
@@ -34,8 +34,8 @@ need_bounds m au ac num den scale h e low high =
           (le_by (times (v m) (less (times (v au) (v den)) (v num))) (times (times (v m) (less (v au) (v ac))) (v den)) (omega (arith, le_from (n 0) (times (v m) (less (v num) (times (v ac) (v den)))) q))),
     )
 
-pub count_bounds : (g : Game) (patrols : ℕ) (num den : ℤ) → IsFillable g → IsReachable g patrols num den → (t : ℕ) → 1 ≤ t → t ≤ length g.goals → (pos 0 ≤ℤ count_at g num den t) × (count_at g num den t ≤ℤ (g.scale *ℤ den))
-count_bounds g patrols num den f h t low high =
+pub count_bounds : (g : Game) (num den : ℤ) → IsFillable g → IsReachable g num den → (t : ℕ) → 1 ≤ t → t ≤ length g.goals → (pos 0 ≤ℤ count_at g num den t) × (count_at g num den t ≤ℤ (g.scale *ℤ den))
+count_bounds g num den f h t low high =
     let s = f.origami.targets t low high in
     let is_m = multiple_is g t s in
     let m = multiple_bounds (multiple g t) (gap (payoff g 1 t)) g.scale (2 ^ 32) is_m (omega (arith, ints, s.attacker_loses)) f.origami.scaled f.scale_range.at_most in

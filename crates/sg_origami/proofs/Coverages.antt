@@ -9,7 +9,7 @@ use Rattle.std.proofs.lemmas.List.Elements.{All-map}
 use Rattle.std.proofs.Math.Nat.{mul-div_cancel', mul-dvd-mul_right, dvd_of_mul-dvd-mul_right, eq-one_of_dvd-one, eq-zero_of_zero-dvd}
 use Rattle.std.proofs.lemmas.Nat.Gcd.{le_of_dvd}
 use Rattle.sg_model.specs.Sums.{total, numbers, nth}
-use Rattle.sg_model.specs.Games.{Game, payoff}
+use Rattle.sg_model.specs.Games.{Game, payoff, resource_count}
 use Rattle.sg_model.specs.Limits.{IsWithin}
 use Rattle.sg_model.specs.Origami.{gap, share, count_at}
 use Rattle.sg_model.proofs.Ints.{v, n, less, times, same_by, le_by, le_from, mul-le, product_nonneg, cancel-le, factor_positive}
@@ -52,15 +52,15 @@ divisor_bounds (pos k) (suc d) m low high p =
     (omega arith, omega (arith, ints, le, high))
 divisor_bounds (negsuc k) d m low high p = absurd (omega (arith, ints, low))
 
-pub are_over : (g : Game) (patrols : ℕ) (num den : ℤ) → IsFillable g → IsReachable g patrols num den → den ≤ℤ pos (2 ^ 46) → (d : ℕ)
+pub are_over : (g : Game) (num den : ℤ) → IsFillable g → IsReachable g num den → den ≤ℤ pos (2 ^ 46) → (d : ℕ)
     → IsCountDivisor g num den (unsigned_abs (g.scale *ℤ den)) (length g.goals) d
     → AreOver g num den d (int_div (g.scale *ℤ den) (pos d)) (λ t. int_div (count_at g num den t) (pos d))
-are_over g patrols num den f r high d i =
+are_over g num den f r high d i =
     let w = whole_bounds g f den r.positive high in
     record {
       some = (divisor_bounds (g.scale *ℤ den) d (2 ^ 78) w.0 w.1.high i.of_whole).0;
       whole = divided (g.scale *ℤ den) d (omega (arith, ints, w.0)) i.of_whole;
-      each = λ t from_one in_range. divided (count_at g num den t) d (count_bounds g patrols num den f r t from_one in_range).0 (i.of_each t from_one in_range);
+      each = λ t from_one in_range. divided (count_at g num den t) d (count_bounds g num den f r t from_one in_range).0 (i.of_each t from_one in_range);
     }
 
 tickets_some : (g : Game) → IsFillable g → (num den : ℤ) → pos 1 ≤ℤ den → den ≤ℤ pos (2 ^ 46) → (d : ℕ) (tickets : ℤ) (count : ℕ → ℤ) → AreOver g num den d tickets count → IsWithin (pos 1) (pos (2 ^ 78)) tickets
@@ -72,10 +72,10 @@ tickets_some g f num den low high d tickets count o =
       at_most = (spans_factor (2 ^ 78) (g.scale *ℤ den) tickets (pos d) (sym o.whole) (omega (arith, ints, s)) w.1).high;
     }
 
-count_within : (g : Game) (patrols : ℕ) (num den : ℤ) → IsFillable g → IsReachable g patrols num den → (d : ℕ) (tickets : ℤ) (count : ℕ → ℤ) → AreOver g num den d tickets count
+count_within : (g : Game) (num den : ℤ) → IsFillable g → IsReachable g num den → (d : ℕ) (tickets : ℤ) (count : ℕ → ℤ) → AreOver g num den d tickets count
     → (t : ℕ) → 1 ≤ t → t ≤ length g.goals → IsWithin (pos 0) tickets (count t)
-count_within g patrols num den f r d tickets count o t from_one in_range =
-    let b = count_bounds g patrols num den f r t from_one in_range in
+count_within g num den f r d tickets count o t from_one in_range =
+    let b = count_bounds g num den f r t from_one in_range in
     let e = o.each t from_one in_range in
     let s = o.some in
     let w = o.whole in
@@ -85,22 +85,22 @@ count_within g patrols num den f r d tickets count o t from_one in_range =
       at_most = cancel-le (count t) tickets (pos d) (omega (arith, ints, b.1, e, w)) (omega (arith, ints, s));
     }
 
-counts_few_over : (g : Game) (patrols : ℕ) (num den : ℤ) → IsReachable g patrols num den → (d : ℕ) (tickets : ℤ) (count : ℕ → ℤ) → AreOver g num den d tickets count
-    → total count (numbers (length g.goals)) ≤ℤ (pos patrols *ℤ tickets)
-counts_few_over g patrols num den r d tickets count o =
+counts_few_over : (g : Game) (num den : ℤ) → IsReachable g num den → (d : ℕ) (tickets : ℤ) (count : ℕ → ℤ) → AreOver g num den d tickets count
+    → total count (numbers (length g.goals)) ≤ℤ (pos (resource_count g) *ℤ tickets)
+counts_few_over g num den r d tickets count o =
     let xs : List ℕ = numbers (length g.goals) in
-    let few = counts_few g patrols num den r in
+    let few = counts_few g num den r in
     let scaled = total-scaled count (pos d) xs in
     let each : All (λ t. (pos d *ℤ count t) ≡ count_at g num den t) xs =
     All-numbers (λ t. (pos d *ℤ count t) ≡ count_at g num den t) (length g.goals) (λ t low high. same_by (times (n d) (v (count t))) (times (v (count t)) (n d)) (omega arith) ∙ o.each t low high) in
     let same = total-same (λ t. pos d *ℤ count t) (count_at g num den) xs each in
     let x : ℤ = total count xs in
     let turn : pos d *ℤ x ≡ x *ℤ pos d = same_by (times (n d) (v x)) (times (v x) (n d)) (omega arith) in
-    let whole : (pos patrols *ℤ tickets) *ℤ pos d ≡ (pos patrols *ℤ den) *ℤ g.scale =
-    same_by (times (times (n patrols) (v tickets)) (n d)) (times (n patrols) (times (v tickets) (n d))) (omega arith)
-    ∙ (ap (λ (z : ℤ). pos patrols *ℤ z) o.whole ∙ same_by (times (n patrols) (times (v g.scale) (v den))) (times (times (n patrols) (v den)) (v g.scale)) (omega arith)) in
+    let whole : (pos (resource_count g) *ℤ tickets) *ℤ pos d ≡ (pos (resource_count g) *ℤ den) *ℤ g.scale =
+    same_by (times (times (n (resource_count g)) (v tickets)) (n d)) (times (n (resource_count g)) (times (v tickets) (n d))) (omega arith)
+    ∙ (ap (λ (z : ℤ). pos (resource_count g) *ℤ z) o.whole ∙ same_by (times (n (resource_count g)) (times (v g.scale) (v den))) (times (times (n (resource_count g)) (v den)) (v g.scale)) (omega arith)) in
     let s = o.some in
-    cancel-le x (pos patrols *ℤ tickets) (pos d) (omega (arith, ints, few, scaled, same, turn, whole)) (omega (arith, ints, s))
+    cancel-le x (pos (resource_count g) *ℤ tickets) (pos d) (omega (arith, ints, few, scaled, same, turn, whole)) (omega (arith, ints, s))
 
 share_over : (g : Game) (num den : ℤ) (d : ℕ) (tickets : ℤ) (count : ℕ → ℤ) → AreOver g num den d tickets count
     → (t : ℕ) → 1 ≤ t → t ≤ length g.goals → count t *ℤ (den *ℤ g.scale) ≡ count_at g num den t *ℤ tickets
@@ -132,13 +132,13 @@ enough_low au gap num den c tickets below some covered positive there =
     le_by (times (less (times (v au) (v tickets)) (times (v gap) (v c))) (v den)) (times (v num) (v tickets))
     (omega (arith, le_from (n 0) (times (times (v gap) (v c)) (v den)) p, le_from (times (times (v au) (v den)) (v tickets)) (times (v num) (v tickets)) q))
 
-enough_over : (g : Game) (patrols : ℕ) (num den : ℤ) → IsFillable g → IsReachable g patrols num den → den ≤ℤ pos (2 ^ 46) → (d : ℕ) (tickets : ℤ) (count : ℕ → ℤ) → AreOver g num den d tickets count
+enough_over : (g : Game) (num den : ℤ) → IsFillable g → IsReachable g num den → den ≤ℤ pos (2 ^ 46) → (d : ℕ) (tickets : ℤ) (count : ℕ → ℤ) → AreOver g num den d tickets count
     → (t : ℕ) → 1 ≤ t → t ≤ length g.goals → (((payoff g 1 t).au *ℤ tickets -ℤ gap (payoff g 1 t) *ℤ count t) *ℤ den) ≤ℤ (num *ℤ tickets)
-enough_over g patrols num den f r high d tickets count o t low in_range =
+enough_over g num den f r high d tickets count o t low in_range =
     let p = payoff g 1 t in
     let s = f.origami.targets t low in_range in
     let share_is = share_over g num den d tickets count o t low in_range in
-    let within = count_within g patrols num den f r d tickets count o t low in_range in
+    let within = count_within g num den f r d tickets count o t low in_range in
     let some = tickets_some g f num den r.positive high d tickets count o in
     let test : Bool = int_le num (p.au *ℤ den) in
     elim test as (λ (b : Bool). test ≡ b → count t *ℤ (den *ℤ g.scale) ≡ (cond b (share g num den t) (pos 0)) *ℤ tickets → ((p.au *ℤ tickets -ℤ gap p *ℤ count t) *ℤ den) ≤ℤ (num *ℤ tickets)) [
@@ -165,27 +165,27 @@ counts_at g count t low high =
     let at : get_or (numbers m) (t - 1) 0 ≡ t = omega (arith, nth-numbers_from 1 m (t - 1) 0 (omega arith)) in
     nth-map count (numbers m) t (pos 0) 0 low (omega (arith, length-numbers_from 1 m)) ∙ ap count at
 
-coverage_over : (g : Game) (patrols : ℕ) (num den : ℤ) → IsFillable g → IsReachable g patrols num den → den ≤ℤ pos (2 ^ 46) → (d : ℕ)
+coverage_over : (g : Game) (num den : ℤ) → IsFillable g → IsReachable g num den → den ≤ℤ pos (2 ^ 46) → (d : ℕ)
     → IsCountDivisor g num den (unsigned_abs (g.scale *ℤ den)) (length g.goals) d → (tickets : ℤ) (count : ℕ → ℤ) → AreOver g num den d tickets count
-    → IsCoverage g patrols num den (map count (numbers (length g.goals))) tickets
-coverage_over g patrols num den f r high d i tickets count o =
+    → IsCoverage g num den (map count (numbers (length g.goals))) tickets
+coverage_over g num den f r high d i tickets count o =
     let m : ℕ = length g.goals in
     let xs : List ℕ = numbers m in
     record {
       ticket_range = tickets_some g f num den r.positive high d tickets count o;
       one_each = length-map xs count ∙ length-numbers_from 1 m;
-      within = All-map (IsWithin (pos 0) tickets) count xs (All-numbers (λ t. IsWithin (pos 0) tickets (count t)) m (count_within g patrols num den f r d tickets count o));
-      few = subst (λ (z : ℤ). z ≤ℤ (pos patrols *ℤ tickets)) (sym (total-map (λ (z : ℤ). z) count xs)) (counts_few_over g patrols num den r d tickets count o);
+      within = All-map (IsWithin (pos 0) tickets) count xs (All-numbers (λ t. IsWithin (pos 0) tickets (count t)) m (count_within g num den f r d tickets count o));
+      few = subst (λ (z : ℤ). z ≤ℤ (pos (resource_count g) *ℤ tickets)) (sym (total-map (λ (z : ℤ). z) count xs)) (counts_few_over g num den r d tickets count o);
       shares = λ t low in_range. ap (λ (z : ℤ). z *ℤ (den *ℤ g.scale)) (counts_at g count t low in_range) ∙ share_over g num den d tickets count o t low in_range;
-      enough = λ t low in_range. subst (λ (z : ℤ). (((payoff g 1 t).au *ℤ tickets -ℤ gap (payoff g 1 t) *ℤ z) *ℤ den) ≤ℤ (num *ℤ tickets)) (sym (counts_at g count t low in_range)) (enough_over g patrols num den f r high d tickets count o t low in_range);
+      enough = λ t low in_range. subst (λ (z : ℤ). (((payoff g 1 t).au *ℤ tickets -ℤ gap (payoff g 1 t) *ℤ z) *ℤ den) ≤ℤ (num *ℤ tickets)) (sym (counts_at g count t low in_range)) (enough_over g num den f r high d tickets count o t low in_range);
       lowest = λ e p q. lowest_over g num den d i tickets count o e p (All-numbers-at (λ t. e ∣ unsigned_abs (count t)) m (All-from_map count (λ z. e ∣ unsigned_abs z) xs q));
     }
 
-pub coverage_is : (g : Game) (patrols : ℕ) (num den : ℤ) → IsFillable g → IsReachable g patrols num den → den ≤ℤ pos (2 ^ 46) → (d : ℕ)
+pub coverage_is : (g : Game) (num den : ℤ) → IsFillable g → IsReachable g num den → den ≤ℤ pos (2 ^ 46) → (d : ℕ)
     → IsCountDivisor g num den (unsigned_abs (g.scale *ℤ den)) (length g.goals) d → (counts : List ℤ) (tickets : ℤ)
-    → counts ≡ map (λ t. int_div (count_at g num den t) (pos d)) (numbers (length g.goals)) → tickets ≡ int_div (g.scale *ℤ den) (pos d) → IsCoverage g patrols num den counts tickets
-coverage_is g patrols num den f r high d i counts tickets e k =
-    rw (e, k) (coverage_over g patrols num den f r high d i (int_div (g.scale *ℤ den) (pos d)) (λ t. int_div (count_at g num den t) (pos d)) (are_over g patrols num den f r high d i))
+    → counts ≡ map (λ t. int_div (count_at g num den t) (pos d)) (numbers (length g.goals)) → tickets ≡ int_div (g.scale *ℤ den) (pos d) → IsCoverage g num den counts tickets
+coverage_is g num den f r high d i counts tickets e k =
+    rw (e, k) (coverage_over g num den f r high d i (int_div (g.scale *ℤ den) (pos d)) (λ t. int_div (count_at g num den t) (pos d)) (are_over g num den f r high d i))
 
 -- the whole and the divisor that the code computes
 pub whole_by : (scale den s d whole whole' : ℤ) → whole' ≡ whole → whole ≡ s *ℤ d → s ≡ scale → d ≡ den → whole' ≡ scale *ℤ den

@@ -15,37 +15,33 @@ use Rattle.sg_model.proofs.Spans.{spans_factor}
 use Rattle.sg_origami.proofs.Reduced.{IsFound, found-lowest}
 
 -- all that is known of a level in lowest terms
-pub record IsLowest (g : Game) (patrols : ℕ) (level : Fraction) (why : Level) : Type 0 where
-  pub found : IsFound g patrols level.num level.den why
+pub record IsLowest (g : Game) (level : Fraction) (why : Level) : Type 0 where
+  pub found : IsFound g level.num level.den why
   pub reduced : IsReduced level
   pub num_range : IsWithin (pos 0 -ℤ pos (2 ^ 77)) (pos (2 ^ 77)) level.num
   pub den_range : IsWithin (pos 1) (pos (2 ^ 46)) level.den
 
-pub lowest_is : (g : Game) (patrols : ℕ) (num den : ℤ) (level : Fraction) (why : Level) → IsFound g patrols num den why → den ≤ℤ pos (2 ^ 46)
-    → (pos 0 -ℤ pos (2 ^ 77)) ≤ℤ num → num ≤ℤ pos (2 ^ 77) → IsReducedForm num den level → IsLowest g patrols level why
-lowest_is g patrols num den level why f high num_low num_high form =
+pub lowest_is : (g : Game) (num den : ℤ) (level : Fraction) (why : Level) → IsFound g num den why → den ≤ℤ pos (2 ^ 46)
+    → (pos 0 -ℤ pos (2 ^ 77)) ≤ℤ num → num ≤ℤ pos (2 ^ 77) → IsReducedForm num den level → IsLowest g level why
+lowest_is g num den level why f high num_low num_high form =
     let low = f.reachable.positive in
     let l = lowers num den level low form in
     let w = spans_factor (2 ^ 77) num level.num l.by l.num_is l.positive (record { low = num_low; high = num_high }) in
     let x = spans_factor (2 ^ 46) den level.den l.by l.den_is l.positive (record { low = omega (arith, ints, low); high = high }) in
     record {
-      found = found-lowest g patrols num den level.num level.den why l form.reduced.positive f;
+      found = found-lowest g num den level.num level.den why l form.reduced.positive f;
       reduced = form.reduced;
       num_range = record { at_least = w.low; at_most = w.high };
       den_range = record { at_least = form.reduced.positive; at_most = x.high };
     }
 
-pub filling_is : (g : Game) → IsFillable g → (patrols : ℕ) → patrols ≡ resource_count g → (f : Filling) → IsLowest g patrols f.level f.reason
-    → IsCoverage g patrols f.level.num f.level.den f.counts f.total → IsFilling g f
-filling_is g fill patrols e f l c = record {
-  water = water;
-  least = λ k is_k. let r = level_reached g (resource_count g) fill.origami f.level.num f.level.den f.reason water k is_k in (r.0, r.1.from_one, r.1.in_range, r.1.enough);
+pub filling_is : (g : Game) → IsFillable g → (f : Filling) → IsLowest g f.level f.reason → IsCoverage g f.level.num f.level.den f.counts f.total → IsFilling g f
+filling_is g fill f l c = record {
+  water = l.found.water;
+  least = λ k is_k. let r = level_reached g fill.origami f.level.num f.level.den f.reason l.found.water k is_k in (r.0, r.1.from_one, r.1.in_range, r.1.enough);
   reason = l.found.reason;
   reduced = l.reduced;
   num_range = l.num_range;
   den_range = l.den_range;
-  coverage = subst (λ (n : ℕ). IsCoverage g n f.level.num f.level.den f.counts f.total) e c;
+  coverage = c;
 }
-  where
-    water : IsWater g (resource_count g) f.level.num f.level.den f.reason
-    water = subst (λ (n : ℕ). IsWater g n f.level.num f.level.den f.reason) e l.found.water

@@ -5,7 +5,7 @@ use Rattle.std.proofs.lemmas.Int.{ints}
 use Rattle.std.proofs.lemmas.List.{length-map}
 use Rattle.std.proofs.lemmas.List.Elements.{All-map}
 use Rattle.sg_model.specs.Sums.{total, numbers}
-use Rattle.sg_model.specs.Games.{Game, payoff}
+use Rattle.sg_model.specs.Games.{Game, payoff, resource_count}
 use Rattle.sg_model.specs.Origami.{SpendsAll, at_level, gap}
 use Rattle.sg_model.proofs.Ints.{v, n, times, same_by}
 use Rattle.sg_model.proofs.Levels.{multiple_is}
@@ -58,13 +58,13 @@ total-map f h [] = refl
 total-map f h (x ∷ xs) = omega (arith, ints, total-map f h xs)
 
 -- the patrols are just enough where the rates say so
-pub spends_rates : (g : Game) (patrols : ℕ) (rates : List Rate) → rates ≡ map (rate_at g) (numbers (length g.goals)) → (have num den : ℤ) → have ≡ pos patrols *ℤ g.scale → IsSpent rates have num den → SpendsAll g patrols num den
-spends_rates g patrols rates e have num den is spent =
+pub spends_rates : (g : Game) (rates : List Rate) → rates ≡ map (rate_at g) (numbers (length g.goals)) → (have num den : ℤ) → have ≡ pos (resource_count g) *ℤ g.scale → IsSpent rates have num den → SpendsAll g num den
+spends_rates g rates e have num den is spent =
     let xs : List ℕ = numbers (length g.goals) in
     let ys : List ℕ = at_level g num den in
     let same : filter (is_above num den) rates ≡ map (rate_at g) ys = ap (λ (zs : List Rate). filter (is_above num den) zs) e ∙ filter-map (is_above num den) (rate_at g) xs in
-    let whole : have *ℤ den ≡ (pos patrols *ℤ den) *ℤ g.scale =
-    ap (λ (z : ℤ). z *ℤ den) is ∙ same_by (times (times (n patrols) (v g.scale)) (v den)) (times (times (n patrols) (v den)) (v g.scale)) (omega arith) in
+    let whole : have *ℤ den ≡ (pos (resource_count g) *ℤ den) *ℤ g.scale =
+    ap (λ (z : ℤ). z *ℤ den) is ∙ same_by (times (times (n (resource_count g)) (v g.scale)) (v den)) (times (times (n (resource_count g)) (v den)) (v g.scale)) (omega arith) in
     record {
       some = λ none. spent.some (same ∙ ap (λ (zs : List ℕ). map (rate_at g) zs) none);
       sum = sym (ap (total (need_of num den)) same ∙ total-map (need_of num den) (rate_at g) ys) ∙ (spent.spends ∙ whole);

@@ -5,7 +5,7 @@ use Rattle.std.proofs.lemmas.Int.{ints}
 use Rattle.std.proofs.lemmas.Bool.{cases_eq}
 use Rattle.std.proofs.lemmas.List.Elements.{All-filter}
 use Rattle.sg_model.specs.Sums.{total, numbers}
-use Rattle.sg_model.specs.Games.{Game, payoff}
+use Rattle.sg_model.specs.Games.{Game, payoff, resource_count}
 use Rattle.sg_model.specs.Origami.{at_level, SpendsAll, share}
 use Rattle.sg_model.proofs.Ints.{v, n, less, times, same_by, le_by, le_from, mul-le, product_nonneg, cancel-le}
 use Rattle.sg_model.proofs.Sums.{total-le, total-scaled}
@@ -14,8 +14,8 @@ use Rattle.sg_origami.specs.Rates.{IsFirstMost, IsReachable, multiple}
 use Rattle.sg_origami.proofs.Rise.{Heavy, high, need, most_needed}
 use Rattle.sg_origami.proofs.Rated.{au, heavy}
 
-pub reachable_spent : (g : Game) (patrols : ℕ) (num den : ℤ) → SpendsAll g patrols num den → pos 1 ≤ℤ den → (t : ℕ) (pay : ℤ) → IsFirstMost g (length g.goals) t pay → (pay *ℤ den) <ℤ num → IsReachable g patrols num den
-reachable_spent g patrols num den spends positive t pay floor below = record {
+pub reachable_spent : (g : Game) (num den : ℤ) → SpendsAll g num den → pos 1 ≤ℤ den → (t : ℕ) (pay : ℤ) → IsFirstMost g (length g.goals) t pay → (pay *ℤ den) <ℤ num → IsReachable g num den
+reachable_spent g num den spends positive t pay floor below = record {
   positive = positive;
   over = λ j low high. omega (arith, ints, mul-le (payoff g 1 j).ac pay den (floor.most j low high) (omega (arith, ints, positive)), below);
   enough = omega (arith, ints, spends.sum);
@@ -28,8 +28,8 @@ needs_less m u num den pay h k =
     le_by (times (v den) (times (v m) (less (times (v u) (n 1)) (v pay)))) (times (v m) (less (times (v u) (v den)) (v num)))
     (omega (arith, le_from (n 0) (times (v m) (less (times (v pay) (v den)) (v num))) q))
 
-pub reachable_floor : (g : Game) (patrols : ℕ) → IsFillable g → (num den : ℤ) → SpendsAll g patrols num den → pos 1 ≤ℤ den → (t : ℕ) (pay : ℤ) → IsFirstMost g (length g.goals) t pay → num ≤ℤ (pay *ℤ den) → IsReachable g patrols pay (pos 1)
-reachable_floor g patrols f num den spends positive t pay floor above =
+pub reachable_floor : (g : Game) → IsFillable g → (num den : ℤ) → SpendsAll g num den → pos 1 ≤ℤ den → (t : ℕ) (pay : ℤ) → IsFirstMost g (length g.goals) t pay → num ≤ℤ (pay *ℤ den) → IsReachable g pay (pos 1)
+reachable_floor g f num den spends positive t pay floor above =
     let m = multiple g in
     let u = au g in
     let xs : List ℕ = numbers (length g.goals) in
@@ -40,12 +40,12 @@ reachable_floor g patrols f num den spends positive t pay floor above =
     let b = total-scaled (need m u pay (pos 1)) den (filter p xs) in
     let c = most_needed m u num den p xs (heavy g f) in
     let x : ℤ = total (share g pay (pos 1)) (at_level g pay (pos 1)) in
-    let e : (pos patrols *ℤ den) *ℤ g.scale ≡ ((pos patrols *ℤ pos 1) *ℤ g.scale) *ℤ den = same_by (times (times (n patrols) (v den)) (v g.scale)) (times (times (times (n patrols) (n 1)) (v g.scale)) (v den)) (omega arith) in
+    let e : (pos (resource_count g) *ℤ den) *ℤ g.scale ≡ ((pos (resource_count g) *ℤ pos 1) *ℤ g.scale) *ℤ den = same_by (times (times (n (resource_count g)) (v den)) (v g.scale)) (times (times (times (n (resource_count g)) (n 1)) (v g.scale)) (v den)) (omega arith) in
     let h : den *ℤ x ≡ x *ℤ den = same_by (times (v den) (v x)) (times (v x) (v den)) (omega arith) in
     record {
       positive = omega (arith, ints);
       over = λ j low high. let one : (payoff g 1 j).ac *ℤ pos 1 ≡ (payoff g 1 j).ac = same_by (times (v (payoff g 1 j).ac) (n 1)) (v (payoff g 1 j).ac) (omega arith) in omega (arith, ints, floor.most j low high, one);
-      enough = cancel-le x ((pos patrols *ℤ pos 1) *ℤ g.scale) den (omega (arith, ints, a, b, c, spends.sum, e, h)) positive;
+      enough = cancel-le x ((pos (resource_count g) *ℤ pos 1) *ℤ g.scale) den (omega (arith, ints, a, b, c, spends.sum, e, h)) positive;
     }
 
 -- one more target: it pays more, or no more

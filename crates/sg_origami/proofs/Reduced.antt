@@ -4,7 +4,7 @@ use Rattle.std.specs.List.{filter}
 use Rattle.std.specs.Prelude.{int_le}
 use Rattle.std.proofs.lemmas.Int.{ints, by_lt_z}
 use Rattle.sg_model.specs.Sums.{total, numbers}
-use Rattle.sg_model.specs.Games.{Game, payoff}
+use Rattle.sg_model.specs.Games.{Game, payoff, resource_count}
 use Rattle.sg_model.specs.declared.level.Level.{Level}
 use Rattle.sg_model.specs.declared.level.Level.TheVariants.{Resources, Target}
 use Rattle.sg_model.specs.Origami.{share, at_level, IsFullyCovered, IsLevelFor, IsWater, SpendsAll}
@@ -44,10 +44,10 @@ total_share-reduced g num den c h =
 whole-reduced : (patrols : ℕ) (den scale c : ℤ) → (pos patrols *ℤ (den *ℤ c)) *ℤ scale ≡ ((pos patrols *ℤ den) *ℤ scale) *ℤ c
 whole-reduced patrols den scale c = same_by (times (times (n patrols) (times (v den) (v c))) (v scale)) (times (times (times (n patrols) (v den)) (v scale)) (v c)) (omega arith)
 
-spends-reduced : (g : Game) (patrols : ℕ) (num den c : ℤ) → pos 1 ≤ℤ c → SpendsAll g patrols (num *ℤ c) (den *ℤ c) → SpendsAll g patrols num den
-spends-reduced g patrols num den c h s = record {
+spends-reduced : (g : Game) (num den c : ℤ) → pos 1 ≤ℤ c → SpendsAll g (num *ℤ c) (den *ℤ c) → SpendsAll g num den
+spends-reduced g num den c h s = record {
   some = subst (λ (zs : List ℕ). zs ≢ []) (at_level-reduced g num den c h) s.some;
-  sum = cancel (total (share g num den) (at_level g num den)) ((pos patrols *ℤ den) *ℤ g.scale) c (sym (total_share-reduced g num den c h) ∙ (s.sum ∙ whole-reduced patrols den g.scale c)) h;
+  sum = cancel (total (share g num den) (at_level g num den)) ((pos (resource_count g) *ℤ den) *ℤ g.scale) c (sym (total_share-reduced g num den c h) ∙ (s.sum ∙ whole-reduced (resource_count g) den g.scale c)) h;
 }
 
 times_in : (a den c : ℤ) → a *ℤ (den *ℤ c) ≡ (a *ℤ den) *ℤ c
@@ -67,38 +67,38 @@ floor-raised g num den c j f = record {
   pays = times_in (payoff g 1 j).ac den c ∙ ap (λ (z : ℤ). z *ℤ c) f.pays;
 }
 
-level-reduced : (g : Game) (patrols : ℕ) (num den c : ℤ) → pos 1 ≤ℤ c → (why : Level) → IsLevelFor g patrols (num *ℤ c) (den *ℤ c) why → IsLevelFor g patrols num den why
-level-reduced g patrols num den c h Resources s = spends-reduced g patrols num den c h s
-level-reduced g patrols num den c h (Target j) f = floor-reduced g num den c h j f
+level-reduced : (g : Game) (num den c : ℤ) → pos 1 ≤ℤ c → (why : Level) → IsLevelFor g (num *ℤ c) (den *ℤ c) why → IsLevelFor g num den why
+level-reduced g num den c h Resources s = spends-reduced g num den c h s
+level-reduced g num den c h (Target j) f = floor-reduced g num den c h j f
 
 reason-reduced : (g : Game) (num den c : ℤ) → pos 1 ≤ℤ c → (why : Level) → IsReasonOf g (num *ℤ c) (den *ℤ c) why → IsReasonOf g num den why
 reason-reduced g num den c h Resources none = λ j f. none j (floor-raised g num den c j f)
 reason-reduced g num den c h (Target j) r = record { floor = floor-reduced g num den c h j r.floor; first = λ i lt f. r.first i lt (floor-raised g num den c i f) }
 
-reachable-reduced : (g : Game) (patrols : ℕ) (num den c : ℤ) → pos 1 ≤ℤ c → pos 1 ≤ℤ den → IsReachable g patrols (num *ℤ c) (den *ℤ c) → IsReachable g patrols num den
-reachable-reduced g patrols num den c h low r = record {
+reachable-reduced : (g : Game) (num den c : ℤ) → pos 1 ≤ℤ c → pos 1 ≤ℤ den → IsReachable g (num *ℤ c) (den *ℤ c) → IsReachable g num den
+reachable-reduced g num den c h low r = record {
   positive = low;
   over = λ j from_one in_range. cancel-le ((payoff g 1 j).ac *ℤ den) num c (subst (λ (z : ℤ). z ≤ℤ (num *ℤ c)) (times_in (payoff g 1 j).ac den c) (r.over j from_one in_range)) h;
-  enough = cancel-le (total (share g num den) (at_level g num den)) ((pos patrols *ℤ den) *ℤ g.scale) c
-      (subst (λ (z : ℤ). z ≤ℤ (((pos patrols *ℤ den) *ℤ g.scale) *ℤ c)) (total_share-reduced g num den c h)
-      (subst (λ (z : ℤ). total (share g (num *ℤ c) (den *ℤ c)) (at_level g (num *ℤ c) (den *ℤ c)) ≤ℤ z) (whole-reduced patrols den g.scale c) r.enough)) h;
+  enough = cancel-le (total (share g num den) (at_level g num den)) ((pos (resource_count g) *ℤ den) *ℤ g.scale) c
+      (subst (λ (z : ℤ). z ≤ℤ (((pos (resource_count g) *ℤ den) *ℤ g.scale) *ℤ c)) (total_share-reduced g num den c h)
+      (subst (λ (z : ℤ). total (share g (num *ℤ c) (den *ℤ c)) (at_level g (num *ℤ c) (den *ℤ c)) ≤ℤ z) (whole-reduced (resource_count g) den g.scale c) r.enough)) h;
 }
 
 -- all that is known of a level
-pub record IsFound (g : Game) (patrols : ℕ) (num den : ℤ) (why : Level) : Type 0 where
-  pub water : IsWater g patrols num den why
+pub record IsFound (g : Game) (num den : ℤ) (why : Level) : Type 0 where
+  pub water : IsWater g num den why
   pub reason : IsReasonOf g num den why
-  pub reachable : IsReachable g patrols num den
+  pub reachable : IsReachable g num den
 
-found-reduced : (g : Game) (patrols : ℕ) (num den c : ℤ) (why : Level) → pos 1 ≤ℤ c → pos 1 ≤ℤ den → IsFound g patrols (num *ℤ c) (den *ℤ c) why → IsFound g patrols num den why
-found-reduced g patrols num den c why h low f = record {
-  water = record { positive = low; level = level-reduced g patrols num den c h why f.water.level };
+found-reduced : (g : Game) (num den c : ℤ) (why : Level) → pos 1 ≤ℤ c → pos 1 ≤ℤ den → IsFound g (num *ℤ c) (den *ℤ c) why → IsFound g num den why
+found-reduced g num den c why h low f = record {
+  water = record { positive = low; level = level-reduced g num den c h why f.water.level };
   reason = reason-reduced g num den c h why f.reason;
-  reachable = reachable-reduced g patrols num den c h low f.reachable;
+  reachable = reachable-reduced g num den c h low f.reachable;
 }
 
 -- is known of it in lowest terms
-pub found-lowest : (g : Game) (patrols : ℕ) (num den low_num low_den : ℤ) (why : Level) → Lowers num den low_num low_den → pos 1 ≤ℤ low_den → IsFound g patrols num den why → IsFound g patrols low_num low_den why
-found-lowest g patrols num den low_num low_den why l low f =
-    found-reduced g patrols low_num low_den l.by why l.positive low
-    (subst (λ (z : ℤ). IsFound g patrols z (low_den *ℤ l.by) why) l.num_is (subst (λ (z : ℤ). IsFound g patrols num z why) l.den_is f))
+pub found-lowest : (g : Game) (num den low_num low_den : ℤ) (why : Level) → Lowers num den low_num low_den → pos 1 ≤ℤ low_den → IsFound g num den why → IsFound g low_num low_den why
+found-lowest g num den low_num low_den why l low f =
+    found-reduced g low_num low_den l.by why l.positive low
+    (subst (λ (z : ℤ). IsFound g z (low_den *ℤ l.by) why) l.num_is (subst (λ (z : ℤ). IsFound g num z why) l.den_is f))

@@ -23,7 +23,7 @@ IsReasonOf g num den (Target j) = IsFirstFloor g num den j
 IsReasonOf g num den Resources = (j : ℕ) → ¬ (IsFullyCovered g num den j)
 
 -- out of so many tickets, counts of those that cover each target, as the level num / den asks
-pub record IsCoverage (g : Game) (patrols : ℕ) (num den : ℤ) (counts : List ℤ) (tickets : ℤ) : Type 0 where
+pub record IsCoverage (g : Game) (num den : ℤ) (counts : List ℤ) (tickets : ℤ) : Type 0 where
   -- there is a ticket, and there are at most 2^78
   pub ticket_range : IsWithin (pos 1) (pos (2 ^ 78)) tickets
   -- one count for each target
@@ -31,7 +31,7 @@ pub record IsCoverage (g : Game) (patrols : ℕ) (num den : ℤ) (counts : List 
   -- none is below 0 or above the tickets
   pub within : All (IsWithin (pos 0) tickets) counts
   -- together they are no more than the patrols can cover in all the tickets
-  pub few : total (λ count. count) counts ≤ℤ (pos patrols *ℤ tickets)
+  pub few : total (λ count. count) counts ≤ℤ (pos (resource_count g) *ℤ tickets)
   -- each target is covered in the share of the tickets that brings it down to the level
   pub shares : (t : ℕ) → 1 ≤ t → t ≤ length g.goals → nth counts t (pos 0) *ℤ (den *ℤ g.scale) ≡ count_at g num den t *ℤ tickets
   -- so covered, no target pays the attacker more than the level
@@ -43,7 +43,7 @@ pub record IsCoverage (g : Game) (patrols : ℕ) (num den : ℤ) (counts : List 
 -- the filling of a game
 pub record IsFilling (g : Game) (f : Filling) : Type 0 where
   -- the attacker's best payoff can't fall below the level, for this reason
-  pub water : IsWater g (resource_count g) f.level.num f.level.den f.reason
+  pub water : IsWater g f.level.num f.level.den f.reason
   -- that is, whatever the defender commits to, some target pays the attacker the level
   pub least : (k : List Ticket) → IsCommitment g k
       → (t : ℕ) × (1 ≤ t) × (t ≤ length g.goals) × ((f.level.num *ℤ weight_total k) ≤ℤ (sum_a g k 1 t *ℤ f.level.den))
@@ -56,4 +56,4 @@ pub record IsFilling (g : Game) (f : Filling) : Type 0 where
   -- its denominator is at most 2^46
   pub den_range : IsWithin (pos 1) (pos (2 ^ 46)) f.level.den
   -- the counts and the total are the coverage that reaches the level
-  pub coverage : IsCoverage g (resource_count g) f.level.num f.level.den f.counts f.total
+  pub coverage : IsCoverage g f.level.num f.level.den f.counts f.total

@@ -51,10 +51,10 @@ pub record IsFirstMost (g : Game) (m : ℕ) (t : ℕ) (pay : ℤ) : Type 0 where
   pub first : (j : ℕ) → 1 ≤ j → j < t → (payoff g 1 j).ac <ℤ pay
 
 -- the patrols can bring each target down to the level: none pays more where it is covered, and the patrols suffice
-pub record IsReachable (g : Game) (patrols : ℕ) (num den : ℤ) : Type 0 where
+pub record IsReachable (g : Game) (num den : ℤ) : Type 0 where
   pub positive : pos 1 ≤ℤ den
   pub over : (j : ℕ) → 1 ≤ j → j ≤ length g.goals → ((payoff g 1 j).ac *ℤ den) ≤ℤ num
-  pub enough : total (share g num den) (at_level g num den) ≤ℤ ((pos patrols *ℤ den) *ℤ g.scale)
+  pub enough : total (share g num den) (at_level g num den) ≤ℤ ((pos (resource_count g) *ℤ den) *ℤ g.scale)
 
 -- d is the greatest common divisor of a number and of the counts of targets 1 to m at a level
 pub record IsCountDivisor (g : Game) (num den : ℤ) (whole m d : ℕ) : Type 0 where

@@ -106,18 +106,13 @@ pub struct Coverage {
 }
 
 /// The coverage that brings each target down to the level, in lowest terms.
-pub fn coverage_of(
-    alloc: Global,
-    game: &Game,
-    patrols: u16,
-    level: &Height,
-) -> Result<Coverage, AllocError>
+pub fn coverage_of(alloc: Global, game: &Game, level: &Height) -> Result<Coverage, AllocError>
     requires fillable { IsFillable game.now }
-    requires reachable { IsReachable game.now patrols level.now.num level.now.den }
+    requires reachable { IsReachable game.now level.now.num level.now.den }
     requires den_high { level.now.den ≤ℤ pos (2 ^ 46) }
     requires num_low { (pos 0 -ℤ pos (2 ^ 77)) ≤ℤ level.now.num }
     requires num_high { level.now.num ≤ℤ pos (2 ^ 77) }
-    ensures { IfOk result (λ coverage. IsCoverage game.now patrols level.now.num level.now.den coverage.counts coverage.total) }
+    ensures { IfOk result (λ coverage. IsCoverage game.now level.now.num level.now.den coverage.counts coverage.total) }
 {
     let whole = product(i128::from(game.scale()), level.den);
     let divisor = divisor_of(game, level, whole.unsigned_abs()) as i128;

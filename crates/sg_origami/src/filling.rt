@@ -47,15 +47,14 @@ fn filling_of(alloc: Global, game: &Game) -> Result<Filling, AllocError>
     requires { IsFillable game.now }
     ensures { IfOk result (IsFilling game.now) }
 {
-    let patrols = game.resources();
     let rates = rates_of(alloc, game)?;
-    let found = level_of(game, rates.as_slice(), patrols);
+    let found = level_of(game, rates.as_slice());
     let level = lowest_terms(&found.level);
     let height = Height {
         num: level.num(),
         den: level.den(),
     };
-    let coverage = coverage_of(alloc, game, patrols, &height)?;
+    let coverage = coverage_of(alloc, game, &height)?;
     Ok(Filling {
         level,
         reason: found.reason,

@@ -12,17 +12,16 @@ use sg_game::Game;
 use sg_model::Level;
 
 /// The level to which the patrols can bring the targets that are above it.
-fn spent_of(game: &Game, rates: &[Rate], patrols: u16) -> Height
+fn spent_of(game: &Game, rates: &[Rate]) -> Height
     requires fillable { IsFillable game.now }
     requires rates { rates.now ≡ map (rate_at game.now) (numbers (length game.now.goals)) }
-    requires few { patrols ≤ 200 }
-    ensures spends { SpendsAll game.now patrols result.num result.den }
+    ensures spends { SpendsAll game.now result.num result.den }
     ensures den_low { pos 1 ≤ℤ result.den }
     ensures den_high { result.den ≤ℤ pos (2 ^ 46) }
     ensures num_low { (pos 0 -ℤ pos (2 ^ 77)) ≤ℤ result.num }
     ensures num_high { result.num ≤ℤ pos (2 ^ 77) }
 {
-    let have = product(i128::from(patrols), i128::from(game.scale()));
+    let have = product(i128::from(game.resources()), i128::from(game.scale()));
     spent_level(rates, have)
 }
 
@@ -60,18 +59,17 @@ pub struct Found {
 }
 
 /// The least level that the attacker's best payoff can have, and why.
-pub fn level_of(game: &Game, rates: &[Rate], patrols: u16) -> Found
+pub fn level_of(game: &Game, rates: &[Rate]) -> Found
     requires fillable { IsFillable game.now }
     requires rates { rates.now ≡ map (rate_at game.now) (numbers (length game.now.goals)) }
-    requires few { patrols ≤ 200 }
-    ensures water { IsWater game.now patrols result.level.num result.level.den result.reason }
+    ensures water { IsWater game.now result.level.num result.level.den result.reason }
     ensures reason { IsReasonOf game.now result.level.num result.level.den result.reason }
-    ensures reachable { IsReachable game.now patrols result.level.num result.level.den }
+    ensures reachable { IsReachable game.now result.level.num result.level.den }
     ensures den_high { result.level.den ≤ℤ pos (2 ^ 46) }
     ensures num_low { (pos 0 -ℤ pos (2 ^ 77)) ≤ℤ result.level.num }
     ensures num_high { result.level.num ≤ℤ pos (2 ^ 77) }
 {
-    let spent = spent_of(game, rates, patrols);
+    let spent = spent_of(game, rates);
     let floor = floor_of(game);
     if product(floor.pay, spent.den) < spent.num {
         Found {

@@ -59,21 +59,15 @@ level_tickets g f h k d s t low high =
     let same : want *ℤ d ≡ want *ℤ weight_total k = ap (λ (z : ℤ). want *ℤ z) s.right.total in
     cancel (here *ℤ ds) (want *ℤ d) f.total (a ∙ (b ∙ (e ∙ (j ∙ m)))) c.ticket_range.at_least ∙ same
 
--- the level of a filling is one for the patrols of the game
-resource_is : (g : Game) (n : ℕ) → g.patrols ≡ Some n → resource_count g ≡ n
-resource_is g n e = rw e refl
-
-pub is_origami : (g : Game) → IsGame g → is_scaled g ≡ true → IsOrigami g (resource_count g)
-is_origami g is s =
-    let o = origami g is s in
-    subst (IsOrigami g) (sym (resource_is g o.0 o.1.identical)) o.1
+pub is_origami : (g : Game) → IsGame g → is_scaled g ≡ true → IsOrigami g
+is_origami g is s = origami g is s
 
 pub right_level : (g : Game) (f : Filling) → IsFilling g f → (k : List Ticket) (d : ℤ) → AreServed g f k d → IsRightLevel g k f.level f.reason
 right_level g f h k d s = record { water = h.water; reduced = h.reduced; reason = h.reason; coverage = level_tickets g f h k d s }
 
 pub served_optimal : (g : Game) → IsGame g → is_scaled g ≡ true → (f : Filling) → IsFilling g f → (k : List Ticket) (d : ℤ) → AreServed g f k d → IsOptimal g k
 served_optimal g is sc f h k d s =
-    tickets-optimal g (resource_count g) (is_origami g is sc) f.level.num f.level.den h.water.positive k s.right.commitment (level_tickets g f h k d s) f.reason h.water
+    tickets-optimal g (is_origami g is sc) f.level.num f.level.den h.water.positive k s.right.commitment (level_tickets g f h k d s) f.reason h.water
 
 -- the counts of a filling are such as the patrols can cover
 pub are_counts : (g : Game) → IsGame g → is_scaled g ≡ true → (f : Filling) → IsFilling g f → AreCounts g f.counts f.total

@@ -43,8 +43,8 @@ use Rattle.sg_solve.proofs.Reports.{is_origami}
 same_level : (g : Game) → IsGame g → is_scaled g ≡ true → (k l : List Ticket) (a b : Fraction) (why reason : Level) → IsCommitment g k → IsCommitment g l → IsRightLevel g k a why → IsRightLevel g l b reason → a ≡ b
 same_level g is sc k l a b why reason ck cl p q =
     let o = is_origami g is sc in
-    let low : (b.num *ℤ a.den) ≤ℤ (a.num *ℤ b.den) = no_level_above g (resource_count g) o a.num a.den p.water.positive k ck p.coverage b.num b.den reason q.water in
-    let high : (a.num *ℤ b.den) ≤ℤ (b.num *ℤ a.den) = no_level_above g (resource_count g) o b.num b.den q.water.positive l cl q.coverage a.num a.den why p.water in
+    let low : (b.num *ℤ a.den) ≤ℤ (a.num *ℤ b.den) = no_level_above g o a.num a.den p.water.positive k ck p.coverage b.num b.den reason q.water in
+    let high : (a.num *ℤ b.den) ≤ℤ (b.num *ℤ a.den) = no_level_above g o b.num b.den q.water.positive l cl q.coverage a.num a.den why p.water in
     same_by_cross a b p.reduced q.reduced (omega (arith, ints, low, high))
 
 equal_from : (i j : ℕ) → (i < j → ⊥) → (j < i → ⊥) → i ≡ j
@@ -123,10 +123,10 @@ record AreOne (c d : List ℤ) (m n : ℤ) : Type 0 where
   totals : m ≡ n
   counts : c ≡ d
 
-same_coverage : (g : Game) (patrols : ℕ) (num den : ℤ) → pos 1 ≤ℤ (den *ℤ g.scale) → (c d : List ℤ) (m n : ℤ) → IsCoverage g patrols num den c m → IsCoverage g patrols num den d n → AreOne c d m n
-same_coverage g patrols num den some c d (negsuc a) n p q = absurd (let low = p.ticket_range.at_least in omega (arith, ints, low))
-same_coverage g patrols num den some c d (pos a) (negsuc b) p q = absurd (let low = q.ticket_range.at_least in omega (arith, ints, low))
-same_coverage g patrols num den some c d (pos a) (pos b) p q =
+same_coverage : (g : Game) (num den : ℤ) → pos 1 ≤ℤ (den *ℤ g.scale) → (c d : List ℤ) (m n : ℤ) → IsCoverage g num den c m → IsCoverage g num den d n → AreOne c d m n
+same_coverage g num den some c d (negsuc a) n p q = absurd (let low = p.ticket_range.at_least in omega (arith, ints, low))
+same_coverage g num den some c d (pos a) (negsuc b) p q = absurd (let low = q.ticket_range.at_least in omega (arith, ints, low))
+same_coverage g num den some c d (pos a) (pos b) p q =
     let ds : ℤ = den *ℤ g.scale in
     let each : (t : ℕ) → 1 ≤ t → t ≤ length c → pos b *ℤ nth c t (pos 0) ≡ pos a *ℤ nth d t (pos 0) = λ t low high.
     let x : ℤ = nth c t (pos 0) in
@@ -181,7 +181,7 @@ right_report_is_one g is sc r s p q =
     let low = p.right_level.water.positive in
     let scale = (is_origami g is sc).scaled in
     let laid = subst (AreLaid g s.tickets.tickets) (sym level) q.laid in
-    let one = same_coverage g (resource_count g) p.level.num p.level.den (product-positive p.level.den g.scale low scale) p.laid.counts laid.counts p.laid.moments laid.moments p.laid.coverage laid.coverage in
+    let one = same_coverage g p.level.num p.level.den (product-positive p.level.den g.scale low scale) p.laid.counts laid.counts p.laid.moments laid.moments p.laid.coverage laid.coverage in
     let parts = moment_tickets p.laid.counts (resource_count g) p.laid.moments in
     let same_parts : moment_tickets laid.counts (resource_count g) laid.moments ≡ parts = λ i. moment_tickets (sym one.counts i) (resource_count g) (sym one.totals i) in
     let claim = same_claim g r.tickets s.tickets p.tickets q.tickets parts p.laid.plays (subst (λ (k : List Ticket). AreMultiple k s.tickets.tickets) same_parts laid.plays) in

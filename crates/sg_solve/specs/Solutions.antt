@@ -33,7 +33,7 @@ pub record AreRightTickets (g : Game) (c : Claimed) : Type 0 where
 -- one water-level fact, which holds, and which the tickets reach
 pub record IsRightLevel (g : Game) (k : List Ticket) (level : Fraction) (why : Level) : Type 0 where
   -- the attacker's best payoff can't fall below the level, for this reason
-  pub water : IsWater g (resource_count g) level.num level.den why
+  pub water : IsWater g level.num level.den why
   -- the level is in lowest terms
   pub reduced : IsReduced level
   -- the reason is the first target that pays the level where it is covered for certain, else the patrols
@@ -46,7 +46,7 @@ pub record AreLaid (g : Game) (k : List Ticket) (level : Fraction) : Type 0 wher
   pub counts : List ℤ
   pub moments : ℤ
   -- the counts are the coverage that reaches the level, in lowest terms
-  pub coverage : IsCoverage g (resource_count g) level.num level.den counts moments
+  pub coverage : IsCoverage g level.num level.den counts moments
   -- each play has as many tickets as it stands moments, in lowest terms
   pub plays : AreMultiple (moment_tickets counts (resource_count g) moments) k
 

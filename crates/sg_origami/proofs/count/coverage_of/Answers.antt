@@ -59,4 +59,4 @@ returns c =
     let total : to_z w128 (of_z w128 c.quotient-total.result) ≡ int_div (g.scale *ℤ den) (pos d) =
     let same : to_z w128 (of_z w128 c.quotient-total.result) ≡ c.quotient-total.result = omega (arith, ints, c.quotient-total.type_inv) in
     same ∙ (c.quotient-total.ensures ∙ (ap (λ (z : ℤ). int_div z (to_z w128 d)) whole_is ∙ ap (λ (z : ℤ). int_div (g.scale *ℤ den) z) by)) in
-    coverage_is g c.args.patrols num den r.fillable r.reachable r.den_high d i c.in_ok-counts.counts (to_z w128 (of_z w128 c.quotient-total.result)) counts total
+    coverage_is g num den r.fillable r.reachable r.den_high d i c.in_ok-counts.counts (to_z w128 (of_z w128 c.quotient-total.result)) counts total

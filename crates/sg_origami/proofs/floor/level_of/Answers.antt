@@ -26,7 +26,7 @@ returns-then-product-spent-clause-reachable c =
     let b : FitsSigned w128 c.spent_of-spent.result.den = omega (arith, ints, s.den_low, s.den_high) in
     let n : FitsSigned w128 c.spent_of-spent.result.num = omega (arith, ints, s.num_low, s.num_high) in
     let e : c.product.result ≡ c.floor_of-floor.result.pay *ℤ c.spent_of-spent.result.den = simp to_z-of_z at c.product.ensures in
-    reachable_spent c.args.game.now c.args.patrols c.spent_of-spent.result.num c.spent_of-spent.result.den s.spends s.den_low c.floor_of-floor.result.target c.floor_of-floor.result.pay f.floor (omega (arith, ints, c.if-product-spent.true, e, n, c.product.type_inv))
+    reachable_spent c.args.game.now c.spent_of-spent.result.num c.spent_of-spent.result.den s.spends s.den_low c.floor_of-floor.result.target c.floor_of-floor.result.pay f.floor (omega (arith, ints, c.if-product-spent.true, e, n, c.product.type_inv))
 
 pub returns-else-product-spent-clause-water : goal.returns-else-product-spent-clause-water
 returns-else-product-spent-clause-water c =
@@ -47,7 +47,7 @@ returns-else-product-spent-clause-reachable c =
     let b : FitsSigned w128 c.spent_of-spent.result.den = omega (arith, ints, s.den_low, s.den_high) in
     let n : FitsSigned w128 c.spent_of-spent.result.num = omega (arith, ints, s.num_low, s.num_high) in
     let e : c.product.result ≡ c.floor_of-floor.result.pay *ℤ c.spent_of-spent.result.den = simp to_z-of_z at c.product.ensures in
-    simp to_z-of_z (reachable_floor c.args.game.now c.args.patrols c.requires.fillable c.spent_of-spent.result.num c.spent_of-spent.result.den s.spends s.den_low c.floor_of-floor.result.target c.floor_of-floor.result.pay f.floor (omega (arith, ints, c.if-product-spent.false, e, n, c.product.type_inv)))
+    simp to_z-of_z (reachable_floor c.args.game.now c.requires.fillable c.spent_of-spent.result.num c.spent_of-spent.result.den s.spends s.den_low c.floor_of-floor.result.target c.floor_of-floor.result.pay f.floor (omega (arith, ints, c.if-product-spent.false, e, n, c.product.type_inv)))
 
 pub returns-then-product-spent-clause-reason : goal.returns-then-product-spent-clause-reason
 returns-then-product-spent-clause-reason c =
