@@ -1,0 +1,9 @@
+pub mod Below
+pub mod Leasts
+pub mod Shown
+pub mod Tried
+pub mod Leaves
+pub mod Rowwise
+pub mod Gaps
+pub mod Causes
+pub mod Turned
