@@ -8,3 +8,4 @@ pub mod Pairs
 pub mod SmallNumbers
 pub mod Stopping
 pub mod Tellings
+pub mod WorkedRuns

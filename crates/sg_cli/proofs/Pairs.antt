@@ -16,7 +16,7 @@ use Rattle.sg_bounds.specs.Trees.{node_of}
 use Rattle.sg_bounds.proofs.Nodes.{node_of-Closed}
 use Rattle.sg_bounds.proofs.Verdicts.{refusal_is_one}
 use Rattle.sg_check.specs.Covered.{has_cover, node_has_cover}
-use Rattle.sg_shelf.specs.Files.{Files, bytes_under}
+use Rattle.sg_shelf.specs.Files.{Files, any_bytes, bytes_under}
 use Rattle.sg_words.specs.Commands.{Asked, check, show}
 use Rattle.sg_cli.specs.Scenes.{game_limit, report_limit}
 use Rattle.sg_cli.specs.Solutions.{IsAnswer}
@@ -63,7 +63,7 @@ shown g r status a (inr (inl gap)) = gap.1
 shown g r status a (inr (inr wrong)) = absurd ((refusal_is_one g r).0 a.is_right.accepted wrong.0 wrong.1 wrong.2)
 
 -- what is decided by both files, once the game's is read
-by_both : (files : Files) (name report : List ℕ) (status : ℕ) (text : List ℕ) (s : Solves (Some files) name status text) → bytes_under files report ≡ Some text
+by_both : (files : Files) (name report : List ℕ) (status : ℕ) (text : List ℕ) (s : Solves any_bytes (Some files) name status text) → bytes_under files report ≡ Some text
     → (Next : Game → Report → ℕ → Type 0) (due : ℕ) → ByGameFile (ByPair Next (bytes_under files report)) (bytes_under files name) due → Next s.game s.report due
 by_both files name report status text s stands Next due h =
     let g = s.game in

@@ -5,7 +5,7 @@ use Rattle.sg_tree.specs.declared.report.Report.{Report}
 use Rattle.sg_shelf.specs.Faults.{HasRisen}
 use Rattle.sg_shelf.specs.Logs.{Trail}
 use Rattle.sg_shelf.specs.declared.log.Outcome.TheVariants.{Given, TooLong, Failed}
-use Rattle.sg_shelf.specs.Files.{Files}
+use Rattle.sg_shelf.specs.Files.{Files, HandsOver}
 use Rattle.sg_words.specs.Commands.{Asked, solve, check, show}
 use Rattle.sg_cli.specs.ShelfReads.{ReadsBoth, ReadsGameFile, game_read, report_read}
 use Rattle.sg_cli.specs.Scenes.{SaysGame, SaysReport, game_name, scene}
@@ -15,9 +15,9 @@ use Rattle.sg_cli.proofs.Logged.{all_read, and_then, front_after, front_named}
 use Rattle.sg_cli.specs.declared.refusal.Refusal.{Refusal}
 use Rattle.sg_cli.specs.declared.refusal.Refusal.TheVariants.{Words, GameNotRead, GameTooLong, GameRefused, NotYet, ReportNotRead, ReportTooLong, ReportRefused, ReportWrong, NotWritten, Memory}
 
-module _ (files : Option Files) (before after : Trail) where
+module _ (hands : HandsOver) (files : Option Files) (before after : Trail) where
   -- a file that gives no game
-  pub game_fails : (asked : Asked) (e : Refusal) → GameFileFails files (game_name asked) before after e → IsCauseOf files before after asked e
+  pub game_fails : (asked : Asked) (e : Refusal) → GameFileFails hands files (game_name asked) before after e → IsCauseOf hands files before after asked e
   game_fails asked Words h = absurd h
   game_fails asked GameNotRead h = h
   game_fails asked GameTooLong h = h
@@ -31,7 +31,7 @@ module _ (files : Option Files) (before after : Trail) where
   game_fails asked Memory h = front_named asked before after h
 
   -- a game that is not solved
-  pub solving_fails : (name : List ℕ) (g : Game) (e : Refusal) → ReadsGameFile name Given before after → SaysGame files name (Ok g) → SolvingFails g e → IsCauseOf files before after (solve name) e
+  pub solving_fails : (name : List ℕ) (g : Game) (e : Refusal) → ReadsGameFile name Given before after → SaysGame hands files name (Ok g) → SolvingFails g e → IsCauseOf hands files before after (solve name) e
   solving_fails name g Words one s h = absurd h
   solving_fails name g GameNotRead one s h = absurd h
   solving_fails name g GameTooLong one s h = absurd h
@@ -45,14 +45,14 @@ module _ (files : Option Files) (before after : Trail) where
   solving_fails name g Memory one s h = all_read (game_read name Given ∷ []) before after one
 
   -- a game on which reports are not checked
-  pub unchecked_fails : (name report : List ℕ) (g : Game) → ReadsGameFile name Given before after → SaysGame files name (Ok g) → ¬ (length g.types ≡ 1)
-      → IsCauseOf files before after (check name report) NotYet
+  pub unchecked_fails : (name report : List ℕ) (g : Game) → ReadsGameFile name Given before after → SaysGame hands files name (Ok g) → ¬ (length g.types ≡ 1)
+      → IsCauseOf hands files before after (check name report) NotYet
   unchecked_fails name report g one s h = inl (one, record { game = g; says = s; not_taken = h })
 
   -- a file that gives no report, read after the game was
-  pub report_fails : (name report : List ℕ) (g : Game) (between : Trail) (e : Refusal) → HasChecked files name g → ReadsGameFile name Given before between → before.faults ≤ between.faults
-      → ReportFileFails files report between after e
-      → IsCauseOf files before after (check name report) e
+  pub report_fails : (name report : List ℕ) (g : Game) (between : Trail) (e : Refusal) → HasChecked hands files name g → ReadsGameFile name Given before between → before.faults ≤ between.faults
+      → ReportFileFails hands files report between after e
+      → IsCauseOf hands files before after (check name report) e
   report_fails name report g between Words c one le h = absurd h
   report_fails name report g between GameNotRead c one le h = absurd h
   report_fails name report g between GameTooLong c one le h = absurd h
@@ -70,8 +70,8 @@ module _ (files : Option Files) (before after : Trail) where
   report_fails name report g between Memory c one le h = front_after (game_read name Given) (report_read report Given ∷ []) before between after one h
 
   -- a report that is not accepted
-  pub judging_fails : (name report : List ℕ) (g : Game) (r : Report) (e : Refusal) → HasChecked files name g → ReadsBoth name report Given before after → SaysReport files report (Ok r) → JudgingFails g r e
-      → IsCauseOf files before after (check name report) e
+  pub judging_fails : (name report : List ℕ) (g : Game) (r : Report) (e : Refusal) → HasChecked hands files name g → ReadsBoth name report Given before after → SaysReport hands files report (Ok r) → JudgingFails g r e
+      → IsCauseOf hands files before after (check name report) e
   judging_fails name report g r Words c two s h = absurd h
   judging_fails name report g r GameNotRead c two s h = absurd h
   judging_fails name report g r GameTooLong c two s h = absurd h
@@ -84,13 +84,13 @@ module _ (files : Option Files) (before after : Trail) where
   judging_fails name report g r (ReportWrong line reason) c two s h =
       record { game = g; takes = record { says = c.says; taken = c.is_checked }; report = report; names = refl; holds = (two, record { read = r; says = s; holds = h }) }
   judging_fails name report g r NotWritten c two s h = absurd h
-  judging_fails name report g r Memory c two s h = all_read (game_read name Given ∷ report_read report Given ∷ []) before after two
+  judging_fails name report g r Memory c two s h = absurd h
 
   -- what a report is shown for fails as what it is checked for
-  shown_of : (name report : List ℕ) (P : Game → List ℕ → Type 0) → OfReport files (check name report) P → OfReport files (show name report) P
+  shown_of : (name report : List ℕ) (P : Game → List ℕ → Type 0) → OfReport hands files (check name report) P → OfReport hands files (show name report) P
   shown_of name report P h = record { game = h.game; takes = record { says = h.takes.says; taken = h.takes.taken }; report = h.report; names = h.names; holds = h.holds }
 
-  pub shown_fails : (name report : List ℕ) (e : Refusal) → IsCauseOf files before after (check name report) e → IsCauseOf files before after (show name report) e
+  pub shown_fails : (name report : List ℕ) (e : Refusal) → IsCauseOf hands files before after (check name report) e → IsCauseOf hands files before after (show name report) e
   shown_fails name report Words h = absurd h
   shown_fails name report GameNotRead h = h
   shown_fails name report GameTooLong h = h
@@ -105,8 +105,8 @@ module _ (files : Option Files) (before after : Trail) where
   shown_fails name report Memory h = h
 
   -- a command that fails before it writes
-  pub stops : (asked : Asked) (faults_before faults_after : ℕ) (out : Option (List ℕ)) (e : Refusal) → IsCauseOf files before after asked e
-      → ComesOf (scene (Some asked) files before after faults_before faults_after out out) e
+  pub stops : (asked : Asked) (faults_before faults_after : ℕ) (out : Option (List ℕ)) (e : Refusal) → IsCauseOf hands files before after asked e
+      → ComesOf (scene (Some asked) hands files before after faults_before faults_after out out) e
   stops asked fb fa out Words h = absurd h
   stops asked fb fa out GameNotRead h = record { asked = asked; asks = refl; cause = h; kept = refl }
   stops asked fb fa out GameTooLong h = record { asked = asked; asks = refl; cause = h; kept = refl }
@@ -120,5 +120,5 @@ module _ (files : Option Files) (before after : Trail) where
   stops asked fb fa out Memory h = (h, refl)
 
   -- no such refusal is the output's
-  pub not_by_writing : (asked : Asked) (e : Refusal) → IsCauseOf files before after asked e → e ≢ NotWritten
-  not_by_writing asked e h is = subst (IsCauseOf files before after asked) is h
+  pub not_by_writing : (asked : Asked) (e : Refusal) → IsCauseOf hands files before after asked e → e ≢ NotWritten
+  not_by_writing asked e h is = subst (IsCauseOf hands files before after asked) is h

@@ -6,7 +6,7 @@ use Rattle.sg_bounds.specs.Checking.{IsRefused}
 use Rattle.sg_shelf.specs.Faults.{HasRisen, HasNotRisen}
 use Rattle.sg_shelf.specs.Logs.{Trail}
 use Rattle.sg_shelf.specs.declared.log.Outcome.TheVariants.{Given, TooLong, Failed}
-use Rattle.sg_shelf.specs.Files.{Files, IsMissing, IsLong}
+use Rattle.sg_shelf.specs.Files.{Files, HandsOver, IsMissing, IsLong}
 use Rattle.sg_shelf.specs.Taken.{TakesFront}
 use Rattle.sg_words.specs.Commands.{Asked, solve, check, show}
 use Rattle.sg_cli.specs.ShelfReads.{ReadsEach, ReadsFront, ReadsGameFile, ReadsBoth, reads_asked, reads_of}
@@ -37,28 +37,28 @@ IsReportLong None name = Unit {0}
 IsReportLong (Some files) name = IsLong (Some files) name report_limit
 
 -- the command's game was read, and the command takes it
-pub record TakesGame (files : Option Files) (asked : Asked) (g : Game) : Type 0 where
-  pub says : SaysGame files (game_name asked) (Ok g)
+pub record TakesGame (hands : HandsOver) (files : Option Files) (asked : Asked) (g : Game) : Type 0 where
+  pub says : SaysGame hands files (game_name asked) (Ok g)
   pub taken : IsServed asked g
 
 -- the command reads a report too, after a game that it takes, and this holds of the report's file
-pub record OfReport (files : Option Files) (asked : Asked) (P : Game → List ℕ → Type 0) : Type 0 where
+pub record OfReport (hands : HandsOver) (files : Option Files) (asked : Asked) (P : Game → List ℕ → Type 0) : Type 0 where
   pub game : Game
-  pub takes : TakesGame files asked game
+  pub takes : TakesGame hands files asked game
   pub report : List ℕ
   pub names : report_name asked ≡ Some report
   pub holds : P game report
 
 -- a game was read that the command doesn't take yet
-pub record IsGameNotYet (files : Option Files) (asked : Asked) : Type 0 where
+pub record IsGameNotYet (hands : HandsOver) (files : Option Files) (asked : Asked) : Type 0 where
   pub game : Game
-  pub says : SaysGame files (game_name asked) (Ok game)
+  pub says : SaysGame hands files (game_name asked) (Ok game)
   pub not_taken : ¬ (IsServed asked game)
 
 -- a report was read, and this holds of it
-pub record ReadsReport (files : Option Files) (P : Report → Type 0) (name : List ℕ) : Type 0 where
+pub record ReadsReport (hands : HandsOver) (files : Option Files) (P : Report → Type 0) (name : List ℕ) : Type 0 where
   pub read : Report
-  pub says : SaysReport files name (Ok read)
+  pub says : SaysReport hands files name (Ok read)
   pub holds : P read
 
 -- a report that is checked, and refused there
@@ -68,29 +68,29 @@ pub record IsWrong (g : Game) (line reason : ℕ) (r : Report) : Type 0 where
 
 -- what a refusal comes of before anything is written: of the game's file, which alone was read, or of the report's, which
 -- was read after it; want of memory may come at any time
-abbrev pub IsCauseOf : Option Files → Trail → Trail → Asked → Refusal → Type 0
-IsCauseOf files before after asked GameNotRead = ReadsGameFile (game_name asked) Failed before after × IsNotRead files (game_name asked) before after
-IsCauseOf files before after asked GameTooLong = ReadsGameFile (game_name asked) TooLong before after × IsGameLong files (game_name asked) before after
-IsCauseOf files before after asked (GameRefused fault) = ReadsGameFile (game_name asked) Given before after × SaysGame files (game_name asked) (Err fault)
-IsCauseOf files before after asked NotYet =
-    (ReadsGameFile (game_name asked) Given before after × IsGameNotYet files asked)
-    ⊎ OfReport files asked (λ g report. ReadsBoth (game_name asked) report Given before after × ReadsReport files (λ r. ¬ (IsCheckable r)) report)
-IsCauseOf files before after asked ReportNotRead =
-    OfReport files asked (λ g report. ReadsBoth (game_name asked) report Failed before after × IsNotRead files report before after)
-IsCauseOf files before after asked ReportTooLong = OfReport files asked (λ g report. ReadsBoth (game_name asked) report TooLong before after × IsReportLong files report)
-IsCauseOf files before after asked (ReportRefused fault) =
-    OfReport files asked (λ g report. ReadsBoth (game_name asked) report Given before after × SaysReport files report (Err fault))
-IsCauseOf files before after asked (ReportWrong line reason) =
-    OfReport files asked (λ g report. ReadsBoth (game_name asked) report Given before after × ReadsReport files (IsWrong g line reason) report)
-IsCauseOf files before after asked Memory = ReadsFront (reads_of asked) before after
-IsCauseOf files before after asked Words = ⊥
-IsCauseOf files before after asked NotWritten = ⊥
+abbrev pub IsCauseOf : HandsOver → Option Files → Trail → Trail → Asked → Refusal → Type 0
+IsCauseOf hands files before after asked GameNotRead = ReadsGameFile (game_name asked) Failed before after × IsNotRead files (game_name asked) before after
+IsCauseOf hands files before after asked GameTooLong = ReadsGameFile (game_name asked) TooLong before after × IsGameLong files (game_name asked) before after
+IsCauseOf hands files before after asked (GameRefused fault) = ReadsGameFile (game_name asked) Given before after × SaysGame hands files (game_name asked) (Err fault)
+IsCauseOf hands files before after asked NotYet =
+    (ReadsGameFile (game_name asked) Given before after × IsGameNotYet hands files asked)
+    ⊎ OfReport hands files asked (λ g report. ReadsBoth (game_name asked) report Given before after × ReadsReport hands files (λ r. ¬ (IsCheckable r)) report)
+IsCauseOf hands files before after asked ReportNotRead =
+    OfReport hands files asked (λ g report. ReadsBoth (game_name asked) report Failed before after × IsNotRead files report before after)
+IsCauseOf hands files before after asked ReportTooLong = OfReport hands files asked (λ g report. ReadsBoth (game_name asked) report TooLong before after × IsReportLong files report)
+IsCauseOf hands files before after asked (ReportRefused fault) =
+    OfReport hands files asked (λ g report. ReadsBoth (game_name asked) report Given before after × SaysReport hands files report (Err fault))
+IsCauseOf hands files before after asked (ReportWrong line reason) =
+    OfReport hands files asked (λ g report. ReadsBoth (game_name asked) report Given before after × ReadsReport hands files (IsWrong g line reason) report)
+IsCauseOf hands files before after asked Memory = ReadsFront (reads_of asked) before after
+IsCauseOf hands files before after asked Words = ⊥
+IsCauseOf hands files before after asked NotWritten = ⊥
 
 -- the words ask for a command, which fails so, and the output is as it was
 pub record Stops (s : Scene) (refusal : Refusal) : Type 0 where
   pub asked : Asked
   pub asks : s.asked ≡ Some asked
-  pub cause : IsCauseOf s.files s.shelf_before s.shelf_after asked refusal
+  pub cause : IsCauseOf s.hands s.files s.shelf_before s.shelf_after asked refusal
   pub kept : s.out_after ≡ s.out_before
 
 -- the command's files were read, the count of the output's faults rose, and the output took a front of the text that the
@@ -102,7 +102,7 @@ pub record IsNotWritten (s : Scene) : Type 0 where
   pub reads : ReadsEach asked s.shelf_before s.shelf_after
   pub status : ℕ
   pub text : List ℕ
-  pub does : Does s.files asked status text
+  pub does : Does s.hands s.files asked status text
   pub takes : TakesFront s.out_before s.out_after text
 
 -- what a refusal comes of; words that give no command leave the shelf's log and count as they were

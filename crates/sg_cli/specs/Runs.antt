@@ -19,7 +19,7 @@ pub record IsDone (s : Scene) (status : ℕ) : Type 0 where
   pub asks : s.asked ≡ Some asked
   pub reads : ReadsEach asked s.shelf_before s.shelf_after
   pub text : List ℕ
-  pub does : Does s.files asked status text
+  pub does : Does s.hands s.files asked status text
   pub takes : Takes s.out_before s.out_after text
 
 -- what a run says of a refusal on the other output: exactly its line where no fault is counted there, and never more

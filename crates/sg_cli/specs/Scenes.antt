@@ -8,13 +8,14 @@ use Rattle.sg_tree.specs.declared.report.Report.{Report}
 use Rattle.sg_cert.specs.declared.fault.ReportFault.{ReportFault}
 use Rattle.sg_cert.specs.Reading.{report_of}
 use Rattle.sg_shelf.specs.Logs.{Trail}
-use Rattle.sg_shelf.specs.Files.{Files, Reads}
+use Rattle.sg_shelf.specs.Files.{Files, HandsOver, Reads}
 use Rattle.sg_words.specs.Commands.{Asked, solve, check, show}
 
--- what the words ask for, the files of the shelf where they are told, its log and faults before and after, the output's count
+-- what the words ask for, which bytes the shelf's reads hand over, its files where they are told, its log and faults before and after, the output's count
 -- of faults before and after, and the bytes that the output took before and after, where they are told
-pub record Scene : Type 0 where
+pub record Scene : Type 1 where
   pub asked : Option Asked
+  pub hands : HandsOver
   pub files : Option Files
   pub shelf_before : Trail
   pub shelf_after : Trail
@@ -24,9 +25,10 @@ pub record Scene : Type 0 where
   pub out_after : Option (List ℕ)
 
 -- these, in one record
-abbrev pub scene : Option Asked → Option Files → (shelf_before shelf_after : Trail) → (out_faults_before out_faults_after : ℕ) → (out_before out_after : Option (List ℕ)) → Scene
-scene asked files shelf_before shelf_after out_faults_before out_faults_after out_before out_after = record {
+abbrev pub scene : Option Asked → HandsOver → Option Files → (shelf_before shelf_after : Trail) → (out_faults_before out_faults_after : ℕ) → (out_before out_after : Option (List ℕ)) → Scene
+scene asked hands files shelf_before shelf_after out_faults_before out_faults_after out_before out_after = record {
   asked = asked;
+  hands = hands;
   files = files;
   shelf_before = shelf_before;
   shelf_after = shelf_after;
@@ -55,14 +57,16 @@ game_limit = 4194304
 abbrev pub report_limit : ℕ
 report_limit = 536870912
 
--- the whole file of this name, within the limit, was read, and says this of a game
-pub record SaysGame (files : Option Files) (name : List ℕ) (says : Result Game GameFault) : Type 0 where
+-- the whole file of this name, within the limit, was read, and the bytes that this handed over say this of a game
+pub record SaysGame (hands : HandsOver) (files : Option Files) (name : List ℕ) (says : Result Game GameFault) : Type 0 where
   pub bytes : List ℕ
+  pub handed : hands name game_limit bytes
   pub reads : Reads files name game_limit bytes
   pub game : game_of_bytes bytes ≡ says
 
 -- and this of a report
-pub record SaysReport (files : Option Files) (name : List ℕ) (says : Result Report ReportFault) : Type 0 where
+pub record SaysReport (hands : HandsOver) (files : Option Files) (name : List ℕ) (says : Result Report ReportFault) : Type 0 where
   pub bytes : List ℕ
+  pub handed : hands name report_limit bytes
   pub reads : Reads files name report_limit bytes
   pub report : report_of bytes ≡ says

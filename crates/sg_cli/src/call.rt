@@ -29,11 +29,11 @@ fn obey<S: Shelf, O: Sink>(
     ensures faults { S.faults shelf.old ≤ S.faults shelf.new }
     ensures out_faults { O.faults out.old ≤ O.faults out.new }
     ensures kept { IfErr result (λ e. e ≢ Refusal.NotWritten → out.new ≡ out.old) }
-    ensures ok { IfOk result (IsDone (scene (command_given (texts words.now)) (S.files shelf.old)
+    ensures ok { IfOk result (IsDone (scene (command_given (texts words.now)) S.hands_over (S.files shelf.old)
         (trail (S.log shelf.old) (S.faults shelf.old))
         (trail (S.log shelf.new) (S.faults shelf.new))
         (O.faults out.old) (O.faults out.new) (O.taken out.old) (O.taken out.new))) }
-    ensures err { IfErr result (ComesOf (scene (command_given (texts words.now)) (S.files shelf.old)
+    ensures err { IfErr result (ComesOf (scene (command_given (texts words.now)) S.hands_over (S.files shelf.old)
         (trail (S.log shelf.old) (S.faults shelf.old))
         (trail (S.log shelf.new) (S.faults shelf.new))
         (O.faults out.old) (O.faults out.new) (O.taken out.old) (O.taken out.new))) }
@@ -60,7 +60,7 @@ pub fn run<S: Shelf, O: Sink, E: Sink>(
 ) -> u8
     // The command was done, with the status and the text that are due, and nothing is told; or one refusal decides the
     // status, its cause and the line.
-    ensures answer { Answers (scene (command_given (texts words.now.items)) (S.files shelf.old)
+    ensures answer { Answers (scene (command_given (texts words.now.items)) S.hands_over (S.files shelf.old)
         (trail (S.log shelf.old) (S.faults shelf.old))
         (trail (S.log shelf.new) (S.faults shelf.new))
         (O.faults out.old) (O.faults out.new) (O.taken out.old) (O.taken out.new))
@@ -68,7 +68,7 @@ pub fn run<S: Shelf, O: Sink, E: Sink>(
 
     // Where the files are told and no fault is counted, the status is the one that they decide: but for want of memory it
     // never gives up.
-    ensures complete { IsComplete (scene (command_given (texts words.now.items)) (S.files shelf.old)
+    ensures complete { IsComplete (scene (command_given (texts words.now.items)) S.hands_over (S.files shelf.old)
         (trail (S.log shelf.old) (S.faults shelf.old))
         (trail (S.log shelf.new) (S.faults shelf.new))
         (O.faults out.old) (O.faults out.new) (O.taken out.old) (O.taken out.new)) result }

@@ -76,11 +76,11 @@ pub(crate) fn check_named<S: Shelf, O: Sink>(
     ensures faults { S.faults shelf.old ≤ S.faults shelf.new }
     ensures out_faults { O.faults out.old ≤ O.faults out.new }
     ensures kept { IfErr result (λ e. e ≢ Refusal.NotWritten → out.new ≡ out.old) }
-    ensures ok { IfOk result (IsDone (scene (Some (commands.check name.now report.now)) (S.files shelf.old)
+    ensures ok { IfOk result (IsDone (scene (Some (commands.check name.now report.now)) S.hands_over (S.files shelf.old)
         (trail (S.log shelf.old) (S.faults shelf.old))
         (trail (S.log shelf.new) (S.faults shelf.new))
         (O.faults out.old) (O.faults out.new) (O.taken out.old) (O.taken out.new))) }
-    ensures err { IfErr result (ComesOf (scene (Some (commands.check name.now report.now)) (S.files shelf.old)
+    ensures err { IfErr result (ComesOf (scene (Some (commands.check name.now report.now)) S.hands_over (S.files shelf.old)
         (trail (S.log shelf.old) (S.faults shelf.old))
         (trail (S.log shelf.new) (S.faults shelf.new))
         (O.faults out.old) (O.faults out.new) (O.taken out.old) (O.taken out.new))) }

@@ -29,11 +29,11 @@ pub(crate) struct Accepted {
 fn checked_game<S: Shelf>(alloc: Global, shelf: &mut S, name: &str) -> Result<Game, Refusal>
     ensures files { S.files shelf.new ≡ S.files shelf.old }
     ensures faults { S.faults shelf.old ≤ S.faults shelf.new }
-    ensures ok { IfOk result (HasChecked (S.files shelf.old) name.now) }
+    ensures ok { IfOk result (HasChecked S.hands_over (S.files shelf.old) name.now) }
     ensures one { OnOk result (ReadsGameFile name.now Given
         (trail (S.log shelf.old) (S.faults shelf.old))
         (trail (S.log shelf.new) (S.faults shelf.new))) }
-    ensures err { IfErr result (λ e. (report : List ℕ) → IsCauseOf (S.files shelf.old)
+    ensures err { IfErr result (λ e. (report : List ℕ) → IsCauseOf S.hands_over (S.files shelf.old)
         (trail (S.log shelf.old) (S.faults shelf.old))
         (trail (S.log shelf.new) (S.faults shelf.new)) (commands.check name.now report) e) }
 {
@@ -58,7 +58,7 @@ fn judge(alloc: Global, game: &Game, report: &Report) -> Result<(), Refusal>
         Ok(Verdict::YesOptimal(_)) => Ok(()),
         Ok(Verdict::YesGap(_, _)) => Ok(()),
         Ok(Verdict::No { line, reason }) => Err(Refusal::ReportWrong { line, reason }),
-        Err(_) => Err(Refusal::Memory),
+        Err(_) => unreachable!(),
     }
 }
 
@@ -71,11 +71,11 @@ pub(crate) fn accepted_named<S: Shelf>(
 ) -> Result<Accepted, Refusal>
     ensures files { S.files shelf.new ≡ S.files shelf.old }
     ensures faults { S.faults shelf.old ≤ S.faults shelf.new }
-    ensures ok { IfOk result (λ pair. Accepts (S.files shelf.old) name.now report.now pair.game pair.report) }
+    ensures ok { IfOk result (λ pair. Accepts S.hands_over (S.files shelf.old) name.now report.now pair.game pair.report) }
     ensures two { OnOk result (ReadsBoth name.now report.now Given
         (trail (S.log shelf.old) (S.faults shelf.old))
         (trail (S.log shelf.new) (S.faults shelf.new))) }
-    ensures err { IfErr result (IsCauseOf (S.files shelf.old)
+    ensures err { IfErr result (IsCauseOf S.hands_over (S.files shelf.old)
         (trail (S.log shelf.old) (S.faults shelf.old))
         (trail (S.log shelf.new) (S.faults shelf.new)) (commands.check name.now report.now)) }
 {

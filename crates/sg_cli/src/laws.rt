@@ -1,6 +1,7 @@
 //! Laws about the commands together, each as the contract of a function that does nothing.
 
 ghost use Rattle.sg_cli.specs.Laws.{OneStatusIsDecided, RightReportsAreShort, SolvedIsChecked};
+ghost use Rattle.sg_cli.specs.WorkedRuns.{WorkedChecks, WorkedLimits, WorkedRefusals};
 
 /// Told files decide one status for each command.
 pub fn one_status_is_decided()
@@ -15,4 +16,19 @@ pub fn right_reports_are_short()
 /// What `solve` writes for a game is accepted by `check` and shown by `show`.
 pub fn solved_is_checked()
     ensures { SolvedIsChecked }
+{}
+
+/// The status and the line of each refusal.
+pub fn refusals_are_worked()
+    ensures { WorkedRefusals }
+{}
+
+/// Files as long as they may be, and one byte longer.
+pub fn limits_are_worked()
+    ensures { WorkedLimits }
+{}
+
+/// What `check` and `show` answer for three reports on a small game.
+pub fn checks_are_worked()
+    ensures { WorkedChecks }
 {}

@@ -9,6 +9,8 @@ mod call;
 mod checking;
 mod judging;
 mod laws;
+mod process;
+mod program;
 mod ranges;
 mod reading;
 mod refusal;
@@ -17,5 +19,10 @@ mod solving;
 mod telling;
 
 pub use call::run;
-pub use laws::{one_status_is_decided, right_reports_are_short, solved_is_checked};
+pub use laws::{
+    checks_are_worked, limits_are_worked, one_status_is_decided, refusals_are_worked,
+    right_reports_are_short, solved_is_checked,
+};
+pub use process::run_process;
+pub use program::run_program;
 pub use refusal::Refusal;

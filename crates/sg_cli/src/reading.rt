@@ -26,6 +26,7 @@ fn game_bytes<S: Shelf>(alloc: Global, shelf: &mut S, name: &str) -> Result<Vec<
     ensures files { S.files shelf.new ≡ S.files shelf.old }
     ensures faults { S.faults shelf.old ≤ S.faults shelf.new }
     ensures ok { IfOk result (λ bytes. Reads (S.files shelf.old) name.now game_limit bytes.items) }
+    ensures handed { IfOk result (λ bytes. S.hands_over name.now game_limit bytes.items) }
     ensures one { OnOk result (ReadsGameFile name.now Given
         (trail (S.log shelf.old) (S.faults shelf.old))
         (trail (S.log shelf.new) (S.faults shelf.new))) }
@@ -61,11 +62,11 @@ pub(crate) fn game_named<S: Shelf>(
 ) -> Result<Game, Refusal>
     ensures files { S.files shelf.new ≡ S.files shelf.old }
     ensures faults { S.faults shelf.old ≤ S.faults shelf.new }
-    ensures ok { IfOk result (λ game. SaysGame (S.files shelf.old) name.now (Ok game)) }
+    ensures ok { IfOk result (λ game. SaysGame S.hands_over (S.files shelf.old) name.now (Ok game)) }
     ensures one { OnOk result (ReadsGameFile name.now Given
         (trail (S.log shelf.old) (S.faults shelf.old))
         (trail (S.log shelf.new) (S.faults shelf.new))) }
-    ensures err { IfErr result (GameFileFails (S.files shelf.old) name.now
+    ensures err { IfErr result (GameFileFails S.hands_over (S.files shelf.old) name.now
         (trail (S.log shelf.old) (S.faults shelf.old))
         (trail (S.log shelf.new) (S.faults shelf.new))) }
 {
@@ -78,6 +79,7 @@ fn report_bytes<S: Shelf>(alloc: Global, shelf: &mut S, name: &str) -> Result<Ve
     ensures files { S.files shelf.new ≡ S.files shelf.old }
     ensures faults { S.faults shelf.old ≤ S.faults shelf.new }
     ensures ok { IfOk result (λ bytes. Reads (S.files shelf.old) name.now report_limit bytes.items) }
+    ensures handed { IfOk result (λ bytes. S.hands_over name.now report_limit bytes.items) }
     ensures one { OnOk result (ReadsReportFile name.now Given
         (trail (S.log shelf.old) (S.faults shelf.old))
         (trail (S.log shelf.new) (S.faults shelf.new))) }
@@ -113,11 +115,11 @@ pub(crate) fn report_named<S: Shelf>(
 ) -> Result<Report, Refusal>
     ensures files { S.files shelf.new ≡ S.files shelf.old }
     ensures faults { S.faults shelf.old ≤ S.faults shelf.new }
-    ensures ok { IfOk result (λ report. SaysReport (S.files shelf.old) name.now (Ok report)) }
+    ensures ok { IfOk result (λ report. SaysReport S.hands_over (S.files shelf.old) name.now (Ok report)) }
     ensures one { OnOk result (ReadsReportFile name.now Given
         (trail (S.log shelf.old) (S.faults shelf.old))
         (trail (S.log shelf.new) (S.faults shelf.new))) }
-    ensures err { IfErr result (ReportFileFails (S.files shelf.old) name.now
+    ensures err { IfErr result (ReportFileFails S.hands_over (S.files shelf.old) name.now
         (trail (S.log shelf.old) (S.faults shelf.old))
         (trail (S.log shelf.new) (S.faults shelf.new))) }
 {

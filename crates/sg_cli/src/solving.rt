@@ -48,11 +48,11 @@ fn solved(alloc: Global, game: &Game) -> Result<Report, Refusal>
 fn solution_named<S: Shelf>(alloc: Global, name: &str, shelf: &mut S) -> Result<Report, Refusal>
     ensures files { S.files shelf.new ≡ S.files shelf.old }
     ensures faults { S.faults shelf.old ≤ S.faults shelf.new }
-    ensures ok { IfOk result (HasSolution (S.files shelf.old) name.now) }
+    ensures ok { IfOk result (HasSolution S.hands_over (S.files shelf.old) name.now) }
     ensures one { OnOk result (ReadsGameFile name.now Given
         (trail (S.log shelf.old) (S.faults shelf.old))
         (trail (S.log shelf.new) (S.faults shelf.new))) }
-    ensures err { IfErr result (IsCauseOf (S.files shelf.old)
+    ensures err { IfErr result (IsCauseOf S.hands_over (S.files shelf.old)
         (trail (S.log shelf.old) (S.faults shelf.old))
         (trail (S.log shelf.new) (S.faults shelf.new)) (commands.solve name.now)) }
 {
@@ -71,11 +71,11 @@ pub(crate) fn solve_named<S: Shelf, O: Sink>(
     ensures faults { S.faults shelf.old ≤ S.faults shelf.new }
     ensures out_faults { O.faults out.old ≤ O.faults out.new }
     ensures kept { IfErr result (λ e. e ≢ Refusal.NotWritten → out.new ≡ out.old) }
-    ensures ok { IfOk result (IsDone (scene (Some (commands.solve name.now)) (S.files shelf.old)
+    ensures ok { IfOk result (IsDone (scene (Some (commands.solve name.now)) S.hands_over (S.files shelf.old)
         (trail (S.log shelf.old) (S.faults shelf.old))
         (trail (S.log shelf.new) (S.faults shelf.new))
         (O.faults out.old) (O.faults out.new) (O.taken out.old) (O.taken out.new))) }
-    ensures err { IfErr result (ComesOf (scene (Some (commands.solve name.now)) (S.files shelf.old)
+    ensures err { IfErr result (ComesOf (scene (Some (commands.solve name.now)) S.hands_over (S.files shelf.old)
         (trail (S.log shelf.old) (S.faults shelf.old))
         (trail (S.log shelf.new) (S.faults shelf.new))
         (O.faults out.old) (O.faults out.new) (O.taken out.old) (O.taken out.new))) }

@@ -1,7 +1,8 @@
 -- Bytes that a reader gave.
-use Rattle.std.proofs.Common.{◌≡◌, ℕ, ◌+◌, ◌<◌, ◌≤◌, List, length, ap, ◌∙◌, arith, length-append}
-use Rattle.std.specs.Prelude.{Option, Some, None}
-use Rattle.std.specs.Io.KnownBytes.{Consumes, Keeps}
+use Rattle.std.proofs.Common.{◌≡◌, ℕ, ◌+◌, ◌<◌, ◌≤◌, List, ◌++◌, length, ap, sym, ◌∙◌, arith, length-append}
+use Rattle.std.proofs.lemmas.List.{append-nil}
+use Rattle.std.specs.Prelude.{Option, Some, None, IfSome}
+use Rattle.std.specs.Io.KnownBytes.{Consumes, IsAtEnd, Keeps}
 use Rattle.std.proofs.KnownBytes.{Consumes-kept}
 use Rattle.sg_shelf.specs.ReaderState.{GivesAtMost, MayHaveMore}
 
@@ -25,3 +26,9 @@ gave_more limit (Some before) None bytes more given = absurd given
 gave_more limit (Some before) (Some after) bytes more given =
     let long : length before ≡ length bytes + length after = ap length given ∙ length-append bytes after in
     omega (arith, more, long)
+
+-- It gave bytes up to its end, so these are all that it had.
+pub gave_all : (before after : Option (List ℕ)) (bytes : List ℕ) → Consumes before after bytes → IsAtEnd after → IfSome before (λ all. bytes ≡ all)
+gave_all None after bytes given end = tt
+gave_all (Some before) None bytes given end = absurd given
+gave_all (Some before) (Some after) bytes given end = sym (given ∙ ap (λ rest. bytes ++ rest) end ∙ append-nil bytes)

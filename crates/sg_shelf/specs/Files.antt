@@ -15,6 +15,14 @@ abbrev pub MayHold : Option Files → List ℕ → List ℕ → Type 0
 MayHold None name bytes = Unit {0}
 MayHold (Some files) name bytes = bytes_under files name ≡ Some bytes
 
+-- which bytes a shelf's reads hand over: for a name and a limit
+abbrev pub HandsOver : Type 1
+HandsOver = List ℕ → ℕ → List ℕ → Type 0
+
+-- any bytes at all
+abbrev pub any_bytes : HandsOver
+any_bytes name limit bytes = Unit {0}
+
 -- A read of the name up to the limit may give these bytes.
 pub record Reads (files : Option Files) (name : List ℕ) (limit : ℕ) (bytes : List ℕ) : Type 0 where
   pub may_hold : MayHold files name bytes

@@ -9,3 +9,5 @@ pub mod ShelfState
 pub mod SinkState
 pub mod WriterState
 pub mod ReaderState
+pub mod Opened
+pub mod RiseLaws

@@ -1,19 +1,19 @@
 //! A shelf over the files of std.
 
-ghost use Rattle.std.specs.Prelude.{◌≡◌, ◌+◌, ◌*◌, ◌-◌, ◌^◌, ◌<◌, ◌≤◌, ◌++◌, [], min, max, length, ℕ, None, IfOk, IfErr, OnOk, IsErr, IsErrOf, vec_len, vec_capacity};
+ghost use Rattle.std.specs.Prelude.{◌≡◌, ◌+◌, ◌*◌, ◌-◌, ◌^◌, ◌<◌, ◌≤◌, ◌++◌, [], min, max, length, ℕ, None, IfOk, IfErr, OnOk, IfSome, IsErrOf, vec_len, vec_capacity};
 ghost use Rattle.std.specs.Io.KnownBytes.{Consumes, IsAtEnd};
 ghost use Rattle.sg_shelf.specs.Logs.{logged, log_after};
+ghost use Rattle.sg_shelf.specs.Opened.{IsWholeFile, IsLongFile, IsUnread};
 ghost use Rattle.sg_shelf.specs.ReaderState.{GivesAtMost, MayHaveMore};
 ghost use Rattle.sg_shelf.specs.ShelfErrors.{IsFailedOrMemory, faults_after};
 ghost use Rattle.sg_shelf.specs.declared.log.Outcome.TheVariants as Outcome;
 ghost use Rattle.sg_shelf.specs.declared.shelf.ShelfError.TheVariants.{Failed, TooLong, Memory};
 
 use crate::log::{Reading, append, outcome_of, prepared};
+use crate::opener::{Opener, PathOpener};
 use crate::shelf::{Shelf, ShelfError};
 use crate::source::Source;
 use std::alloc::{AllocError, Global};
-use std::fs::File;
-use std::io;
 use std::io::Read;
 use std::marker::Model;
 use std::rt::Files;
@@ -21,16 +21,16 @@ use std::rt::Files;
 /// The most bytes that one read takes.
 const CHUNK: usize = 65_536;
 
-/// Reads the files of std, where a name is a path. A file that doesn't open and a read that fails, also one
-/// that a signal interrupts, are a fault each. Clauses see it as its log and its count.
+/// Reads the files that an opener opens. A file that doesn't open and a read that fails, also one that a signal
+/// interrupts, are a fault each. Clauses see it as its log and its count.
 #[derive(Drop)]
-pub struct FileShelf<R: Files> {
-    files: R,
+pub struct FileShelf<O: Opener> {
+    opener: O,
     log: Vec<Reading>,
     faults: u64,
 }
 
-impl<R: Files> Model for FileShelf<R> {
+impl<O: Opener> Model for FileShelf<O> {
     ghost use Rattle.sg_shelf.specs.Logs.{Trail, log_of};
 
     ghost Value = { Trail };
@@ -38,26 +38,29 @@ impl<R: Files> Model for FileShelf<R> {
     ghost view = { λ shelf. record { log = log_of shelf.log.items; faults = shelf.faults } };
 }
 
-impl<R: Files + AllocGlobal> FileShelf<R> {
-    /// A shelf over these files, the runtime or a reference to it, that has been read no time.
-    pub fn new(files: R) -> FileShelf<R>
+impl<R: Files + AllocGlobal> FileShelf<PathOpener<R>> {
+    /// A shelf over the files of std, where a name is a path, that has been read no time. `files` is the runtime or a
+    /// reference to it.
+    pub fn new(files: R) -> FileShelf<PathOpener<R>>
         ensures { result ≡ record { log = []; faults = 0 } }
     {
         let log = Vec::new(files.alloc());
         FileShelf {
-            files,
+            opener: PathOpener::new(files),
             log,
             faults: 0,
         }
     }
 }
 
-impl<R: Files> Shelf for FileShelf<R> {
+impl<O: Opener> Shelf for FileShelf<O> {
     ghost files = { λ shelf. None };
 
     ghost faults = { λ shelf. shelf.faults };
 
     ghost log = { λ shelf. shelf.log };
+
+    ghost hands_over = { λ name limit bytes. IsWholeFile O.opens name bytes };
 
     fn read(&mut self, alloc: Global, name: &str, limit: usize) -> Result<Vec<u8>, ShelfError>
         requires { limit ≤ 536870912 }
@@ -66,6 +69,11 @@ impl<R: Files> Shelf for FileShelf<R> {
         ensures last_count { self.new.faults ≤ 2 ^ 64 - 1 }
         ensures within { IfOk result (λ bytes. vec_len bytes ≤ limit) }
         ensures long { (seen : ℕ) → IsErrOf result (TooLong seen) → seen ≡ limit + 1 }
+
+        // It answers what the opened file had left, where its reader tells that: the whole, or that it is more than the limit.
+        ensures whole { IfOk result (λ bytes. IsWholeFile O.opens name.now bytes.items) }
+        ensures too_long { (seen : ℕ) → IsErrOf result (TooLong seen) → IsLongFile O.opens name.now limit }
+        ensures unread { IsErrOf result Failed → IsUnread O.opens O.refuses name.now }
 
         // It logs each read unless it wants memory, and counts a fault exactly where it answers that it failed.
         ensures given { OnOk result (self.new.log ≡ logged self.old.log name.now limit Outcome.Given) }
@@ -79,8 +87,7 @@ impl<R: Files> Shelf for FileShelf<R> {
             Ok(prepared) => prepared,
             Err(_) => return Err(ShelfError::Memory),
         };
-        let opened = File::open(&self.files, name);
-        let answer = read_opened(alloc, opened, limit, &mut faults);
+        let answer = read_named(alloc, &self.opener, name, limit, &mut faults);
         self.faults = faults;
         let outcome = outcome_of(&answer);
         append(&mut self.log, prepared, limit, outcome);
@@ -88,34 +95,56 @@ impl<R: Files> Shelf for FileShelf<R> {
     }
 }
 
-// The bytes of the file, where it was opened.
-fn read_opened<F: Read + Drop>(
+// The bytes of the file of that name, where it opens.
+fn read_named<O: Opener>(
     alloc: Global,
-    opened: io::Result<F>,
+    opener: &O,
+    name: &str,
     limit: usize,
     faults: &mut u64,
 ) -> Result<Vec<u8>, ShelfError>
     requires { limit ≤ 536870912 }
-    ensures unopened { IsErr opened → IsErrOf result Failed }
     ensures within { IfOk result (λ bytes. vec_len bytes ≤ limit) }
+    ensures whole { IfOk result (λ bytes. IsWholeFile O.opens name.now bytes.items) }
     ensures long { (seen : ℕ) → IsErrOf result (TooLong seen) → seen ≡ limit + 1 }
+    ensures too_long { (seen : ℕ) → IsErrOf result (TooLong seen) → IsLongFile O.opens name.now limit }
+    ensures unread { IsErrOf result Failed → IsUnread O.opens O.refuses name.now }
     ensures count { faults.old ≤ faults.new }
     ensures last_count { faults.new ≤ 2 ^ 64 - 1 }
     ensures no_fault { OnOk result (faults.new ≡ faults.old) }
     ensures fault { IfErr result (λ error. faults.new ≡ faults_after error faults.old) }
 {
-    match opened {
-        Ok(file) => {
-            let mut source = Source::new(file, *faults);
-            let answer = whole_file(alloc, &mut source, limit);
-            *faults = source.faults();
-            answer
-        }
+    match opener.open(name) {
+        Ok(file) => read_opened(alloc, file, limit, faults),
         Err(_) => {
             *faults = faults.saturating_add(1);
             Err(ShelfError::Failed)
         }
     }
+}
+
+// The bytes of an opened file.
+#[tactic(auto, using(crate::proofs::Readings::gave_all))]
+fn read_opened<F: Read + Drop>(
+    alloc: Global,
+    file: F,
+    limit: usize,
+    faults: &mut u64,
+) -> Result<Vec<u8>, ShelfError>
+    requires { limit ≤ 536870912 }
+    ensures within { IfOk result (λ bytes. vec_len bytes ≤ limit) }
+    ensures whole { IfOk result (λ bytes. IfSome (F.remaining file) (λ all. bytes.items ≡ all)) }
+    ensures long { (seen : ℕ) → IsErrOf result (TooLong seen) → seen ≡ limit + 1 }
+    ensures too_long { (seen : ℕ) → IsErrOf result (TooLong seen) → MayHaveMore limit (F.remaining file) }
+    ensures count { faults.old ≤ faults.new }
+    ensures last_count { faults.new ≤ 2 ^ 64 - 1 }
+    ensures no_fault { OnOk result (faults.new ≡ faults.old) }
+    ensures fault { IfErr result (λ error. faults.new ≡ faults_after error faults.old) }
+{
+    let mut source = Source::new(file, *faults);
+    let answer = whole_file(alloc, &mut source, limit);
+    *faults = source.faults();
+    answer
 }
 
 // The bytes that the file has left, where these are no more than the limit.

@@ -8,9 +8,11 @@
 
 mod faults;
 mod file_shelf;
+mod laws;
 mod log;
 mod mem_shelf;
 mod mem_sink;
+mod opener;
 mod out_sink;
 mod outlet;
 mod shelf;
@@ -18,9 +20,11 @@ mod sink;
 mod source;
 
 pub use file_shelf::FileShelf;
+pub use laws::rises_are_strict;
 pub use log::{Outcome, Reading};
 pub use mem_shelf::{MemShelf, NamedBytes};
 pub use mem_sink::MemSink;
+pub use opener::{Opener, PathOpener};
 pub use out_sink::OutSink;
 pub use shelf::{Shelf, ShelfError};
 pub use sink::{Sink, SinkError};

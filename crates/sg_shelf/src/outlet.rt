@@ -66,6 +66,7 @@ impl<W: Write> Outlet<W> {
         ensures faults { self.new.faults ≡ (if result then self.old.faults else raised self.old.faults) }
         ensures flushed { self.new.is_flushed ≡ result }
     {
+        // Trusted: that this flushes. No clause of std says what a flush does, so none here can tell it from none.
         let is_flushed = self.writer.flush().is_ok();
         self.is_flushed = is_flushed;
         let faults = self.faults;

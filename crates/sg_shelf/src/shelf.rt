@@ -1,6 +1,6 @@
 //! Where files are read.
 
-ghost use Rattle.std.specs.Prelude.{◌≡◌, ◌⊎◌, ◌-◌, ◌^◌, ◌≤◌, ◌<◌, ℕ, Option, IfOk, IfErr, OnOk, IsErrOf, IsErrAnd, IsSome};
+ghost use Rattle.std.specs.Prelude.{◌≡◌, ◌⊎◌, ◌-◌, ◌^◌, ◌≤◌, ◌<◌, ℕ, List, Option, IfOk, IfErr, OnOk, IsErrOf, IsErrAnd, IsSome};
 ghost use Rattle.sg_shelf.specs.Faults.{HasRisen, HasNotRisen};
 ghost use Rattle.sg_shelf.specs.Files.{Files, Reads, IsMissing, IsLong};
 ghost use Rattle.sg_shelf.specs.Logs.{Log, logged, log_after};
@@ -36,6 +36,10 @@ pub trait Shelf {
     /// The reads that it answered, in order: each name and limit, and whether it gave the bytes. Want of memory is no answer.
     ghost log: { Self → Log };
 
+    /// What its reads hand over: these bytes may be the answer to a read of this name up to this limit. Only a read that
+    /// answers them says so, told or not: a caller that has to speak of bytes that were handed over can't take others.
+    ghost hands_over: { List ℕ → ℕ → List ℕ → Type 0 } = { λ name limit bytes. Unit {0} };
+
     /// Reads a file of at most `limit` bytes, which may be 512 MiB at most.
     fn read(&mut self, alloc: Global, name: &str, limit: usize) -> Result<Vec<u8>, ShelfError>
         requires { limit ≤ 536870912 }
@@ -50,6 +54,7 @@ pub trait Shelf {
         ensures not_given { IfErr result (λ error. log self.new ≡ log_after error name.now limit (log self.old)) }
 
         ensures bytes { IfOk result (λ bytes. Reads (files self.old) name.now limit bytes.items) }
+        ensures handed { IfOk result (λ bytes. hands_over name.now limit bytes.items) }
 
         // It doesn't give up by itself.
         ensures failed { IsErrOf result Failed

@@ -13,7 +13,7 @@ use Rattle.sg_cli.proofs.call.run.Goals as goal
 pub returns-in-Err-clause-complete : goal.returns-in-Err-clause-complete
 returns-in-Err-clause-complete g c =
     let cause = subst (λ (words : List (String Global)). ComesOf (scene (command_given (texts words))
-    (g.S.Shelf.files c.args.shelf.now)
+    g.S.Shelf.hands_over (g.S.Shelf.files c.args.shelf.now)
     (trail (g.S.Shelf.log c.args.shelf.now) (g.S.Shelf.faults c.args.shelf.now))
     (trail (g.S.Shelf.log c.obey.new.shelf) (g.S.Shelf.faults c.obey.new.shelf))
     (g.O.Sink.faults c.args.out.now) (g.O.Sink.faults c.obey.new.out) (g.O.Sink.taken c.args.out.now) (g.O.Sink.taken c.obey.new.out)) c.in-Err.refusal)
