@@ -31,7 +31,7 @@ use Rattle.sg_bounds.specs.Sizes.{pay_sums, take_sums, value_sums, worth_sums}
 use Rattle.sg_check.specs.declared.value.Best.{Best}
 use Rattle.std.specs.Prelude.{Option, Some, None, MatchOption}
 use Rattle.sg_check.specs.declared.quotient.Quotient.{Quotient}
-use Rattle.sg_check.specs.Valuing.{AreFormed, BestAreFormed, Forms, IsBestOf, IsTakenSum, IsWorthOf, paired, under_a, under_d}
+use Rattle.sg_check.specs.Valuing.{AreSumsFormed, BestAreFormed, Forms, IsBestOf, IsTakenSum, IsWorthOf, paired, under_a, under_d}
 use Rattle.sg_frac.specs.Fractions.{Fraction, IsReduced, IsReducedForm}
 use Rattle.sg_frac.proofs.Reduced.{reduced_form-unique}
 
@@ -118,10 +118,10 @@ cases_eq_z a b =
 -- ---- the best actions
 
 module _ (g : Game) (k : List Ticket) where
-  pub formed-first : All Fits (under_a g k 1) → AreFormed g k 1
+  pub formed-first : All Fits (under_a g k 1) → AreSumsFormed g k 1
   formed-first h a low high = let e : 1 ≡ a = omega (arith, low, high) in subst (λ (b : ℕ). All Fits (under_a g k b)) e h
 
-  pub formed-more : (i : ℕ) → AreFormed g k i → All Fits (under_a g k (i + 1)) → AreFormed g k (i + 1)
+  pub formed-more : (i : ℕ) → AreSumsFormed g k i → All Fits (under_a g k (i + 1)) → AreSumsFormed g k (i + 1)
   formed-more i h now a low high = elim (cases_eq a (i + 1)) [
     | inl e ↦ subst (λ (b : ℕ). All Fits (under_a g k b)) (sym e) now
     | inr ne ↦ h a low (omega (arith, high, ne))
@@ -250,7 +250,7 @@ module _ (g : Game) (k : List Ticket) where
   pub under_ds : List ℤ
   under_ds = flat_map (under_d g k) (filter (is_best g k 1) (numbers (action_count g 1)))
 
-  pub take-formed : All Fits (take_sums g k 1) → AreFormed g k (action_count g 1)
+  pub take-formed : All Fits (take_sums g k 1) → AreSumsFormed g k (action_count g 1)
   take-formed h a low high = from_flat (under_a g k) (numbers (action_count g 1)) (All-front Fits (flat_map (under_a g k) (numbers (action_count g 1))) _ h) a (Contains-numbers (action_count g 1) a low high)
 
   pub take-best_formed : (best : Best) → IsBestOf g k (action_count g 1) best → All Fits (take_sums g k 1) → BestAreFormed g k (action_count g 1) best.sum
@@ -259,7 +259,7 @@ module _ (g : Game) (k : List Ticket) where
       let each : All (λ (c : ℕ). All Fits (under_d g k c)) (filter (is_best g k 1) (numbers n)) = each_from_flat (under_d g k) (filter (is_best g k 1) (numbers n)) (All-back Fits (flat_map (under_a g k) (numbers n)) (flat_map (under_d g k) (filter (is_best g k 1) (numbers n))) h) in
       All-numbers-at (λ (c : ℕ). is_best g k 1 c ≡ true → All Fits (under_d g k c)) n (passes_have (is_best g k 1) (λ (c : ℕ). All Fits (under_d g k c)) (numbers n) each) a low high (best-is_best best b a same)
 
-  pub formed-take : (best : Best) → IsBestOf g k (action_count g 1) best → AreFormed g k (action_count g 1) → BestAreFormed g k (action_count g 1) best.sum → All Fits (take_sums g k 1)
+  pub formed-take : (best : Best) → IsBestOf g k (action_count g 1) best → AreSumsFormed g k (action_count g 1) → BestAreFormed g k (action_count g 1) best.sum → All Fits (take_sums g k 1)
   formed-take best b h i =
       let n : ℕ = action_count g 1 in
       All-append Fits (flat_map (under_a g k) (numbers n)) (flat_map (under_d g k) (filter (is_best g k 1) (numbers n)))
@@ -322,13 +322,13 @@ module _ (g : Game) (k : List Ticket) where
 -- ---- what is taken, formed or not
 
 module _ (g : Game) (k : List Ticket) where
-  pub take-forms : (best : Best) → IsBestOf g k (action_count g 1) best → AreFormed g k (action_count g 1) → (r : Option ℤ)
+  pub take-forms : (best : Best) → IsBestOf g k (action_count g 1) best → AreSumsFormed g k (action_count g 1) → (r : Option ℤ)
       → MatchOption r (BestAreFormed g k (action_count g 1) best.sum → ⊥) (λ taken. BestAreFormed g k (action_count g 1) best.sum × IsTakenSum g k (action_count g 1) best.sum taken)
       → Forms r (take_sums g k 1) (take_of g k 1)
   take-forms best b f (Some z) h = (formed-take g k best b f h.0, taken-is g k best z b h.1)
   take-forms best b f None h = λ all. h (take-best_formed g k best b all)
 
-  pub take-none : (AreFormed g k (action_count g 1) → ⊥) → All Fits (take_sums g k 1) → ⊥
+  pub take-none : (AreSumsFormed g k (action_count g 1) → ⊥) → All Fits (take_sums g k 1) → ⊥
   take-none none all = none (take-formed g k all)
 
   -- a best action whose sum doesn't fit

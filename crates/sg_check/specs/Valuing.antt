@@ -28,8 +28,8 @@ pub record IsBestOf (g : Game) (k : List Ticket) (n : ℕ) (best : Best) : Type 
   pub most : (a : ℕ) → 1 ≤ a → a ≤ n → sum_a g k 1 a ≤ℤ best.sum
 
 -- of actions 1 to n, all sums of the type fit
-abbrev pub AreFormed : Game → List Ticket → ℕ → Type 0
-AreFormed g k n = (a : ℕ) → 1 ≤ a → a ≤ n → All Fits (under_a g k a)
+abbrev pub AreSumsFormed : Game → List Ticket → ℕ → Type 0
+AreSumsFormed g k n = (a : ℕ) → 1 ≤ a → a ≤ n → All Fits (under_a g k a)
 
 -- of actions 1 to n, the defender's sums of the best ones fit
 abbrev pub BestAreFormed : Game → List Ticket → ℕ → ℤ → Type 0

@@ -12,7 +12,7 @@ ghost use Rattle.sg_bounds.specs.Sizes.{take_sums, value_sums};
 ghost use Rattle.sg_check.specs.Answering.{AnswersTests, held_line};
 ghost use Rattle.sg_check.specs.Parts.{total_stops, worth_stops};
 ghost use Rattle.sg_game.specs.Tallies.{IsTally};
-ghost use Rattle.sg_check.specs.Valuing.{AreFormed, BestAreFormed, Forms, IsBestOf, IsTakenSum, IsWorthOf, paired, under_a, under_d};
+ghost use Rattle.sg_check.specs.Valuing.{AreSumsFormed, BestAreFormed, Forms, IsBestOf, IsTakenSum, IsWorthOf, paired, under_a, under_d};
 
 use crate::quotient::{Quotient, is_same, reduced};
 use crate::refusal::Refusal;
@@ -51,7 +51,7 @@ fn first(game: &Game, tickets: &[Ticket], total: i128, table: &[Cell]) -> Option
     requires legal { AreLegal game.now tickets.now }
     requires total { total ≡ weight_total tickets.now }
     requires table { IsTally game.now tickets.now table.now }
-    ensures { MatchOption result (AreFormed game.now tickets.now (action_count game.now 1) → ⊥) (λ best. AreFormed game.now tickets.now 1 × IsBestOf game.now tickets.now 1 best) }
+    ensures { MatchOption result (AreSumsFormed game.now tickets.now (action_count game.now 1) → ⊥) (λ best. AreSumsFormed game.now tickets.now 1 × IsBestOf game.now tickets.now 1 best) }
 {
     let _actions = game.actions(1);
     match table_a(game, tickets, total, table, 1) {
@@ -66,7 +66,7 @@ fn best_of(game: &Game, tickets: &[Ticket], total: i128, table: &[Cell]) -> Opti
     requires legal { AreLegal game.now tickets.now }
     requires total { total ≡ weight_total tickets.now }
     requires table { IsTally game.now tickets.now table.now }
-    ensures { MatchOption result (AreFormed game.now tickets.now (action_count game.now 1) → ⊥) (λ best. AreFormed game.now tickets.now (action_count game.now 1) × IsBestOf game.now tickets.now (action_count game.now 1) best) }
+    ensures { MatchOption result (AreSumsFormed game.now tickets.now (action_count game.now 1) → ⊥) (λ best. AreSumsFormed game.now tickets.now (action_count game.now 1) × IsBestOf game.now tickets.now (action_count game.now 1) best) }
 {
     let mut best = match first(game, tickets, total, table) {
         Some(best) => best,
@@ -171,7 +171,7 @@ fn taken_of(
     requires legal { AreLegal game.now tickets.now }
     requires total { total ≡ weight_total tickets.now }
     requires table { IsTally game.now tickets.now table.now }
-    requires formed { AreFormed game.now tickets.now (action_count game.now 1) }
+    requires formed { AreSumsFormed game.now tickets.now (action_count game.now 1) }
     requires best { IsBestOf game.now tickets.now (action_count game.now 1) best.now }
     ensures { MatchOption result (BestAreFormed game.now tickets.now (action_count game.now 1) best.now.sum → ⊥) (λ taken. BestAreFormed game.now tickets.now (action_count game.now 1) best.now.sum × IsTakenSum game.now tickets.now (action_count game.now 1) best.now.sum taken) }
 {

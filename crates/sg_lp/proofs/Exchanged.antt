@@ -4,7 +4,7 @@ use Rattle.std.specs.Prelude.{ℤ, pos, All, nat_eq}
 use Rattle.std.proofs.lemmas.List.{get_or-map, get_or-set_other, get_or-set_same, get_or_read, length-map, length-set}
 use Rattle.sg_num.specs.declared.step.Wide.{Wide}
 use Rattle.sg_linear.proofs.Lex.{same_or}
-use Rattle.sg_rows.specs.Steps.{first_wide}
+use Rattle.sg_num.specs.Operations.{first_wide}
 use Rattle.sg_rows.specs.Rows.{IsLowest, combine_steps, combined_rows, place}
 use Rattle.sg_rows.proofs.Fitting.{part-fits}
 use Rattle.sg_lp.specs.Exchanging.{ListsExchanged, OthersCombined, OthersFit, denominated, front_of}

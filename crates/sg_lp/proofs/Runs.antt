@@ -9,7 +9,7 @@ use Rattle.sg_linear.proofs.Chosen.{chosen, chosen-choice, same-chosen}
 use Rattle.sg_linear.proofs.MoveLaws.{move-rises}
 use Rattle.sg_linear.proofs.RunLaws.{above-trans, same-members}
 use Rattle.sg_rows.specs.Rows.{place}
-use Rattle.sg_lp.specs.Programs.{IsMember, IsSized, Program, enough_pivots, member_cost, member_entry}
+use Rattle.sg_lp.specs.Programs.{IsMember, IsWithinLimits, Program, enough_pivots, member_cost, member_entry}
 use Rattle.sg_lp.specs.States.{AreApart, HaveSameBasis, IsTableau, StandsAbove, Tableau, member_at, row_at, start_of}
 use Rattle.sg_lp.specs.Moves.{IsNext, Runs}
 use Rattle.sg_lp.specs.declared.column.Enter.{Enter}
@@ -22,18 +22,18 @@ pub next-rises : (p : Program) (t u : Tableau) → IsTableau p t → IsNext p t 
 next-rises p t u st n =
     move-rises p.height (member_entry p) (member_cost p) (member_at t) (λ i. place (row_at t i)) (place t.y) t.rho n.entering n.leaving (member_at u) (λ i. place (row_at u i)) (place u.y) u.rho st.state n.moves
 
-pub run-state : (p : Program) → IsSized p → (k : ℕ) (t : Tableau) → Runs p k t → IsTableau p t
+pub run-state : (p : Program) → IsWithinLimits p → (k : ℕ) (t : Tableau) → Runs p k t → IsTableau p t
 run-state p s zero t e = subst (IsTableau p) (sym e) (start_state p s)
 run-state p s (suc k) t r = r.2.state
 
-pub run-one : (p : Program) → IsSized p → (k : ℕ) (t u : Tableau) → Runs p k t → Runs p k u → t ≡ u
+pub run-one : (p : Program) → IsWithinLimits p → (k : ℕ) (t u : Tableau) → Runs p k t → Runs p k u → t ≡ u
 run-one p s zero t u a b = a ∙ sym b
 run-one p s (suc k) t u a b =
     let e = run-one p s k a.0 b.0 a.1 b.1 in
     next-one p a.0 t u (run-state p s k a.0 a.1) a.2 (subst (λ (x : Tableau). IsNext p x u) (sym e) b.2)
 
 -- multipliers m + 1 moves on stand above those d moves before
-above : (p : Program) → IsSized p → (d k m : ℕ) → m ≡ d + k → (t u : Tableau) → Runs p k t → Runs p (suc m) u → StandsAbove p u t
+above : (p : Program) → IsWithinLimits p → (d k m : ℕ) → m ≡ d + k → (t u : Tableau) → Runs p k t → Runs p (suc m) u → StandsAbove p u t
 above p s zero k m e t u a b =
     let is : m ≡ k = omega arith in
     let same = run-one p s k t b.0 a (subst (λ (j : ℕ). Runs p j b.0) is b.1) in
@@ -45,7 +45,7 @@ above p s (suc d) k (suc m) e t u a b =
     above-trans p.height (place t.y) t.rho (place w.y) w.rho (place u.y) u.rho (run-state p s k t a).state.scaled sw.state.scaled b.2.state.state.scaled
     (above p s d k m (omega arith) t w a b.1) (next-rises p w u sw b.2)
 
-pub run-rises : (p : Program) → IsSized p → (k m : ℕ) (t u : Tableau) → Runs p k t → Runs p m u → k < m → StandsAbove p u t
+pub run-rises : (p : Program) → IsWithinLimits p → (k m : ℕ) (t u : Tableau) → Runs p k t → Runs p m u → k < m → StandsAbove p u t
 run-rises p s k zero t u a b h = absurd (omega arith)
 run-rises p s k (suc m) t u a b h = go (differ k m (omega arith))
   where
@@ -58,7 +58,7 @@ run-rises p s k (suc m) t u a b h = go (differ k m (omega arith))
     go r = above p s r.0 k m r.1 t u a b
 
 -- no basis comes twice
-pub never_twice : (p : Program) → IsSized p → (k m : ℕ) (t u : Tableau) → Runs p k t → Runs p m u → k < m → HaveSameBasis p t u → ⊥
+pub never_twice : (p : Program) → IsWithinLimits p → (k m : ℕ) (t u : Tableau) → Runs p k t → Runs p m u → k < m → HaveSameBasis p t u → ⊥
 never_twice p s k m t u a b h same =
     same-members p.height (member_entry p) (member_cost p) (member_at t) (λ i. place (row_at t i)) (place t.y) t.rho (member_at u) (λ i. place (row_at u i)) (place u.y) u.rho
     (run-state p s k t a).state (run-state p s m u b).state same (run-rises p s k m t u a b h)
@@ -113,23 +113,23 @@ unfolding visited
 length-visited p zero t r = refl
 length-visited p (suc k) t r = ap suc (length-visited p k r.0 r.1)
 
-all_states : (p : Program) → IsSized p → (k : ℕ) (t : Tableau) (r : Runs p k t) → All (IsTableau p) (visited p k t r)
+all_states : (p : Program) → IsWithinLimits p → (k : ℕ) (t : Tableau) (r : Runs p k t) → All (IsTableau p) (visited p k t r)
 unfolding visited
 all_states p s zero t r = All-cons (IsTableau p) t [] (run-state p s zero t r) (All-nil (IsTableau p))
 all_states p s (suc k) t r = All-cons (IsTableau p) t (visited p k r.0 r.1) (run-state p s (suc k) t r) (all_states p s k r.0 r.1)
 
-earlier : (p : Program) → IsSized p → (m : ℕ) (u : Tableau) → Runs p m u → (k : ℕ) (t : Tableau) (r : Runs p k t) → k < m → All (λ x. ¬ (HaveSameBasis p x u)) (visited p k t r)
+earlier : (p : Program) → IsWithinLimits p → (m : ℕ) (u : Tableau) → Runs p m u → (k : ℕ) (t : Tableau) (r : Runs p k t) → k < m → All (λ x. ¬ (HaveSameBasis p x u)) (visited p k t r)
 unfolding visited
 earlier p s m u b zero t r h = All-cons (λ (x : Tableau). ¬ (HaveSameBasis p x u)) t [] (never_twice p s zero m t u r b h) (All-nil (λ (x : Tableau). ¬ (HaveSameBasis p x u)))
 earlier p s m u b (suc k) t r h =
     All-cons (λ (x : Tableau). ¬ (HaveSameBasis p x u)) t (visited p k r.0 r.1) (never_twice p s (suc k) m t u r b h) (earlier p s m u b k r.0 r.1 (omega arith))
 
-all_different : (p : Program) → IsSized p → (k : ℕ) (t : Tableau) (r : Runs p k t) → AreApart p (visited p k t r)
+all_different : (p : Program) → IsWithinLimits p → (k : ℕ) (t : Tableau) (r : Runs p k t) → AreApart p (visited p k t r)
 unfolding visited
 all_different p s zero t r = (All-nil (λ (x : Tableau). ¬ (HaveSameBasis p x t)), tt)
 all_different p s (suc k) t r = (earlier p s (suc k) t r k r.0 r.1 (omega arith), all_different p s k r.0 r.1)
 
-pub short-run : (p : Program) → IsSized p → (k : ℕ) (t : Tableau) → Runs p k t → k < enough_pivots p
+pub short-run : (p : Program) → IsWithinLimits p → (k : ℕ) (t : Tableau) → Runs p k t → k < enough_pivots p
 short-run p s k t r =
     let l = few_bases p (visited p k t r) (all_states p s k t r) (all_different p s k t r) in
     let e = length-visited p k t r in

@@ -1,6 +1,6 @@
 -- What an exchange does to the rows of a pool that hold a tableau in their first places.
 use Rattle.std.specs.Prelude.{◌≡◌, ◌≢◌, ℕ, ◌<◌, List, [], ◌∷◌, ◌++◌, length, take, ℤ, pos, slice_index_or, None}
-use Rattle.sg_rows.specs.Steps.{first_wide}
+use Rattle.sg_num.specs.Operations.{first_wide}
 use Rattle.sg_rows.specs.Rows.{IsLowest, combine_steps, combined_rows, place}
 
 -- the first places of row k

@@ -1,7 +1,7 @@
 //! The lists and the multipliers of a state combined in place.
 
 ghost use Rattle.std.specs.Prelude.{◌≡◌, ◌≢◌, ℕ, ◌<◌, ◌≤◌, [], ◌∷◌, ◌++◌, ◌-ℤ◌, ◌*ℤ◌, length, pos, take, None, slice_index_or, slice_set, All};
-ghost use Rattle.sg_rows.specs.Steps.{first_wide};
+ghost use Rattle.sg_num.specs.Operations.{first_wide};
 ghost use Rattle.sg_rows.specs.Rows.{IsLowest, combine_steps, combined_rows, place};
 ghost use Rattle.sg_lp.specs.Exchanging.{ListsExchanged, OthersCombined, OthersFit, denominated, front_of};
 

@@ -6,7 +6,7 @@ use Rattle.std.specs.Int.{w128}
 use Rattle.sg_num.specs.declared.step.Wide.{Wide}
 use Rattle.sg_num.proofs.Steps.{FitsSigned-from_fits}
 use Rattle.sg_num.specs.Exact.{and_then, fits}
-use Rattle.sg_rows.specs.Steps.{first_wide, formed, is_formed, minus, times}
+use Rattle.sg_num.specs.Operations.{first_wide, formed, is_formed, minus, times}
 use Rattle.sg_rows.specs.Rows.{combine_steps, place}
 
 -- the first of a list that fits is formed, and so is the rest

@@ -2,7 +2,7 @@
 
 ghost use Rattle.std.specs.Prelude.{◌≡◌, ◌<◌, ◌-ℤ◌, ◌*ℤ◌, [], ◌∷◌, length, None, IfOk, OnErr, OnOk};
 ghost use Rattle.sg_num.specs.Exact.{exact_mul_sub};
-ghost use Rattle.sg_rows.specs.Steps.{first_wide, formed};
+ghost use Rattle.sg_num.specs.Operations.{first_wide, formed};
 ghost use Rattle.sg_rows.specs.Rows.{combine_steps, combined_rows, place};
 
 use sg_num::{Wide, mul_sub};

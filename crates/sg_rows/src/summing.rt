@@ -2,7 +2,7 @@
 
 ghost use Rattle.std.specs.Prelude.{◌≡◌, ◌<◌, ◌+ℤ◌, ◌*ℤ◌, length, pos, IfOk};
 ghost use Rattle.sg_num.specs.Exact.{exact_dot_step};
-ghost use Rattle.sg_rows.specs.Steps.{formed};
+ghost use Rattle.sg_num.specs.Operations.{formed};
 ghost use Rattle.sg_rows.specs.Rows.{dot_from, dot_steps, place};
 
 use sg_num::{Wide, dot_step};

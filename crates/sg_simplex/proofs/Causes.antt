@@ -8,7 +8,7 @@ use Rattle.sg_rows.specs.Rows.{place}
 use Rattle.sg_lp.specs.Programs.{Program, member_entry}
 use Rattle.sg_lp.specs.Pricing.{Answer, clean, found, spent, wide}
 use Rattle.sg_lp.specs.States.{IsTableau, Tableau, row_at}
-use Rattle.sg_lp.specs.Moves.{IsEntering, IsLeaving, Shown, first_shown, move_steps}
+use Rattle.sg_lp.specs.Moves.{IsEntering, IsLeaving, NamedStep, first_shown, move_steps}
 use Rattle.sg_lp.specs.declared.column.Column.{Column}
 use Rattle.sg_lp.specs.declared.column.Enter.{Enter}
 use Rattle.sg_lp.specs.declared.column.Enter.TheVariants.{Slack, Col}
@@ -18,7 +18,7 @@ use Rattle.sg_simplex.specs.declared.turn.Turn.TheVariants as turn
 use Rattle.sg_simplex.specs.Turns.{EntersBy, HasCause, IsPriced, Pricer}
 
 -- what a move that is tried answers, and what pricing ends a turn with
-abbrev told_move : Option Shown → Turn
+abbrev told_move : Option NamedStep → Turn
 told_move None = turn.Moved
 told_move (Some x) = turn.Wide x.name x.step
 

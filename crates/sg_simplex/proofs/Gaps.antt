@@ -3,7 +3,7 @@ use Rattle.std.proofs.Common.{◌≡◌, Bool, true, false, cond, List, [], ◌�
 use Rattle.std.specs.Prelude.{◌-ℤ◌, ◌*ℤ◌}
 use Rattle.sg_num.specs.declared.step.Wide.{Wide}
 use Rattle.sg_num.specs.Exact.{and_then, exact_less, exact_mul_sub, exact_times, fits}
-use Rattle.sg_rows.specs.Steps.{formed, minus, times}
+use Rattle.sg_num.specs.Operations.{formed, minus, times}
 use Rattle.sg_rows.specs.Rows.{combine_steps}
 use Rattle.sg_rows.proofs.Combined.{combine_steps-end}
 use Rattle.sg_rows.proofs.Fitting.{Ok-fits, Ok-value, fits-formed, formed-append}

@@ -4,15 +4,15 @@ use Rattle.std.specs.Prelude.{ℤ, pos, ◌<ℤ◌, ◌≤ℤ◌, slice_index_or
 use Rattle.std.proofs.lemmas.Int.{ints}
 use Rattle.sg_linear.specs.Sums.{LexPositive, combined, dot}
 use Rattle.sg_linear.proofs.RunLaws.{below-either}
-use Rattle.sg_rows.specs.Steps.{first_wide}
+use Rattle.sg_num.specs.Operations.{first_wide}
 use Rattle.sg_rows.specs.Rows.{place}
 use Rattle.sg_lp.specs.Programs.{IsBounded, Program, member_cost, member_entry}
 use Rattle.sg_lp.specs.States.{IsTableau, Tableau, member_at, row_at}
-use Rattle.sg_lp.specs.Moves.{IsEntering, IsLeaving, product_steps, products_of}
+use Rattle.sg_lp.specs.Moves.{IsEntering, IsLeaving, row_product_steps, products_of}
 use Rattle.sg_lp.specs.declared.column.Enter.{Enter}
 use Rattle.sg_lp.proofs.Leaving.{leaving-one}
 use Rattle.sg_lp.proofs.Multiplied.{product-is}
-use Rattle.sg_simplex.specs.Least.{AreApart, Below, IsLeast}
+use Rattle.sg_simplex.specs.Least.{AreNeverEqual, Below, IsLeast}
 use Rattle.sg_simplex.specs.Trying.{HasLeaving}
 
 module _ (p : Program) (t : Tableau) (s : Enter) (q : List ℤ) (st : IsTableau p t) (qs : q ≡ products_of p t s) where
@@ -43,7 +43,7 @@ module _ (p : Program) (t : Tableau) (s : Enter) (q : List ℤ) (st : IsTableau 
       (subst (λ (z : ℤ). LexPositive n (combined (place q i) z (M k) (M i))) (q_is k hk) (subst (λ (z : ℕ). LexPositive z (combined (place q i) (place q k) (M k) (M i))) many l))
 
   -- of two lists one stands below the other, each over its product
-  pub apart_lists : AreApart (length t.rows) t.rows q
+  pub apart_lists : AreNeverEqual (length t.rows) t.rows q
   apart_lists i k hi hk ne up =
       let li : i < n = (let m = many in omega arith) in
       let lk : k < n = (let m = many in omega arith) in
@@ -53,7 +53,7 @@ module _ (p : Program) (t : Tableau) (s : Enter) (q : List ℤ) (st : IsTableau 
       ]
 
   -- the least of them is the one that leaves
-  pub leaving_of : (r : ℕ) → first_wide (product_steps p t s) ≡ None → IsLeast (length t.rows) t.rows q (length t.rows) r → HasLeaving p t s q r
+  pub leaving_of : (r : ℕ) → first_wide (row_product_steps p t s) ≡ None → IsLeast (length t.rows) t.rows q (length t.rows) r → HasLeaving p t s q r
   leaving_of r fit l =
       let lr : r < n = (let m = many in let w = l.within in omega arith) in
       record {

@@ -5,7 +5,7 @@ use Rattle.std.specs.List.{range_with_len}
 use Rattle.std.proofs.lemmas.List.{drop_all, drop_more, ext_get_or, get_or-map, length-map}
 use Rattle.sg_num.specs.declared.step.Wide.{Wide}
 use Rattle.sg_num.specs.Exact.{and_then}
-use Rattle.sg_rows.specs.Steps.{formed, is_formed}
+use Rattle.sg_num.specs.Operations.{formed, is_formed}
 use Rattle.sg_rows.specs.Rows.{combine_steps, dot_from, dot_steps, place}
 use Rattle.sg_rows.proofs.Fitting.{Ok-fits, Err-stops, fits-formed, formed-append}
 use Rattle.sg_lp.specs.Moves.{row_steps, row_steps_at}

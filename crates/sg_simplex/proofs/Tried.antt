@@ -2,12 +2,12 @@
 use Rattle.std.proofs.Common.{◌≡◌, ℕ, List, [], ◌∷◌, ◌++◌, flat_map, map, pos, ap, sym, ◌∙◌, subst, Some, None, Result, Ok, Err}
 use Rattle.std.specs.Prelude.{ℤ, ◌-ℤ◌, ◌*ℤ◌}
 use Rattle.sg_num.specs.declared.step.Wide.{Wide}
-use Rattle.sg_rows.specs.Steps.{first_wide, formed, minus, times}
+use Rattle.sg_num.specs.Operations.{first_wide, formed, minus, times}
 use Rattle.sg_rows.specs.Rows.{dot_from, dot_steps}
 use Rattle.sg_rows.proofs.Fitting.{Err-stops, Ok-fits}
 use Rattle.sg_lp.specs.Programs.{IsBounded, Program, member_cost}
 use Rattle.sg_lp.specs.States.{IsTableau, Tableau}
-use Rattle.sg_lp.specs.Moves.{IsEntering, Shown, entries_of, first_shown, gap_of, gap_steps, move_steps, multiplier_steps, named, product_steps, products_of, row_steps}
+use Rattle.sg_lp.specs.Moves.{IsEntering, NamedStep, entries_of, first_shown, gap_of, gap_steps, move_steps, multiplier_steps, under_name, row_product_steps, products_of, row_steps}
 use Rattle.sg_lp.specs.declared.column.Enter.{Enter}
 use Rattle.sg_lp.proofs.Leaving.{leaving-one}
 use Rattle.sg_simplex.specs.Trying.{HasLeaving, IsMisfit, MayExchange}
@@ -26,35 +26,35 @@ gap_by p t s y es rho cost result ey ee er ec e =
 pub products_by : (p : Program) (t : Tableau) (s : Enter) (q es : List ℤ) → es ≡ entries_of p s → q ≡ map (λ (row : List ℤ). dot_from (pos 0) row es) t.rows → q ≡ products_of p t s
 products_by p t s q es e is = is ∙ ap (λ (z : List ℤ). map (λ (row : List ℤ). dot_from (pos 0) row z) t.rows) e
 
-pub products_fit : (p : Program) (t : Tableau) (s : Enter) (es : List ℤ) (u : Unit {0}) → es ≡ entries_of p s → ◌≡◌ {A = Result (Unit {0}) Wide} (Ok u) (formed (flat_map (λ (row : List ℤ). dot_steps (pos 0) row es) t.rows) tt) → first_wide (product_steps p t s) ≡ None
+pub products_fit : (p : Program) (t : Tableau) (s : Enter) (es : List ℤ) (u : Unit {0}) → es ≡ entries_of p s → ◌≡◌ {A = Result (Unit {0}) Wide} (Ok u) (formed (flat_map (λ (row : List ℤ). dot_steps (pos 0) row es) t.rows) tt) → first_wide (row_product_steps p t s) ≡ None
 products_fit p t s es u e is = subst (λ (z : List ℤ). first_wide (flat_map (λ (row : List ℤ). dot_steps (pos 0) row z) t.rows) ≡ None) e (Ok-fits (flat_map (λ (row : List ℤ). dot_steps (pos 0) row es) t.rows) tt u is)
 
-pub products_wide : (p : Program) (t : Tableau) (s : Enter) (es : List ℤ) (w : Wide) → es ≡ entries_of p s → ◌≡◌ {A = Result (Unit {0}) Wide} (Err w) (formed (flat_map (λ (row : List ℤ). dot_steps (pos 0) row es) t.rows) tt) → first_wide (product_steps p t s) ≡ Some w
+pub products_wide : (p : Program) (t : Tableau) (s : Enter) (es : List ℤ) (w : Wide) → es ≡ entries_of p s → ◌≡◌ {A = Result (Unit {0}) Wide} (Err w) (formed (flat_map (λ (row : List ℤ). dot_steps (pos 0) row es) t.rows) tt) → first_wide (row_product_steps p t s) ≡ Some w
 products_wide p t s es w e is = subst (λ (z : List ℤ). first_wide (flat_map (λ (row : List ℤ). dot_steps (pos 0) row z) t.rows) ≡ Some w) e (Err-stops (flat_map (λ (row : List ℤ). dot_steps (pos 0) row es) t.rows) tt w is)
 
 -- a product that doesn't fit is the first value, whichever row leaves
-pub products_stop : (p : Program) (t : Tableau) (s : Enter) → IsBounded p → IsTableau p t → IsEntering p t s → (n : ℕ) (w : Wide) → n ≡ 2 → first_wide (product_steps p t s) ≡ Some w → IsMisfit p t s (record { name = n; wide = w })
+pub products_stop : (p : Program) (t : Tableau) (s : Enter) → IsBounded p → IsTableau p t → IsEntering p t s → (n : ℕ) (w : Wide) → n ≡ 2 → first_wide (row_product_steps p t s) ≡ Some w → IsMisfit p t s (record { name = n; wide = w })
 products_stop p t s b st e n w is stops =
     let l = leaving-one p t s b st e in
     record {
       row = l.0;
       leaves = l.1;
-      shown = named-stops 2 (product_steps p t s) _ w stops ∙ ap (λ (k : ℕ). Some (record { name = k; step = w })) (sym is);
+      shown = named-stops 2 (row_product_steps p t s) _ w stops ∙ ap (λ (k : ℕ). Some (record { name = k; step = w })) (sym is);
     }
 
 module _ (p : Program) (t : Tableau) (s : Enter) (q : List ℤ) (r : ℕ) (h : HasLeaving p t s q r) where
-  abbrev lists : List ℤ → List Shown
-  lists x = named 3 (row_steps t.rows x r)
+  abbrev lists : List ℤ → List NamedStep
+  lists x = under_name 3 (row_steps t.rows x r)
 
-  abbrev ends : List ℤ → ℤ → List Shown
-  ends x g = named 3 (multiplier_steps t x g r)
+  abbrev ends : List ℤ → ℤ → List NamedStep
+  ends x g = under_name 3 (multiplier_steps t x g r)
 
-  abbrev middle : List Shown
-  middle = named 2 (gap_steps p t s)
+  abbrev middle : List NamedStep
+  middle = under_name 2 (gap_steps p t s)
 
   -- the same by the products that stand written
   behind : first_shown (move_steps p t s r) ≡ first_shown (lists q ++ (middle ++ ends q (gap_of p t s)))
-  behind = named-fits 2 (product_steps p t s) _ h.fit ∙ ap (λ (x : List ℤ). first_shown (lists x ++ (middle ++ ends x (gap_of p t s)))) (sym h.products)
+  behind = named-fits 2 (row_product_steps p t s) _ h.fit ∙ ap (λ (x : List ℤ). first_shown (lists x ++ (middle ++ ends x (gap_of p t s)))) (sym h.products)
 
   pub rows_stop : (w : Wide) → first_wide (row_steps t.rows q r) ≡ Some w → IsMisfit p t s (record { name = 3; wide = w })
   rows_stop w e = record { row = r; leaves = h.leaves; shown = behind ∙ named-stops 3 (row_steps t.rows q r) _ w e }

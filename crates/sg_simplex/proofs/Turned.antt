@@ -4,8 +4,8 @@ use Rattle.std.specs.Prelude.{ℤ, List}
 use Rattle.sg_linear.proofs.MoveLaws.{leaves-unique}
 use Rattle.sg_num.specs.declared.step.Wide.{Wide}
 use Rattle.sg_rows.specs.Rows.{place}
-use Rattle.sg_lp.specs.Programs.{IsBounded, IsSized, Program, enough_pivots, member_entry}
-use Rattle.sg_lp.specs.Pricing.{Answer, Says, clean, found, spent, told_of, wide}
+use Rattle.sg_lp.specs.Programs.{IsBounded, IsWithinLimits, Program, enough_pivots, member_entry}
+use Rattle.sg_lp.specs.Pricing.{Answer, AnswerMeans, clean, found, spent, told_of, wide}
 use Rattle.sg_lp.specs.States.{HaveSameBasis, IsTableau, StandsAbove, StateView, Tableau, row_at, start_of}
 use Rattle.sg_lp.specs.Moves.{AreAbove, Exchanges, IsLeaving, IsNext, Runs, first_shown, gap_of, move_steps, products_of}
 use Rattle.sg_lp.specs.declared.column.Enter.{Enter}
@@ -16,10 +16,10 @@ use Rattle.sg_lp.proofs.Runs.{never_twice, next-rises, short-run}
 use Rattle.sg_lp.proofs.Starts.{start_state}
 use Rattle.sg_simplex.specs.declared.turn.Turn.{Turn}
 use Rattle.sg_simplex.specs.declared.turn.Turn.TheVariants as turn
-use Rattle.sg_simplex.specs.Nodes.{IsKept, IsNode, NodeView}
+use Rattle.sg_simplex.specs.Nodes.{IsKept, IsProgramNode, NodeView}
 use Rattle.sg_simplex.specs.Trying.{IsMisfit, MayExchange}
 use Rattle.sg_simplex.specs.declared.trying.Misfit.{Misfit}
-use Rattle.sg_simplex.specs.Turns.{EntersBy, HasMoved, IsDone, IsPriced, Pricer, Stays, Turns}
+use Rattle.sg_simplex.specs.Turns.{EntersBy, HasMoved, IsAtEnd, IsPriced, Pricer, Stays, Turns}
 use Rattle.sg_simplex.proofs.Causes.{entering_of}
 
 -- ---- pricing
@@ -31,10 +31,10 @@ clean_told spent n e = cc
 clean_told (wide name w) n e = cc
 
 -- where pricing finds nothing the state is final
-pub done_by : (p : Program) (price : Pricer) (t : Tableau) (looks need n : ℕ) → AreAbove t.y → told.Clean n ≡ told_of (price t.y t.rho looks) → Says p t.y t.rho need looks (price t.y t.rho looks) → IsDone p price t looks
+pub done_by : (p : Program) (price : Pricer) (t : Tableau) (looks need n : ℕ) → AreAbove t.y → told.Clean n ≡ told_of (price t.y t.rho looks) → AnswerMeans p t.y t.rho need looks (price t.y t.rho looks) → IsAtEnd p price t looks
 done_by p price t looks need n above is says =
     let answer = clean_told (price t.y t.rho looks) n (sym is) in
-    let none = subst (Says p t.y t.rho need looks) answer says in
+    let none = subst (AnswerMeans p t.y t.rho need looks) answer says in
     record { final = record { above = above; none = none.0 }; count = n; priced = record { above = above; answers = answer } }
 
 -- ---- a move
@@ -59,18 +59,18 @@ module _ (p : Program) (price : Pricer) (t u : Tableau) (s : Enter) (q : List �
     fit = subst (λ (k : ℕ). first_shown (move_steps p t next.entering k) ≡ None) (sym same_row) (subst (λ (z : Enter). first_shown (move_steps p t z r) ≡ None) (sym same_member) m.fit);
   }
 
-  pub next_node : Runs p steps t → IsNode p t steps → IsNode p u (steps + 1)
+  pub next_node : Runs p steps t → IsProgramNode p t steps → IsProgramNode p u (steps + 1)
   next_node run node = record { sized = node.sized; bounded = node.bounded; run = rw add-one (t, run, next); state = next.state }
 
 -- ---- of nodes
-module _ {F : Type 0} (program : F → Program) (price : F → Pricer) (v u : NodeView F) (node : IsNode (program v.family) v.tableau v.steps) where
-  pub node_of : (a : Turn) → Turns program price v u a → IsNode (program u.family) u.tableau u.steps
-  node_of turn.Moved h = subst (λ (x : NodeView F). IsNode (program x.family) x.tableau x.steps) (sym h.1)
+module _ {F : Type 0} (program : F → Program) (price : F → Pricer) (v u : NodeView F) (node : IsProgramNode (program v.family) v.tableau v.steps) where
+  pub node_of : (a : Turn) → Turns program price v u a → IsProgramNode (program u.family) u.tableau u.steps
+  node_of turn.Moved h = subst (λ (x : NodeView F). IsProgramNode (program x.family) x.tableau x.steps) (sym h.1)
       (record { sized = node.sized; bounded = node.bounded; run = rw add-one (v.tableau, node.run, h.0.next); state = h.0.next.state })
-  node_of turn.Done h = subst (λ (x : NodeView F). IsNode (program x.family) x.tableau x.steps) (sym h.1) node
-  node_of turn.PivotsSpent h = subst (λ (x : NodeView F). IsNode (program x.family) x.tableau x.steps) (sym h.1) node
-  node_of turn.LooksSpent h = subst (λ (x : NodeView F). IsNode (program x.family) x.tableau x.steps) (sym h.1) node
-  node_of (turn.Wide name w) h = subst (λ (x : NodeView F). IsNode (program x.family) x.tableau x.steps) (sym h.1) node
+  node_of turn.Done h = subst (λ (x : NodeView F). IsProgramNode (program x.family) x.tableau x.steps) (sym h.1) node
+  node_of turn.PivotsSpent h = subst (λ (x : NodeView F). IsProgramNode (program x.family) x.tableau x.steps) (sym h.1) node
+  node_of turn.LooksSpent h = subst (λ (x : NodeView F). IsProgramNode (program x.family) x.tableau x.steps) (sym h.1) node
+  node_of (turn.Wide name w) h = subst (λ (x : NodeView F). IsProgramNode (program x.family) x.tableau x.steps) (sym h.1) node
 
   pub rises_of : (a : Turn) → Turns program price v u a → a ≡ turn.Moved → StandsAbove (program v.family) u.tableau v.tableau
   rises_of a h e = let m = subst (Turns program price v u) e h in next-rises (program v.family) v.tableau u.tableau node.state m.0.next
@@ -98,8 +98,8 @@ module _ {F : Type 0} (program : F → Program) (price : F → Pricer) (v u : No
 -- ---- as a node is seen
 module _ {F : Type 0} (program : F → Program) (price : F → Pricer) (v : NodeView F) (family : F) (t : Tableau) (width steps pivots looks : ℕ)
     (is : ◌≡◌ {A = NodeView F} (record { family = family; tableau = t; width = width; steps = steps; pivots = pivots; looks = looks }) v) where
-  pub node_by : IsNode (program family) t steps → IsNode (program v.family) v.tableau v.steps
-  node_by node = subst (λ (x : NodeView F). IsNode (program x.family) x.tableau x.steps) is node
+  pub node_by : IsProgramNode (program family) t steps → IsProgramNode (program v.family) v.tableau v.steps
+  node_by node = subst (λ (x : NodeView F). IsProgramNode (program x.family) x.tableau x.steps) is node
 
   pub enters_by : (s : Enter) → EntersBy (program v.family) (price v.family) v.tableau v.looks s → EntersBy (program family) (price family) t looks s
   enters_by s h = subst (λ (x : NodeView F). EntersBy (program x.family) (price x.family) x.tableau x.looks s) (sym is) h
@@ -116,7 +116,7 @@ module _ {F : Type 0} (program : F → Program) (price : F → Pricer) (v : Node
       (inr (record { member = s; enters = enters; row = h.row; leaves = h.leaves; room = room; shown = h.shown }), refl)
 
 -- a node at the slacks
-pub kept_start : (p : Program) (h : ℕ) (s : StateView) (w entries products : ℕ) → h ≡ p.height → s ≡ record { tableau = start_of h; width = w } → IsSized p → IsBounded p → entries ≡ h → products ≡ h → IsKept p s.tableau 0 entries products
+pub kept_start : (p : Program) (h : ℕ) (s : StateView) (w entries products : ℕ) → h ≡ p.height → s ≡ record { tableau = start_of h; width = w } → IsWithinLimits p → IsBounded p → entries ≡ h → products ≡ h → IsKept p s.tableau 0 entries products
 kept_start p h s w entries products eh es sized bounded ee eq =
     let is : s.tableau ≡ start_of p.height = ap (λ (x : StateView). x.tableau) es ∙ ap start_of eh in
     record {

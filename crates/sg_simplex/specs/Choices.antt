@@ -7,13 +7,13 @@ use Rattle.sg_simplex.specs.declared.choosing.Choice.{Choice}
 use Rattle.sg_simplex.specs.declared.choosing.Choice.TheVariants.{Enters, Ends}
 use Rattle.sg_simplex.specs.declared.turn.Turn.{Turn}
 use Rattle.sg_simplex.specs.declared.turn.Turn.TheVariants as turn
-use Rattle.sg_simplex.specs.Turns.{EntersBy, IsDone, IsPriced, Pricer}
+use Rattle.sg_simplex.specs.Turns.{EntersBy, IsAtEnd, IsPriced, Pricer}
 
 -- what pricing ends a node with
 abbrev pub EndsWith : Program → Pricer → Tableau → ℕ → Turn → Type 0
 EndsWith p price t looks turn.Moved = ⊥
 EndsWith p price t looks turn.PivotsSpent = ⊥
-EndsWith p price t looks turn.Done = IsDone p price t looks
+EndsWith p price t looks turn.Done = IsAtEnd p price t looks
 EndsWith p price t looks turn.LooksSpent = IsPriced price t looks spent
 EndsWith p price t looks (turn.Wide name w) = IsPriced price t looks (wide name w)
 

@@ -1,9 +1,9 @@
 -- A move that is tried before anything is written.
 use Rattle.std.specs.Prelude.{◌≡◌, ℕ, List, ℤ, Some, None, Result, Ok, Err}
-use Rattle.sg_rows.specs.Steps.{first_wide}
+use Rattle.sg_num.specs.Operations.{first_wide}
 use Rattle.sg_lp.specs.Programs.{Program}
 use Rattle.sg_lp.specs.States.{Tableau}
-use Rattle.sg_lp.specs.Moves.{IsLeaving, first_shown, gap_of, move_steps, multiplier_steps, product_steps, products_of, row_steps}
+use Rattle.sg_lp.specs.Moves.{IsLeaving, first_shown, gap_of, move_steps, multiplier_steps, row_product_steps, products_of, row_steps}
 use Rattle.sg_lp.specs.declared.column.Enter.{Enter}
 use Rattle.sg_simplex.specs.declared.trying.Exchange.{Exchange}
 use Rattle.sg_simplex.specs.declared.trying.Misfit.{Misfit}
@@ -12,11 +12,11 @@ use Rattle.sg_simplex.specs.declared.trying.Misfit.{Misfit}
 pub record HasLeaving (p : Program) (t : Tableau) (s : Enter) (q : List ℤ) (r : ℕ) : Type 0 where
   pub leaves : IsLeaving p t s r
   pub products : q ≡ products_of p t s
-  pub fit : first_wide (product_steps p t s) ≡ None
+  pub fit : first_wide (row_product_steps p t s) ≡ None
 
 abbrev pub FindsLeaving : Program → Tableau → Enter → List ℤ → Result ℕ Misfit → Type 0
 FindsLeaving p t s q (Ok r) = HasLeaving p t s q r
-FindsLeaving p t s q (Err m) = (m.name ≡ 2) × (first_wide (product_steps p t s) ≡ Some m.wide)
+FindsLeaving p t s q (Err m) = (m.name ≡ 2) × (first_wide (row_product_steps p t s) ≡ Some m.wide)
 
 -- all values of the move fit
 pub record MayExchange (p : Program) (t : Tableau) (s : Enter) (q : List ℤ) (r : ℕ) (gap : ℤ) : Type 0 where

@@ -21,7 +21,7 @@ pub record IsPriced (price : Pricer) (t : Tableau) (looks : ℕ) (answer : Answe
   pub answers : price t.y t.rho looks ≡ answer
 
 -- the state is final, and pricing found no column
-pub record IsDone (p : Program) (price : Pricer) (t : Tableau) (looks : ℕ) : Type 0 where
+pub record IsAtEnd (p : Program) (price : Pricer) (t : Tableau) (looks : ℕ) : Type 0 where
   pub final : IsFinal p t
   pub count : ℕ
   pub priced : IsPriced price t looks (clean count)
@@ -49,7 +49,7 @@ pub record IsWideMove (p : Program) (price : Pricer) (t : Tableau) (steps pivots
 -- the causes of the answers after which a node stays as it was
 abbrev pub Stays : Program → Pricer → Tableau → (steps pivots looks : ℕ) → Turn → Type 0
 Stays p price t steps pivots looks turn.Moved = ⊥
-Stays p price t steps pivots looks turn.Done = IsDone p price t looks
+Stays p price t steps pivots looks turn.Done = IsAtEnd p price t looks
 Stays p price t steps pivots looks turn.PivotsSpent = IsSpent p price t steps pivots looks
 Stays p price t steps pivots looks turn.LooksSpent = IsPriced price t looks spent
 Stays p price t steps pivots looks (turn.Wide name w) = IsPriced price t looks (wide name w) ⊎ IsWideMove p price t steps pivots looks name w

@@ -1,7 +1,7 @@
 //! What enters at a state.
 
 ghost use Rattle.std.specs.Prelude.{◌≡◌, length};
-ghost use Rattle.sg_lp.specs.Programs.{IsSized};
+ghost use Rattle.sg_lp.specs.Programs.{IsWithinLimits};
 ghost use Rattle.sg_lp.specs.Moves.{AreAbove};
 ghost use Rattle.sg_simplex.specs.Choices.{Chooses};
 
@@ -36,7 +36,7 @@ fn priced<F: Family>(family: &F, state: &State, looks: u64) -> Choice
 
 /// What happens at a state: the slack of the least row with a multiplier below 0 enters, else pricing decides.
 pub(crate) fn choose<F: Family>(family: &F, state: &State, looks: u64) -> Choice
-    requires sized { IsSized (F.program family.now) }
+    requires sized { IsWithinLimits (F.program family.now) }
     requires long { length state.now.tableau.y ≡ (F.program family.now).height }
     ensures { Chooses (F.program family.now) (F.answer family.now) state.now.tableau looks result }
 {

@@ -4,7 +4,7 @@ ghost use Rattle.std.specs.Prelude.{◌≡◌, ◌<◌, ◌-◌, [], ◌∷◌, 
 ghost use Rattle.std.specs.List.{range_with_len};
 ghost use Rattle.sg_linear.specs.Sums.{unit};
 ghost use Rattle.sg_num.specs.Exact.{and_then, exact_less, exact_times};
-ghost use Rattle.sg_rows.specs.Steps.{first_wide, formed, minus, times};
+ghost use Rattle.sg_num.specs.Operations.{first_wide, formed, minus, times};
 ghost use Rattle.sg_rows.specs.Rows.{combine_steps, dot_from, dot_steps, place};
 ghost use Rattle.sg_lp.specs.Programs.{IsMember, member_cost, member_entry};
 ghost use Rattle.sg_lp.specs.Moves.{entries_of, multiplier_steps, row_steps, row_steps_at};

@@ -4,7 +4,7 @@ ghost use Rattle.std.specs.Prelude.{◌≡◌, ◌↔◌, ℕ, ◌+◌, ◌<◌,
 ghost use Rattle.std.specs.Ordering.{int_cmp};
 ghost use Rattle.sg_linear.specs.Sums.{LexPositive, combined};
 ghost use Rattle.sg_rows.specs.Rows.{place};
-ghost use Rattle.sg_simplex.specs.Least.{AreApart, Below, Least};
+ghost use Rattle.sg_simplex.specs.Least.{AreNeverEqual, Below, Least};
 
 use sg_frac::quotient_order;
 use sg_lp::State;
@@ -56,7 +56,7 @@ fn better(state: &State, products: &[i128], best: Option<usize>, k: usize) -> Op
     requires in_rows { k < length state.now.tableau.rows }
     requires square { All (λ row. length row ≡ length state.now.tableau.rows) state.now.tableau.rows }
     requires long { length products.now ≡ length state.now.tableau.rows }
-    requires apart { AreApart (length state.now.tableau.rows) state.now.tableau.rows products.now }
+    requires apart { AreNeverEqual (length state.now.tableau.rows) state.now.tableau.rows products.now }
     requires best { Least (length state.now.tableau.rows) state.now.tableau.rows products.now k best }
     ensures { Least (length state.now.tableau.rows) state.now.tableau.rows products.now (k + 1) result }
 {
@@ -79,7 +79,7 @@ fn better(state: &State, products: &[i128], best: Option<usize>, k: usize) -> Op
 pub(crate) fn least_row(state: &State, products: &[i128]) -> Option<usize>
     requires square { All (λ row. length row ≡ length state.now.tableau.rows) state.now.tableau.rows }
     requires long { length products.now ≡ length state.now.tableau.rows }
-    requires apart { AreApart (length state.now.tableau.rows) state.now.tableau.rows products.now }
+    requires apart { AreNeverEqual (length state.now.tableau.rows) state.now.tableau.rows products.now }
     ensures { Least (length state.now.tableau.rows) state.now.tableau.rows products.now (length state.now.tableau.rows) result }
 {
     let mut best = None;

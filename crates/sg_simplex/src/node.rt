@@ -3,7 +3,7 @@
 ghost use Rattle.std.specs.Prelude.{◌≡◌, ◌+◌, ◌≤◌, length, IfOk, OnErr, OnOk};
 ghost use Rattle.sg_lp.specs.States.{start_of};
 ghost use Rattle.sg_lp.specs.Pooled.{GivesBack, taken_from};
-ghost use Rattle.sg_simplex.specs.Nodes.{IsNode};
+ghost use Rattle.sg_simplex.specs.Nodes.{IsProgramNode};
 
 use sg_lp::{Family, State};
 use sg_pool::Pool;
@@ -98,7 +98,7 @@ impl<F: Family + Drop> Node<F> {
     pub fn state(&self) -> &State
         ensures tableau { result.now.tableau ≡ self.now.tableau }
         ensures width { result.now.width ≡ self.now.width }
-        ensures kept { IsNode (F.program self.now.family) self.now.tableau self.now.steps }
+        ensures kept { IsProgramNode (F.program self.now.family) self.now.tableau self.now.steps }
     {
         &self.state
     }

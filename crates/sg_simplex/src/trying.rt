@@ -1,7 +1,7 @@
 //! A move tried before anything is written.
 
 ghost use Rattle.std.specs.Prelude.{◌≡◌, length};
-ghost use Rattle.sg_lp.specs.Programs.{IsBounded, IsSized};
+ghost use Rattle.sg_lp.specs.Programs.{IsBounded, IsWithinLimits};
 ghost use Rattle.sg_lp.specs.States.{IsTableau};
 ghost use Rattle.sg_lp.specs.Moves.{IsEntering, entries_of};
 ghost use Rattle.sg_simplex.specs.Trying.{FindsLeaving, Tries};

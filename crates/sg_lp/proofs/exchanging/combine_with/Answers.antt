@@ -3,7 +3,7 @@ use Rattle.std.specs.Int.{w128}
 use Rattle.std.specs.Prelude.{FitsSigned, ℤ, ◌-ℤ◌, ◌*ℤ◌}
 use Rattle.std.proofs.lemmas.Int.{to_z-of_z}
 use Rattle.sg_num.specs.declared.step.Wide.{Wide}
-use Rattle.sg_rows.specs.Steps.{first_wide}
+use Rattle.sg_num.specs.Operations.{first_wide}
 use Rattle.sg_rows.specs.Rows.{IsLowest, combine_steps, combined_rows}
 use Rattle.sg_rows.proofs.Combined.{combine_steps-end, combined_rows-end}
 use Rattle.sg_rows.proofs.Fitting.{back-fits, front-fits}

@@ -1,7 +1,7 @@
 use Rattle.std.proofs.Common.{◌≡◌, drop}
 use Rattle.std.specs.Prelude.{Result}
 use Rattle.sg_num.specs.declared.step.Wide.{Wide}
-use Rattle.sg_rows.specs.Steps.{formed}
+use Rattle.sg_num.specs.Operations.{formed}
 use Rattle.sg_rows.specs.Rows.{combine_steps}
 use Rattle.sg_rows.proofs.combining.combination_fits.Given as goal
 

@@ -1,5 +1,5 @@
 use Rattle.std.proofs.Common.{◌≡◌, drop, pos}
-use Rattle.sg_rows.specs.Steps.{formed}
+use Rattle.sg_num.specs.Operations.{formed}
 use Rattle.sg_rows.specs.Rows.{dot_from, dot_steps}
 use Rattle.sg_rows.proofs.summing.dot.Given as goal
 

@@ -2,7 +2,7 @@ use Rattle.std.proofs.Common.{◌∙◌, [], ◌∷◌, sym, rules, pos}
 use Rattle.std.specs.Int.{w128, w64}
 use Rattle.std.specs.Prelude.{FitsSigned, ◌-ℤ◌, ◌*ℤ◌}
 use Rattle.std.proofs.lemmas.Int.{to_z-of_z}
-use Rattle.sg_rows.specs.Steps.{minus, times}
+use Rattle.sg_num.specs.Operations.{minus, times}
 use Rattle.sg_rows.specs.Rows.{dot_from, dot_steps}
 use Rattle.sg_simplex.proofs.Gaps.{gap_formed, gap_stops}
 use Rattle.sg_simplex.proofs.fitting.gap.Goals as goal

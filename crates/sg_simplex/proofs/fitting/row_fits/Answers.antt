@@ -3,7 +3,7 @@ use Rattle.std.specs.Int.{w128}
 use Rattle.std.specs.Prelude.{FitsSigned, ℤ}
 use Rattle.std.proofs.lemmas.Int.{to_z-of_z}
 use Rattle.sg_num.specs.declared.step.Wide.{Wide}
-use Rattle.sg_rows.specs.Steps.{formed}
+use Rattle.sg_num.specs.Operations.{formed}
 use Rattle.sg_rows.specs.Rows.{combine_steps, place}
 use Rattle.sg_simplex.proofs.Rowwise.{leaving_steps, other_steps}
 use Rattle.sg_simplex.proofs.fitting.row_fits.Goals as goal

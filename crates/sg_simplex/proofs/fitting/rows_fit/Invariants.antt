@@ -1,5 +1,5 @@
 use Rattle.std.proofs.Common.{◌≡◌}
-use Rattle.sg_rows.specs.Steps.{formed}
+use Rattle.sg_num.specs.Operations.{formed}
 use Rattle.sg_lp.specs.Moves.{row_steps}
 use Rattle.sg_simplex.proofs.Rowwise.{Told, from_row}
 use Rattle.sg_simplex.proofs.fitting.rows_fit.Given as goal

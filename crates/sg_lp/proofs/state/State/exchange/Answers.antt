@@ -3,7 +3,7 @@ use Rattle.std.specs.Int.{w128}
 use Rattle.std.specs.Prelude.{FitsSigned, ℤ}
 use Rattle.std.proofs.lemmas.Int.{to_z-of_z}
 use Rattle.std.proofs.lemmas.List.{length-map, length-set, take_at}
-use Rattle.sg_rows.specs.Steps.{first_wide}
+use Rattle.sg_num.specs.Operations.{first_wide}
 use Rattle.sg_lp.specs.Exchanging.{ListsExchanged, OthersFit}
 use Rattle.sg_lp.specs.Moves.{Exchanges, row_steps}
 use Rattle.sg_lp.specs.States.{AreHeld, StateView, held_tableau}
