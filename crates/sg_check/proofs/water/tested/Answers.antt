@@ -26,3 +26,6 @@ bound-requires-clause-some c =
     let d : to_z w128 (of_z w128 c.den.result) ≡ c.args.level.now.den = to_z-of_z w128 c.den.result q ∙ c.den.ensures.value in
     let lowest = subst IsReduced (λ i. record { num = (sym n) i; den = (sym d) i }) c.den.ensures.reduced in
     (water-bounding g c.promises.ensures (fillable g c.promises.ensures c.requires) (to_z w128 (of_z w128 c.num.result)) (to_z w128 (of_z w128 c.den.result)) lowest c.args.reason.now (c.if-is_level.ensures.0 refl)).1
+
+pub bound-requires-clause-fillable : goal.bound-requires-clause-fillable
+bound-requires-clause-fillable c = fillable c.args.game.now c.promises.ensures c.requires
