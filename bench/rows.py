@@ -88,13 +88,18 @@ def seconds(command, want):
     return least
 
 
-def build(folder, name, crates, main):
-    """The path of a proved program over crates of this repository."""
+def build(folder, name, crates, main, proofs=None):
+    """The path of a proved program over crates of this repository, with files of proofs by their path."""
     for crate in crates:
         shutil.copytree(os.path.join(TOP, "crates", crate), os.path.join(folder, "crates", crate), ignore=shutil.ignore_patterns("out"))
     os.makedirs(os.path.join(folder, "crates", name, "src"))
     with open(os.path.join(folder, "crates", name, "src", "main.rt"), "w") as file:
         file.write(main)
+    for path, text in (proofs or {}).items():
+        whole = os.path.join(folder, "crates", name, "proofs", path)
+        os.makedirs(os.path.dirname(whole), exist_ok=True)
+        with open(whole, "w") as file:
+            file.write(text)
     with open(os.path.join(TOP, "crates.txt")) as file:
         lines = [line for line in file if line.split(":")[0] in crates]
     with open(os.path.join(folder, "crates.txt"), "w") as file:

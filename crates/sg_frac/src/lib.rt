@@ -29,8 +29,8 @@ mod laws;
 mod order;
 
 pub use frac::Frac;
-pub use order::quotient_order;
 pub use laws::{
-    operations_are_undone, order_is_of_difference, order_is_total, reduced_form_is_unique,
-    whole_numbers_are_closest,
+    first_wide_is_first, operations_are_undone, order_is_of_difference, order_is_total,
+    reduced_form_is_unique, whole_numbers_are_closest,
 };
+pub use order::quotient_order;

@@ -1,15 +1,14 @@
 -- Rows exchanged one after the other.
 use Rattle.std.proofs.Common.{◌≡◌, ◌≢◌, ℕ, ◌+◌, ◌<◌, ◌≤◌, ◌⊎◌, inl, inr, false, List, [], ◌∷◌, ◌++◌, length, map, take, slice_index_or, slice_set, None, refl, ap, arith, sym, ◌∙◌, subst}
-use Rattle.std.specs.Prelude.{ℤ, pos, All, nat_eq}
+use Rattle.std.specs.Prelude.{ℤ, pos, nat_eq}
 use Rattle.std.proofs.lemmas.List.{get_or-map, get_or-set_other, get_or-set_same, get_or_read, length-map, length-set}
-use Rattle.sg_num.specs.declared.step.Wide.{Wide}
 use Rattle.sg_linear.proofs.Lex.{same_or}
 use Rattle.sg_num.specs.Operations.{first_wide}
 use Rattle.sg_rows.specs.Rows.{IsLowest, combine_steps, combined_rows, place}
 use Rattle.sg_rows.proofs.Fitting.{part-fits}
 use Rattle.sg_lp.specs.Exchanging.{ListsExchanged, OthersCombined, OthersFit, denominated, front_of}
-use Rattle.sg_lp.specs.States.{Tableau, held_tableau, row_at}
-use Rattle.sg_lp.specs.Moves.{Exchanges, multiplier_steps, row_steps, row_steps_at, with_denominator, with_zero}
+use Rattle.sg_lp.specs.States.{Tableau, held_tableau}
+use Rattle.sg_lp.specs.Moves.{Exchanges, multiplier_steps, row_steps, row_steps_at}
 use Rattle.sg_lp.specs.declared.column.Enter.{Enter}
 
 last : (m k : ℕ) → k < m + 1 → (k < m) ⊎ (k ≡ m)

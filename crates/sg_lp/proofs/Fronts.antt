@@ -1,8 +1,8 @@
 -- The first places of rows.
-use Rattle.std.proofs.Common.{◌≡◌, ℕ, ◌+◌, ◌-◌, ◌<◌, ◌≤◌, List, [], ◌∷◌, ◌++◌, length, map, take, slice_index_or, replicate, refl, ap, arith, sym, ◌∙◌, subst}
+use Rattle.std.proofs.Common.{◌≡◌, ℕ, ◌+◌, ◌-◌, ◌<◌, List, [], ◌∷◌, ◌++◌, length, map, take, slice_index_or, replicate, ap, arith, sym, ◌∙◌, subst}
 use Rattle.std.specs.Prelude.{ℤ, pos, All}
 use Rattle.std.specs.List.{range_with_len}
-use Rattle.std.proofs.lemmas.List.{ext_get_or, get_or-replicate, length-map, length-replicate, length-take, map_push, take-take}
+use Rattle.std.proofs.lemmas.List.{ext_get_or, get_or-replicate, length-replicate, length-take, map_push, take-take}
 use Rattle.std.proofs.lemmas.List.Elements.{All-append, All-cons, All-from_get_or, All-nil}
 use Rattle.std.proofs.lemmas.List.FromFn.{get_or-map-range_with_len, length-map-range_with_len, map-range_with_len_more}
 use Rattle.sg_linear.specs.Sums.{unit}

@@ -1,6 +1,6 @@
 -- The products of the lists of a state with a member's entries.
-use Rattle.std.proofs.Common.{◌≡◌, ℕ, ◌<◌, List, [], length, ap, arith, ◌∙◌}
-use Rattle.std.specs.Prelude.{ℤ, pos}
+use Rattle.std.proofs.Common.{◌≡◌, ℕ, ◌<◌, [], length, arith, ◌∙◌}
+use Rattle.std.specs.Prelude.{pos}
 use Rattle.std.proofs.lemmas.List.{get_or-map, length-map}
 use Rattle.sg_linear.specs.Sums.{dot}
 use Rattle.sg_rows.specs.Rows.{place}

@@ -1,6 +1,5 @@
 -- A number for each slack and each column of a program.
-use Rattle.std.proofs.Common.{◌≡◌, ℕ, zero, suc, ◌+◌, ◌<◌, ◌≤◌, List, [], ◌∷◌, Bool, true, false, cond, eqb, length, slice_index_or, refl, ap, arith, sym, ◌∙◌, subst}
-use Rattle.std.specs.List.{Contains}
+use Rattle.std.proofs.Common.{◌≡◌, ℕ, zero, suc, ◌+◌, ◌<◌, List, [], ◌∷◌, Bool, true, false, cond, eqb, length, slice_index_or, refl, ap, arith, sym, ◌∙◌, subst}
 use Rattle.std.proofs.lemmas.List.{get_or_default}
 use Rattle.sg_lp.specs.Programs.{IsMember, Program}
 use Rattle.sg_lp.specs.declared.column.Column.{Column}

@@ -1,18 +1,16 @@
 -- Runs of the method: there is one, its multipliers rise, no basis comes twice, and it is no longer than there are bases.
 use Rattle.std.proofs.Common.{◌≡◌, ◌≢◌, ℕ, zero, suc, ◌+◌, ◌<◌, ◌≤◌, List, [], ◌∷◌, Bool, map, length, refl, ap, arith, sym, ◌∙◌, subst}
-use Rattle.std.specs.Prelude.{ℤ, pos, All, length}
+use Rattle.std.specs.Prelude.{All, length}
 use Rattle.std.proofs.lemmas.List.{length-map}
-use Rattle.std.proofs.lemmas.List.Elements.{All-cons, All-head, All-nil, All-tail, All-weaker}
-use Rattle.sg_linear.specs.Tableau.{IsState}
+use Rattle.std.proofs.lemmas.List.Elements.{All-cons, All-head, All-nil, All-tail}
 use Rattle.sg_linear.proofs.Choices.{Distinct, Each, IsChoice, length-choices}
 use Rattle.sg_linear.proofs.Chosen.{chosen, chosen-choice, same-chosen}
 use Rattle.sg_linear.proofs.MoveLaws.{move-rises}
 use Rattle.sg_linear.proofs.RunLaws.{above-trans, same-members}
 use Rattle.sg_rows.specs.Rows.{place}
 use Rattle.sg_lp.specs.Programs.{IsMember, IsWithinLimits, Program, enough_pivots, member_cost, member_entry}
-use Rattle.sg_lp.specs.States.{AreApart, HaveSameBasis, IsTableau, StandsAbove, Tableau, member_at, row_at, start_of}
+use Rattle.sg_lp.specs.States.{AreApart, HaveSameBasis, IsTableau, StandsAbove, Tableau, member_at, row_at}
 use Rattle.sg_lp.specs.Moves.{IsNext, Runs}
-use Rattle.sg_lp.specs.declared.column.Enter.{Enter}
 use Rattle.sg_lp.specs.declared.column.Enter.TheVariants.{Slack}
 use Rattle.sg_lp.proofs.Nexts.{next-one}
 use Rattle.sg_lp.proofs.Numbered.{number-below, number-one, number_of}
@@ -88,9 +86,10 @@ module _ (p : Program) where
 
   others_apart : (t : Tableau) (ts : List Tableau) → IsTableau p t → All (IsTableau p) ts → All (λ u. ¬ (HaveSameBasis p u t)) ts → Each (λ f. choice t ≢ f) (map choice ts)
   others_apart t [] st h a = tt
-  others_apart t (u ∷ us) st h a =
-      (λ e. All-head (λ (x : Tableau). ¬ (HaveSameBasis p x t)) u us a (same_choice u t (All-head (IsTableau p) u us h) st (sym e)),
-      others_apart t us st (All-tail (IsTableau p) u us h) (All-tail (λ (x : Tableau). ¬ (HaveSameBasis p x t)) u us a))
+  others_apart t (u ∷ us) st h a = (
+    λ e. All-head (λ (x : Tableau). ¬ (HaveSameBasis p x t)) u us a (same_choice u t (All-head (IsTableau p) u us h) st (sym e)),
+    others_apart t us st (All-tail (IsTableau p) u us h) (All-tail (λ (x : Tableau). ¬ (HaveSameBasis p x t)) u us a),
+  )
 
   all_apart : (ts : List Tableau) → All (IsTableau p) ts → AreApart p ts → Distinct (map choice ts)
   all_apart [] h a = tt

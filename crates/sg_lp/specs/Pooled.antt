@@ -1,5 +1,5 @@
 -- Rows that go from a pool to a state and back.
-use Rattle.std.specs.Prelude.{◌≡◌, ℕ, ◌+◌, ◌-◌, List, length, take, ℤ}
+use Rattle.std.specs.Prelude.{◌≡◌, ℕ, ◌+◌, ◌-◌, length, take}
 use Rattle.sg_pool.specs.Pools.{PoolView}
 
 -- the pool without its last n free rows

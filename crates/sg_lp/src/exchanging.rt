@@ -62,13 +62,7 @@ fn combine_listed(
 }
 
 /// Each row but the leaving one combined with the pivot.
-fn combine_others(
-    rows: &mut [Row],
-    height: usize,
-    products: &[i128],
-    leaving: usize,
-    pivot: &Row,
-)
+fn combine_others(rows: &mut [Row], height: usize, products: &[i128], leaving: usize, pivot: &Row)
     requires wide { All (λ row. height ≤ length row) rows.old }
     requires pivot_wide { height ≤ length pivot.now }
     requires within { leaving < length rows.old }

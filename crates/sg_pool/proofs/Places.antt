@@ -1,5 +1,5 @@
 -- Rows with other numbers in their places.
-use Rattle.std.proofs.Common.{◌≡◌, ℕ, List, [], ◌++◌, length, take, drop, ap, arith, ◌∙◌, sym}
+use Rattle.std.proofs.Common.{◌≡◌, List, length, drop}
 use Rattle.std.specs.Prelude.{ℤ}
 use Rattle.std.proofs.lemmas.List.{take_at}
 use Rattle.sg_pool.specs.Lending.{with_places}

@@ -1,5 +1,5 @@
 -- What a row holds after its places were lent.
-use Rattle.std.specs.Prelude.{List, [], length, take, drop, ◌++◌, ℤ}
+use Rattle.std.specs.Prelude.{List, length, take, drop, ◌++◌, ℤ}
 use Rattle.std.specs.Borrow.{Array, Lends, MutBor, Fml, i128}
 use Rattle.sg_pool.specs.contracts.row.Row.{the_row}
 

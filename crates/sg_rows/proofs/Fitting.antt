@@ -1,11 +1,11 @@
 -- Lists of operations that all fit.
 use Rattle.std.proofs.Common.{◌≡◌, ℕ, zero, suc, ◌+◌, ◌<◌, Bool, true, false, cond, List, [], ◌∷◌, ◌++◌, flat_map, length, refl, arith, sym, ◌∙◌, subst, Option, Some, None, Result, Ok, Err}
 use Rattle.std.specs.List.{range_with_len}
-use Rattle.std.specs.Prelude.{ℤ, pos, ◌-ℤ◌, ◌*ℤ◌, IsTrue, FitsSigned}
+use Rattle.std.specs.Prelude.{ℤ, ◌-ℤ◌, ◌*ℤ◌, FitsSigned}
 use Rattle.std.specs.Int.{w128}
 use Rattle.sg_num.specs.declared.step.Wide.{Wide}
 use Rattle.sg_num.proofs.Steps.{FitsSigned-from_fits}
-use Rattle.sg_num.specs.Exact.{and_then, fits}
+use Rattle.sg_num.specs.Exact.{and_then}
 use Rattle.sg_num.specs.Operations.{first_wide, formed, is_formed, minus, times}
 use Rattle.sg_rows.specs.Rows.{combine_steps, place}
 

@@ -1,9 +1,7 @@
 -- An answer has one cause.
-use Rattle.std.proofs.Common.{◌≡◌, ℕ, ◌<◌, ◌≤◌, ◌⊎◌, inl, inr, List, ap, arith, refl, sym, ◌∙◌, subst, Option, Some, None}
-use Rattle.std.specs.Prelude.{ℤ, pos, ◌≤ℤ◌, ◌<ℤ◌}
+use Rattle.std.proofs.Common.{◌≡◌, ℕ, ◌<◌, ◌≤◌, ◌⊎◌, inl, inr, ap, arith, refl, sym, ◌∙◌, subst, Option, Some, None}
 use Rattle.std.proofs.lemmas.Int.{ints}
 use Rattle.sg_linear.proofs.MoveLaws.{leaves-unique}
-use Rattle.sg_num.specs.declared.step.Wide.{Wide}
 use Rattle.sg_rows.specs.Rows.{place}
 use Rattle.sg_lp.specs.Programs.{Program, member_entry}
 use Rattle.sg_lp.specs.Pricing.{Answer, clean, found, spent, wide}

@@ -1,5 +1,5 @@
 -- Appended lists of operations, formed one after the other.
-use Rattle.std.proofs.Common.{◌≡◌, Bool, true, false, cond, List, [], ◌∷◌, ◌++◌, ℤ, pos, refl, ap, sym, ◌∙◌, subst, Result, Ok, Err, length}
+use Rattle.std.proofs.Common.{◌≡◌, Bool, true, false, cond, List, [], ◌∷◌, ◌++◌, ℤ, refl, ap, sym, ◌∙◌, Result, Ok, Err, length}
 use Rattle.std.specs.Prelude.{◌-ℤ◌, ◌*ℤ◌}
 use Rattle.sg_num.specs.declared.step.Wide.{Wide}
 use Rattle.sg_num.specs.Exact.{and_then, exact_less, exact_mul_sub, exact_times, fits}

@@ -1,6 +1,6 @@
 -- The row that leaves, by the products as they stand written.
-use Rattle.std.proofs.Common.{◌≡◌, ◌≢◌, ℕ, ◌<◌, ◌⊎◌, inl, inr, List, [], length, ap, arith, sym, ◌∙◌, subst, None}
-use Rattle.std.specs.Prelude.{ℤ, pos, ◌<ℤ◌, ◌≤ℤ◌, slice_index_or}
+use Rattle.std.proofs.Common.{◌≡◌, ℕ, ◌<◌, inl, inr, List, length, ap, arith, sym, ◌∙◌, subst, None}
+use Rattle.std.specs.Prelude.{ℤ, pos, ◌<ℤ◌, ◌≤ℤ◌}
 use Rattle.std.proofs.lemmas.Int.{ints}
 use Rattle.sg_linear.specs.Sums.{LexPositive, combined, dot}
 use Rattle.sg_linear.proofs.RunLaws.{below-either}
@@ -8,7 +8,7 @@ use Rattle.sg_num.specs.Operations.{first_wide}
 use Rattle.sg_rows.specs.Rows.{place}
 use Rattle.sg_lp.specs.Programs.{IsBounded, Program, member_cost, member_entry}
 use Rattle.sg_lp.specs.States.{IsTableau, Tableau, member_at, row_at}
-use Rattle.sg_lp.specs.Moves.{IsEntering, IsLeaving, row_product_steps, products_of}
+use Rattle.sg_lp.specs.Moves.{IsEntering, row_product_steps, products_of}
 use Rattle.sg_lp.specs.declared.column.Enter.{Enter}
 use Rattle.sg_lp.proofs.Leaving.{leaving-one}
 use Rattle.sg_lp.proofs.Multiplied.{product-is}

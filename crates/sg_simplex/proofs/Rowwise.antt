@@ -1,5 +1,5 @@
 -- The products and the combinations of the lists, one row at a time.
-use Rattle.std.proofs.Common.{◌≡◌, ◌≢◌, ℕ, zero, suc, ◌+◌, ◌-◌, ◌<◌, ◌≤◌, Bool, true, false, cond, List, [], ◌∷◌, ◌++◌, map, flat_map, drop, length, slice_index_or, slice_set, pos, ℤ, refl, sym, ◌∙◌, ap, arith, subst, Result, Ok, Err}
+use Rattle.std.proofs.Common.{◌≡◌, ◌≢◌, ℕ, suc, ◌+◌, ◌-◌, ◌<◌, ◌≤◌, Bool, true, false, cond, List, [], ◌∷◌, ◌++◌, map, flat_map, drop, length, slice_index_or, slice_set, pos, ℤ, refl, sym, ◌∙◌, ap, arith, Result, Ok, Err}
 use Rattle.std.specs.Prelude.{nat_eq}
 use Rattle.std.specs.List.{range_with_len}
 use Rattle.std.proofs.lemmas.List.{drop_all, drop_more, ext_get_or, get_or-map, length-map}
@@ -7,7 +7,7 @@ use Rattle.sg_num.specs.declared.step.Wide.{Wide}
 use Rattle.sg_num.specs.Exact.{and_then}
 use Rattle.sg_num.specs.Operations.{formed, is_formed}
 use Rattle.sg_rows.specs.Rows.{combine_steps, dot_from, dot_steps, place}
-use Rattle.sg_rows.proofs.Fitting.{Ok-fits, Err-stops, fits-formed, formed-append}
+use Rattle.sg_rows.proofs.Fitting.{Ok-fits, fits-formed, formed-append}
 use Rattle.sg_lp.specs.Moves.{row_steps, row_steps_at}
 use Rattle.sg_lp.proofs.Ranges.{place_written}
 

@@ -2,7 +2,6 @@
 use Rattle.std.proofs.Common.{◌≡◌, ℕ, ◌+◌, ◌<◌, ◌≤◌, refl, arith, sym, ◌∙◌, subst, add-one, None, ap, inr}
 use Rattle.std.specs.Prelude.{ℤ, List}
 use Rattle.sg_linear.proofs.MoveLaws.{leaves-unique}
-use Rattle.sg_num.specs.declared.step.Wide.{Wide}
 use Rattle.sg_rows.specs.Rows.{place}
 use Rattle.sg_lp.specs.Programs.{IsBounded, IsWithinLimits, Program, enough_pivots, member_entry}
 use Rattle.sg_lp.specs.Pricing.{Answer, AnswerMeans, clean, found, spent, told_of, wide}
@@ -19,7 +18,7 @@ use Rattle.sg_simplex.specs.declared.turn.Turn.TheVariants as turn
 use Rattle.sg_simplex.specs.Nodes.{IsKept, IsProgramNode, NodeView}
 use Rattle.sg_simplex.specs.Trying.{IsMisfit, MayExchange}
 use Rattle.sg_simplex.specs.declared.trying.Misfit.{Misfit}
-use Rattle.sg_simplex.specs.Turns.{EntersBy, HasMoved, IsAtEnd, IsPriced, Pricer, Stays, Turns}
+use Rattle.sg_simplex.specs.Turns.{EntersBy, HasMoved, IsAtEnd, Pricer, Turns}
 use Rattle.sg_simplex.proofs.Causes.{entering_of}
 
 -- ---- pricing

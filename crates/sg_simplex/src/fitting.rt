@@ -149,7 +149,13 @@ fn denominator_fits(rho: i128, p: i128, gap: i128) -> Result<(), Wide>
 }
 
 /// Whether the combination of the multipliers and their denominator with a list and 0 fits.
-fn combination_fits_with(y: &[i128], rho: i128, p: i128, gap: i128, pivot: &[i128]) -> Result<(), Wide>
+fn combination_fits_with(
+    y: &[i128],
+    rho: i128,
+    p: i128,
+    gap: i128,
+    pivot: &[i128],
+) -> Result<(), Wide>
     requires { length y.now ≡ length pivot.now }
     ensures { result ≡ formed (combine_steps p gap (y.now ++ (rho ∷ [])) (pivot.now ++ (pos 0 ∷ []))) tt }
 {

@@ -69,7 +69,12 @@ fn try_lists<F: Family>(
     if let Err(wide) = rows_fit(state, products, row) {
         return Err(Misfit { name: 3, wide });
     }
-    let gap = match gap(state.multipliers(), state.rho(), entries, cost_of(family, member)) {
+    let gap = match gap(
+        state.multipliers(),
+        state.rho(),
+        entries,
+        cost_of(family, member),
+    ) {
         Ok(gap) => gap,
         Err(wide) => return Err(Misfit { name: 2, wide }),
     };

@@ -1,4 +1,4 @@
-use Rattle.sg_lp.proofs.Exchanged.{all_combined, none_combined, one_more, passed}
+use Rattle.sg_lp.proofs.Exchanged.{none_combined}
 use Rattle.sg_lp.proofs.exchanging.combine_others.Goals as goal
 
 pub loop-k-init : goal.loop-k-init

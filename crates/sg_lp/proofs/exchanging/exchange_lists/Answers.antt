@@ -1,4 +1,4 @@
-use Rattle.std.proofs.Common.{◌≡◌, ◌∙◌, List, [], ap, length, pos, rules, slice_index_or, subst, sym}
+use Rattle.std.proofs.Common.{◌∙◌, List, ap, length, pos, rules, slice_index_or, subst, sym}
 use Rattle.std.specs.Int.{w128}
 use Rattle.std.specs.Prelude.{FitsSigned, ℤ}
 use Rattle.std.proofs.lemmas.Int.{to_z-of_z}
@@ -25,5 +25,5 @@ returns c =
       rows = rows_combined h rows c.swap_at.new.rows c.combine_others.new.rows c.swap_at-2.new.rows c.args.y.now c.swap_at.new.spare c.swap_at-2.new.spare q r c.requires.within c.swap_at.ensures.listed c.swap_at.ensures.spare c.combine_others.ensures c.swap_at-2.ensures.listed c.swap_at-2.ensures.spare;
       y_wide = c.combine_multipliers.ensures.wide ∙ ap length back;
       multipliers = subst (λ (z : List ℤ). IsLowest (combined_rows (place q r) c.args.gap (denominated h c.args.y.now c.args.rho) (denominated h z (pos 0))) (denominated h c.combine_multipliers.new.y c.combine_multipliers.result)) (sym c.index-rows-leaving.is ∙ pivot)
-          (subst (λ (z : List ℤ). IsLowest (combined_rows (place q r) c.args.gap (denominated h z c.args.rho) (denominated h there (pos 0))) (denominated h c.combine_multipliers.new.y c.combine_multipliers.result)) back low)
+          (subst (λ (z : List ℤ). IsLowest (combined_rows (place q r) c.args.gap (denominated h z c.args.rho) (denominated h there (pos 0))) (denominated h c.combine_multipliers.new.y c.combine_multipliers.result)) back low);
     })

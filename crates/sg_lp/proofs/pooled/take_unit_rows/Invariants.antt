@@ -11,5 +11,5 @@ invariant-loop-i l = record {
   wide : All (λ row. length row ≡ l.initial.pool.width) l.rows.items;
   pool : l.pool ≡ taken_from l.initial.pool l.i;
   room : l.height ≤ vec_capacity l.rows;
-  many : vec_len l.rows ≡ l.i
+  many : vec_len l.rows ≡ l.i;
 }

@@ -1,8 +1,7 @@
-use Rattle.std.proofs.Common.{◌≡◌, ◌<◌, length, arith, rules, pos, sym, None}
+use Rattle.std.proofs.Common.{◌<◌, length, arith, rules, sym}
 use Rattle.std.specs.Int.{w128}
-use Rattle.std.specs.Prelude.{FitsSigned, ◌-ℤ◌, ◌*ℤ◌}
+use Rattle.std.specs.Prelude.{FitsSigned}
 use Rattle.std.proofs.lemmas.Int.{to_z-of_z}
-use Rattle.sg_rows.specs.Rows.{place}
 use Rattle.sg_rows.proofs.Fitting.{combination-fits_at}
 use Rattle.sg_rows.proofs.Placewise.{CombinedAt, all_combined, more_written}
 use Rattle.sg_rows.proofs.combining.combine_fitting.Goals as goal

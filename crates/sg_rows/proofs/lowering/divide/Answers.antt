@@ -1,4 +1,4 @@
-use Rattle.std.proofs.Common.{◌<◌, ℕ, length, arith, rules, pos, subst, sym}
+use Rattle.std.proofs.Common.{◌<◌, length, arith, rules, pos, subst, sym}
 use Rattle.std.specs.Int.{w128, ◌∣◌}
 use Rattle.std.specs.Prelude.{FitsSigned, ℤ, unsigned_abs}
 use Rattle.std.proofs.lemmas.Int.{to_z-of_z}

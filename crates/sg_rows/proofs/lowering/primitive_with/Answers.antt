@@ -1,6 +1,6 @@
-use Rattle.std.proofs.Common.{ℕ, [], ◌∷◌, ◌++◌, arith, rules, subst, pos, slice_index_or}
+use Rattle.std.proofs.Common.{ℕ, [], ◌∷◌, ◌++◌, arith, rules, subst}
 use Rattle.std.specs.Int.{w128, ◌∣◌}
-use Rattle.std.specs.Prelude.{FitsSigned, unsigned_abs}
+use Rattle.std.specs.Prelude.{FitsSigned}
 use Rattle.std.proofs.lemmas.Int.{to_z-of_z}
 use Rattle.std.proofs.lemmas.Nat.Gcd.{dvd_trans}
 use Rattle.sg_rows.proofs.Commons.{common-with, large_lowest, quotients-with, small_lowest}

@@ -1,8 +1,8 @@
-use Rattle.std.proofs.Common.{◌≡◌, ◌<◌, ◌∙◌, ℕ, List, length, sym, arith, rules, subst, pos, slice_index_or, []}
+use Rattle.std.proofs.Common.{◌∙◌, ℕ, length, sym, arith, rules, subst, pos, slice_index_or, []}
 use Rattle.std.specs.Int.{w128}
 use Rattle.std.specs.Prelude.{FitsSigned}
 use Rattle.std.proofs.lemmas.Int.{to_z-of_z}
-use Rattle.sg_rows.specs.Rows.{dot_from, dot_steps}
+use Rattle.sg_rows.specs.Rows.{dot_steps}
 use Rattle.sg_rows.proofs.Fitting.{Ok-value}
 use Rattle.sg_simplex.proofs.Rowwise.{AreMultiplied, all_multiplied, one_multiplied, one_stops, value_at}
 use Rattle.sg_simplex.proofs.fitting.write_products.Goals as goal

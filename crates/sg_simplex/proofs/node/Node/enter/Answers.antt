@@ -1,4 +1,4 @@
-use Rattle.std.proofs.Common.{◌≡◌, ◌<◌, ◌∙◌, ◌++◌, ap, arith, drop, length, rules, subst, sym, take, List}
+use Rattle.std.proofs.Common.{◌≡◌, ◌<◌, ◌∙◌, ap, arith, drop, length, rules, subst, List}
 use Rattle.std.specs.Int.{w128}
 use Rattle.std.specs.Prelude.{FitsSigned, ℤ}
 use Rattle.std.proofs.lemmas.Int.{to_z-of_z}
@@ -28,7 +28,7 @@ invariant_of-self g c =
     record {
       node = next_node p (g.F.Family.answer f) t c.exchange.new.self.tableau s q x.row x.gap c.self.inside.steps c.self.inside.pivots c.self.inside.looks kept.node.state enters c.in-Ok.ensures by kept.node.run kept.node;
       entries_long = (let k = kept.entries_long in let o = c.self.inside.entries.ok in omega (arith, ap length written_e));
-      products_long = (let k = kept.products_long in let o = c.self.inside.products.ok in omega (arith, ap length written))
+      products_long = (let k = kept.products_long in let o = c.self.inside.products.ok in omega (arith, ap length written));
     }
 
 pub returns-in-Ok : goal.returns-in-Ok
