@@ -30,7 +30,7 @@ mod order;
 
 pub use frac::Frac;
 pub use laws::{
-    first_wide_is_first, operations_are_undone, order_is_of_difference, order_is_total,
-    reduced_form_is_unique, whole_numbers_are_closest,
+    operations_are_undone, order_is_of_difference, order_is_total, reduced_form_is_unique,
+    whole_numbers_are_closest,
 };
 pub use order::quotient_order;
