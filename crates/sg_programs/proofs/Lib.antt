@@ -1,0 +1,6 @@
+pub mod Columns
+pub mod Comparisons
+pub mod Heights
+pub mod Sized
+pub mod Kept
+pub mod Worked

@@ -1,0 +1,5 @@
+use Rattle.sg_programs.proofs.Sized.{program_is_bounded}
+use Rattle.sg_programs.proofs.laws.program_is_bounded.Goals as goal
+
+pub returns : goal.returns
+returns c = program_is_bounded

@@ -1,0 +1,8 @@
+pub mod Plays
+pub mod Nodes
+pub mod Enough
+pub mod Sparse
+pub mod Marks
+pub mod Shown
+pub mod Laws
+pub mod Examples

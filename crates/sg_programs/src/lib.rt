@@ -1,0 +1,15 @@
+//! The linear programs of the nodes of a game, and what holds of them; no code.
+//!
+//! The definitions stand in `specs/`: `Plays` (the program over all legal plays), `Nodes` (which fixes have a program),
+//! `Enough` (how many nodes, looks and pivots are enough) and `Sparse` (products of rows with many zeros). The functions
+//! below carry laws about them: each has an empty body, and its contract is a statement of `specs/Laws.antt`.
+#![tactic(auto)]
+
+mod examples;
+mod laws;
+
+pub use examples::worked_programs;
+pub use laws::{
+    columns_are_plays, program_is_bounded, program_is_sized, rows_are_comparisons,
+    zeros_change_nothing,
+};

@@ -1,0 +1,15 @@
+pub mod Placed
+pub mod Counted
+pub mod Ended
+pub mod Grown
+pub mod Shown
+pub mod Enough
+pub mod Capped
+pub mod Ranges
+pub mod Fitting
+pub mod Reported
+pub mod Levelled
+pub mod Poorer
+pub mod Chosen
+pub mod Listing
+pub mod Opened

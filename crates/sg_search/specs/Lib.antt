@@ -1,0 +1,14 @@
+pub mod Searches
+pub mod Bounding
+pub mod Changes
+pub mod Events
+pub mod Results
+pub mod PlaceLaws
+pub mod EndLaws
+pub mod TreeLaws
+pub mod CountLaws
+pub mod CapLaws
+pub mod GroupLaws
+pub mod ReportLaws
+pub mod Sound
+pub mod Examples
