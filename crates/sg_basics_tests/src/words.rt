@@ -1,5 +1,8 @@
 //! The words of a call, and the commands that they give.
-use sg_words::{Command, command_of, words_give};
+use sg_words::{
+    Command, Kind, Setting, Usage, command_of, number, read_words, refused_words, words_give,
+    worked_words,
+};
 use std::alloc::{AllocError, Global};
 
 /// Words and the game that they ask to solve, if any, by hand.
@@ -216,6 +219,8 @@ fn first_wrong_pair(
 #[test]
 fn words_name_files(rt: HostRuntime) -> Result<(), AllocError> {
     words_give();
+    worked_words();
+    refused_words();
     assert_eq!(rt; first_wrong_game(rt.alloc(), &WORDS)?, None);
     assert_eq!(rt; first_wrong_pair(rt.alloc(), &PAIRS)?, None);
     Ok(())
@@ -236,4 +241,224 @@ fn long_words_are_names(rt: HostRuntime) -> Result<(), AllocError> {
         )?
     );
     Ok(())
+}
+
+/// A made-up table: options of each kind, and a positional word that is fixed.
+static TABLE: [Usage<'static>; 2] = [
+    Usage {
+        name: "list",
+        positionals: &[Kind::Any, Kind::Any],
+        options: &[Setting {
+            name: "seed",
+            kind: Kind::Number {
+                least: 0,
+                greatest: u64::MAX,
+            },
+            default: "0",
+        }],
+    },
+    Usage {
+        name: "try",
+        positionals: &[Kind::Fixed("game"), Kind::Any],
+        options: &[
+            Setting {
+                name: "lanes",
+                kind: Kind::Number {
+                    least: 2,
+                    greatest: 8,
+                },
+                default: "2",
+            },
+            Setting {
+                name: "order",
+                kind: Kind::Choice(&["file", "best", "seeded"]),
+                default: "file",
+            },
+        ],
+    },
+];
+
+/// The words after `list`, and the arguments that they give, by hand: two names, and the seed.
+static LISTS: [(&[&str], Option<&[&str]>); 62] = [
+    // The option at any place, apart or joined, and its default.
+    (&["g", "r"], Some(&["g", "r", "0"])),
+    (&["g", "r", "--seed", "3"], Some(&["g", "r", "3"])),
+    (&["g", "--seed", "3", "r"], Some(&["g", "r", "3"])),
+    (&["--seed", "3", "g", "r"], Some(&["g", "r", "3"])),
+    (&["g", "r", "--seed=3"], Some(&["g", "r", "3"])),
+    (&["--seed=3", "g", "r"], Some(&["g", "r", "3"])),
+    (&["", "", "--seed", "0"], Some(&["", "", "0"])),
+    // Whole numbers of the range, in their one spelling.
+    (&["g", "r", "--seed", "0"], Some(&["g", "r", "0"])),
+    (&["g", "r", "--seed", "9"], Some(&["g", "r", "9"])),
+    (&["g", "r", "--seed", "10"], Some(&["g", "r", "10"])),
+    (
+        &["g", "r", "--seed", "18446744073709551615"],
+        Some(&["g", "r", "18446744073709551615"]),
+    ),
+    (&["g", "r", "--seed", "18446744073709551616"], None),
+    (&["g", "r", "--seed", "99999999999999999999"], None),
+    (&["g", "r", "--seed", "100000000000000000000"], None),
+    (&["g", "r", "--seed", "000000000000000000001"], None),
+    (&["g", "r", "--seed", "01"], None),
+    (&["g", "r", "--seed", "00"], None),
+    (&["g", "r", "--seed=03"], None),
+    (&["g", "r", "--seed", "+1"], None),
+    (&["g", "r", "--seed=+1"], None),
+    (&["g", "r", "--seed=-1"], None),
+    (&["g", "r", "--seed", " 1"], None),
+    (&["g", "r", "--seed", "1 "], None),
+    (&["g", "r", "--seed", "1.0"], None),
+    (&["g", "r", "--seed", "1e3"], None),
+    (&["g", "r", "--seed", "0x1"], None),
+    (&["g", "r", "--seed", "1_000"], None),
+    (&["g", "r", "--seed", "three"], None),
+    (&["g", "r", "--seed", "\u{663}"], None),
+    (&["g", "r", "--seed", ":"], None),
+    (&["g", "r", "--seed", "/"], None),
+    // A value, and one that isn't behind a hyphen.
+    (&["g", "r", "--seed"], None),
+    (&["g", "r", "--seed", ""], None),
+    (&["g", "r", "--seed="], None),
+    (&["g", "r", "--seed", "-1"], None),
+    (&["g", "r", "--seed", "-"], None),
+    (&["g", "r", "--seed", "--", "5"], None),
+    (&["g", "--seed", "--", "5"], None),
+    (&["g", "r", "--seed", "--seed=3"], None),
+    (&["g", "r", "--seed==3"], None),
+    (&["g", "r", "--seed=3=3"], None),
+    // At most once.
+    (&["g", "r", "--seed=3", "--seed=3"], None),
+    (&["g", "r", "--seed", "3", "--seed", "3"], None),
+    (&["--seed", "3", "g", "r", "--seed=3"], None),
+    (&["--seed=3", "g", "r", "--seed", "4"], None),
+    // The whole name, and no other.
+    (&["g", "r", "--see", "3"], None),
+    (&["g", "r", "--see=3"], None),
+    (&["g", "r", "--seeds", "3"], None),
+    (&["g", "r", "--Seed", "3"], None),
+    (&["g", "r", "-seed", "3"], None),
+    (&["g", "r", "-s", "3"], None),
+    (&["g", "r", "--=3"], None),
+    (&["g", "r", "--lanes", "3"], None),
+    (&["g", "r", "--help"], None),
+    // What stands behind `--` is a name.
+    (&["--", "--seed", "3"], Some(&["--seed", "3", "0"])),
+    (&["g", "--", "--seed=3"], Some(&["g", "--seed=3", "0"])),
+    (&["--seed", "3", "--", "g", "-r"], Some(&["g", "-r", "3"])),
+    (&["g", "--seed=3", "--", "--"], Some(&["g", "--", "3"])),
+    (&["--", "g", "r", "--seed=3"], None),
+    (&["--seed", "3"], None),
+    (&["g", "--seed", "3"], None),
+    (&["g", "r", "x", "--seed", "3"], None),
+];
+
+/// The words after `try`, and the arguments that they give, by hand: a fixed word, a name, the lanes and the order.
+static TRIES: [(&[&str], Option<&[&str]>); 30] = [
+    (&["game", "f"], Some(&["game", "f", "2", "file"])),
+    (&["game", "game"], Some(&["game", "game", "2", "file"])),
+    (&["--", "game", "f"], Some(&["game", "f", "2", "file"])),
+    (&["game", "--", "-f"], Some(&["game", "-f", "2", "file"])),
+    (&["Game", "f"], None),
+    (&["gam", "f"], None),
+    (&["games", "f"], None),
+    (&["f", "game"], None),
+    (&["game"], None),
+    (&["game", "f", "f"], None),
+    (&[], None),
+    // Both ends of a range, and one past them.
+    (
+        &["game", "f", "--lanes", "2"],
+        Some(&["game", "f", "2", "file"]),
+    ),
+    (
+        &["game", "f", "--lanes", "8"],
+        Some(&["game", "f", "8", "file"]),
+    ),
+    (
+        &["game", "--lanes=5", "f"],
+        Some(&["game", "f", "5", "file"]),
+    ),
+    (&["game", "f", "--lanes", "1"], None),
+    (&["game", "f", "--lanes", "9"], None),
+    (&["game", "f", "--lanes", "0"], None),
+    (&["game", "f", "--lanes", "02"], None),
+    (&["game", "f", "--lanes", "18446744073709551618"], None),
+    // One of the words.
+    (
+        &["game", "f", "--order", "file"],
+        Some(&["game", "f", "2", "file"]),
+    ),
+    (
+        &["game", "--order=best", "f"],
+        Some(&["game", "f", "2", "best"]),
+    ),
+    (
+        &["--order", "seeded", "game", "f"],
+        Some(&["game", "f", "2", "seeded"]),
+    ),
+    (&["game", "f", "--order", "Best"], None),
+    (&["game", "f", "--order", "bes"], None),
+    (&["game", "f", "--order", ""], None),
+    (&["game", "f", "--order", "best", "--order", "best"], None),
+    // Options in any order, each with its own value.
+    (
+        &["--order", "best", "game", "--lanes=3", "f"],
+        Some(&["game", "f", "3", "best"]),
+    ),
+    (
+        &["--lanes=3", "game", "f", "--order", "best"],
+        Some(&["game", "f", "3", "best"]),
+    ),
+    (&["game", "f", "--lanes", "best", "--order", "3"], None),
+    (&["game", "f", "--lanes", "--order", "best"], None),
+];
+
+/// Whether the words give these arguments of a command of the made-up table.
+fn are_read(
+    alloc: Global,
+    name: &str,
+    behind: &[&str],
+    want: Option<&[&str]>,
+) -> Result<bool, AllocError> {
+    let words = words_in(alloc, &[name], behind)?;
+    match (read_words(alloc, &TABLE, &words)?, want) {
+        (Some(given), Some(texts)) => {
+            Ok(given.name == name && given.arguments.as_slice() == texts)
+        }
+        (None, None) => Ok(true),
+        _ => Ok(false),
+    }
+}
+
+/// The first words, counted from 0, that give other arguments.
+fn first_misread(
+    alloc: Global,
+    name: &str,
+    rows: &[(&[&str], Option<&[&str]>)],
+) -> Result<Option<usize>, AllocError> {
+    for k in 0..rows.len() {
+        let (texts, want) = rows[k];
+        if !are_read(alloc, name, texts, want)? {
+            return Ok(Some(k));
+        }
+    }
+    Ok(None)
+}
+
+#[test]
+fn options_are_read(rt: HostRuntime) -> Result<(), AllocError> {
+    let alloc = rt.alloc();
+    assert_eq!(rt; first_misread(alloc, "list", &LISTS)?, None);
+    assert_eq!(rt; first_misread(alloc, "try", &TRIES)?, None);
+    assert!(rt; are_read(alloc, "lists", &["g", "r"], None)?);
+    assert!(rt; are_read(alloc, "--seed", &["3", "list", "g", "r"], None)?);
+    Ok(())
+}
+
+#[test]
+fn numbers_are_read(rt: HostRuntime) {
+    assert_eq!(rt; number("0"), 0);
+    assert_eq!(rt; number("10"), 10);
+    assert_eq!(rt; number("18446744073709551615"), u64::MAX);
 }

@@ -21,8 +21,8 @@ use Rattle.sg_cli.specs.declared.refusal.Refusal.{Refusal}
 use Rattle.sg_cli.specs.declared.refusal.Refusal.TheVariants.{Words, GameNotRead, GameTooLong, GameRefused, NotYet, ReportNotRead, ReportTooLong, ReportRefused, ReportWrong, NotWritten, Memory}
 
 -- it ends a run with this status, and is told by this line
-abbrev pub IsTold : Refusal → ℕ → List ℕ → Type 0
-IsTold refusal status line = (status_of refusal ≡ status) × (line_of refusal ≡ line)
+abbrev pub IsToldExactly : Refusal → ℕ → List ℕ → Type 0
+IsToldExactly refusal status line = (status_of refusal ≡ status) × (line_of refusal ≡ line)
 
 -- a fault of a game with two digits in it
 abbrev pub fault_at : Place → GameFault
@@ -30,22 +30,22 @@ fault_at place = record { reason = 10; place = place }
 
 -- each refusal, with numbers where it has some
 pub record WorkedRefusals : Type 0 where
-  pub words : IsTold Words 2 (codes "words refused\n")
-  pub game_not_read : IsTold GameNotRead 4 (codes "game not read\n")
-  pub game_too_long : IsTold GameTooLong 5 (codes "game too long\n")
-  pub document : IsTold (GameRefused (fault_at places.Document)) 6 (codes "game refused 10 at document\n")
-  pub target : IsTold (GameRefused (fault_at (places.Target 1))) 6 (codes "game refused 10 at target 1\n")
-  pub row : IsTold (GameRefused (fault_at (places.Row 2))) 6 (codes "game refused 10 at row 2\n")
-  pub schedule : IsTold (GameRefused (fault_at (places.Schedule 3))) 6 (codes "game refused 10 at schedule 3\n")
-  pub resource : IsTold (GameRefused (fault_at (places.Resource 4))) 6 (codes "game refused 10 at resource 4\n")
-  pub attacker : IsTold (GameRefused (fault_at (places.Attacker 5))) 6 (codes "game refused 10 at type 5\n")
-  pub not_yet : IsTold NotYet 3 (codes "not yet\n")
-  pub report_not_read : IsTold ReportNotRead 4 (codes "report not read\n")
-  pub report_too_long : IsTold ReportTooLong 5 (codes "report too long\n")
-  pub report_refused : IsTold (ReportRefused (record { line = 23; reason = 9 })) 7 (codes "report refused 9 at line 23\n")
-  pub report_wrong : IsTold (ReportWrong 18 6) 7 (codes "no 6 at line 18\n")
-  pub not_written : IsTold NotWritten 9 (codes "write failed\n")
-  pub memory : IsTold Memory 11 (codes "want of memory\n")
+  pub words : IsToldExactly Words 2 (codes "words refused\n")
+  pub game_not_read : IsToldExactly GameNotRead 4 (codes "game not read\n")
+  pub game_too_long : IsToldExactly GameTooLong 5 (codes "game too long\n")
+  pub document : IsToldExactly (GameRefused (fault_at places.Document)) 6 (codes "game refused 10 at document\n")
+  pub target : IsToldExactly (GameRefused (fault_at (places.Target 1))) 6 (codes "game refused 10 at target 1\n")
+  pub row : IsToldExactly (GameRefused (fault_at (places.Row 2))) 6 (codes "game refused 10 at row 2\n")
+  pub schedule : IsToldExactly (GameRefused (fault_at (places.Schedule 3))) 6 (codes "game refused 10 at schedule 3\n")
+  pub resource : IsToldExactly (GameRefused (fault_at (places.Resource 4))) 6 (codes "game refused 10 at resource 4\n")
+  pub attacker : IsToldExactly (GameRefused (fault_at (places.Attacker 5))) 6 (codes "game refused 10 at type 5\n")
+  pub not_yet : IsToldExactly NotYet 3 (codes "not yet\n")
+  pub report_not_read : IsToldExactly ReportNotRead 4 (codes "report not read\n")
+  pub report_too_long : IsToldExactly ReportTooLong 5 (codes "report too long\n")
+  pub report_refused : IsToldExactly (ReportRefused (record { line = 23; reason = 9 })) 7 (codes "report refused 9 at line 23\n")
+  pub report_wrong : IsToldExactly (ReportWrong 18 6) 7 (codes "no 6 at line 18\n")
+  pub not_written : IsToldExactly NotWritten 9 (codes "write failed\n")
+  pub memory : IsToldExactly Memory 11 (codes "want of memory\n")
 
 -- the files hold this many bytes under the name
 pub record HoldsBytes (files : Files) (name bytes : List ℕ) (size : ℕ) : Type 0 where

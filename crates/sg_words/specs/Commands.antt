@@ -1,8 +1,10 @@
 -- What a call may ask for, and which words ask for it.
-use Rattle.std.specs.Prelude.{◌≡◌, ◌↔◌, false, List, [], ◌∷◌, All, Option, Some, None, option_and_then, find, codes, if◌then◌else◌}
-use Rattle.std.specs.List.{before_first}
+use Rattle.std.specs.Prelude.{◌≡◌, ◌↔◌, false, List, [], ◌∷◌, ◌++◌, All, Option, Some, None, option_and_then, find, codes, map}
 use Rattle.std.specs.Str.{bytes_eq}
-use Rattle.sg_words.specs.Words.{Text, is_end_of_options, begins_with_hyphen, has_stray, positional_words}
+use Rattle.sg_words.specs.Words.{Text, Piece}
+use Rattle.sg_words.specs.Kinds.{any}
+use Rattle.sg_words.specs.Usages.{Usage, arguments_of, option_names, reading_of}
+use Rattle.sg_words.specs.Writing.{Spells}
 use Rattle.sg_words.specs.declared.command.Command.{Command}
 use Rattle.sg_words.specs.declared.command.Command.TheVariants.{Solve, Check, Show}
 
@@ -12,66 +14,60 @@ pub data Asked : Type 0 where
   check : (game report : Text) → Asked
   show : (game report : Text) → Asked
 
--- ---- how a command is written
-
--- the name of the command
-abbrev pub name_of : Asked → Text
-name_of (solve game) = codes "solve"
-name_of (check game report) = codes "check"
-name_of (show game report) = codes "show"
-
--- its positional words, in their order
-abbrev pub positionals_of : Asked → List Text
-positionals_of (solve game) = game ∷ []
-positionals_of (check game report) = game ∷ report ∷ []
-positionals_of (show game report) = game ∷ report ∷ []
-
--- The words ask for it: the first is its name, none of the others before the first `--` begins with a hyphen, and those
--- before the first `--` and after it are exactly its positional words.
-pub record AsksFor (words : List Text) (asked : Asked) : Type 0 where
-  pub others : List Text
-  pub named : words ≡ name_of asked ∷ others
-  pub unhyphened : All (λ word. begins_with_hyphen word ≡ false) (before_first is_end_of_options others)
-  pub positionals : positional_words others ≡ positionals_of asked
-
--- ---- how words are read
-
--- a command's name, and what its positional words ask for
+-- a command's row, and what its arguments ask for
 pub record Form : Type 0 where
-  pub name : Text
+  pub usage : Usage
   pub asked : List Text → Option Asked
 
--- exactly one positional word
+-- exactly one argument
 abbrev pub with_one : (Text → Asked) → List Text → Option Asked
-with_one make (word ∷ []) = Some (make word)
-with_one make _ = None
+with_one command (word ∷ []) = Some (command word)
+with_one command _ = None
 
--- exactly two positional words, in this order
+-- exactly two arguments, in this order
 abbrev pub with_two : (Text → Text → Asked) → List Text → Option Asked
-with_two make (first ∷ second ∷ []) = Some (make first second)
-with_two make _ = None
+with_two command (first ∷ second ∷ []) = Some (command first second)
+with_two command _ = None
 
 -- the table of commands
 abbrev pub forms : List Form
-forms = record { name = codes "solve"; asked = with_one solve }
-    ∷ record { name = codes "check"; asked = with_two check }
-    ∷ record { name = codes "show"; asked = with_two show }
+forms = record { usage = record { name = codes "solve"; positionals = any ∷ []; options = [] }; asked = with_one solve }
+    ∷ record { usage = record { name = codes "check"; positionals = any ∷ any ∷ []; options = [] }; asked = with_two check }
+    ∷ record { usage = record { name = codes "show"; positionals = any ∷ any ∷ []; options = [] }; asked = with_two show }
     ∷ []
 
--- what a command of this name with these positional words asks for
+-- its rows
+abbrev pub table : List Usage
+table = map (λ (form : Form). form.usage) forms
+
+-- what a command of this name asks for with these arguments
 abbrev pub asked_by : Text → List Text → Option Asked
-asked_by name words = option_and_then (λ (form : Form). form.asked words) (find (λ (form : Form). bytes_eq form.name name) forms)
+asked_by name arguments = option_and_then (λ (form : Form). form.asked arguments) (find (λ (form : Form). bytes_eq form.usage.name name) forms)
 
 -- what the words of a call ask for: the first is the command's name
 abbrev pub command_given : List Text → Option Asked
-command_given [] = None
-command_given (name ∷ others) = if has_stray others then None else asked_by name (positional_words others)
+command_given words = option_and_then (λ given. asked_by given.0 given.1) (reading_of table words)
+
+-- ---- how a command is written
+
+-- The words ask for it: the first is the name of a row, the others spell pieces with the row's options, and the arguments that the
+-- pieces give ask for it.
+pub record Gives (words : List Text) (asked : Asked) : Type 0 where
+  pub form : Form
+  pub others : List Text
+  pub pieces : List Piece
+  pub arguments : List Text
+  pub listed : find (λ (other : Form). bytes_eq other.usage.name form.usage.name) forms ≡ Some form
+  pub named : words ≡ form.usage.name ∷ others
+  pub spelled : Spells (option_names form.usage) pieces others
+  pub given : arguments_of form.usage pieces ≡ Some arguments
+  pub taken : form.asked arguments ≡ Some asked
 
 -- ---- laws
 
 -- reading is writing turned round
 abbrev pub WordsGive : Type 0
-WordsGive = (words : List Text) (asked : Asked) → (command_given words ≡ Some asked) ↔ AsksFor words asked
+WordsGive = (words : List Text) (asked : Asked) → (command_given words ≡ Some asked) ↔ Gives words asked
 
 -- ---- the program's own value
 

@@ -1,22 +1,26 @@
--- The command line as `clap` knows it, and the command in the rows that a parse finds.
-use Rattle.std.specs.Prelude.{true, List, Option, Some, None, option_map, option_and_then, codes, if◌then◌else◌}
-use Rattle.std.specs.Str.{bytes_eq}
-use Rattle.clap.specs.Words.{App, Row, Rule, new_app, new_rule, with_rule, with_subcommand, first_of}
-use Rattle.clap.specs.declared.builder.ArgAction.TheVariants.{Set}
+-- A command of a table as `clap` knows it: a subcommand that takes any number of positional words, and its options with one value
+-- each. How many words it takes and what they are is read from the texts that the parse finds.
+use Rattle.std.specs.Prelude.{◌≡◌, true, false, List, [], ◌∷◌, fold, Option, Some, None, unwrap_or, codes}
+use Rattle.clap.specs.Words.{App, Row, Rule, new_app, new_rule, with_rule, with_subcommand, all_of}
+use Rattle.clap.specs.declared.builder.ArgAction.TheVariants.{Append}
 use Rattle.sg_words.specs.Words.{Text}
-use Rattle.sg_words.specs.Commands.{Asked, solve, check, show}
+use Rattle.sg_words.specs.Usages.{Usage, arguments_by}
 
--- a positional word that must be there
-abbrev pub needed_rule : Text → Rule
-needed_rule id = record (new_rule id) { required = true; action = Some Set }
+-- the id of the positional words, which no option's name is
+abbrev pub words_id : Text
+words_id = codes "="
 
--- a command `NAME GAME`
-abbrev pub game_line : Text → App
-game_line name = with_rule (new_app name) (needed_rule (codes "game"))
+-- the rule for the positional words
+abbrev pub words_rule : Rule
+words_rule = record (new_rule words_id) { action = Some Append }
 
--- a command `NAME GAME REPORT`
-abbrev pub report_line : Text → App
-report_line name = with_rule (game_line name) (needed_rule (codes "report"))
+-- the rule for an option
+abbrev pub option_rule : Text → Rule
+option_rule name = record (new_rule name) { long = Some name; action = Some Append }
+
+-- the subcommand of this name, with these options
+abbrev pub command_line : Text → List Text → App
+command_line name options = fold (λ app option. with_rule app (option_rule option)) (with_rule (new_app name) words_rule) options
 
 -- the program, with no help and no version, which wants a command
 abbrev pub bare_line : App
@@ -30,36 +34,19 @@ bare_line = record (new_app (codes "patrol")) {
   };
 }
 
--- the program with its commands
-abbrev pub command_line : App
-command_line = with_subcommand (with_subcommand (with_subcommand bare_line
-    (game_line (codes "solve")).top)
-    (report_line (codes "check")).top)
-    (report_line (codes "show")).top
+-- the program with this command
+abbrev pub line : Text → List Text → App
+line name options = with_subcommand bare_line (command_line name options).top
 
--- the text of GAME in the rows, and that of REPORT
-abbrev pub game_in : List Row → Option Text
-game_in rows = first_of (codes "game") rows
+-- the texts that a parse found under an id
+abbrev pub texts_in : Text → List Row → List Text
+texts_in id rows = unwrap_or (all_of id rows) []
 
-abbrev pub report_in : List Row → Option Text
-report_in rows = first_of (codes "report") rows
+-- the arguments of a command in the rows of a parse
+abbrev pub arguments_in : Usage → List Row → Option (List Text)
+arguments_in usage rows = arguments_by usage (texts_in words_id rows) (λ name. texts_in name rows)
 
--- both, in this order
-abbrev pub pair_in : List Row → Option (Text × Text)
-pair_in rows = option_and_then (λ game. option_map (λ report. (game, report)) (report_in rows)) (game_in rows)
-
--- a command with both
-abbrev pub asked_with : (Text → Text → Asked) → Option (Text × Text) → Option Asked
-asked_with make = option_map (λ pair. make pair.0 pair.1)
-
--- the command in the name and the rows of the subcommand that a parse entered
-abbrev pub command_in_rows : Text → List Row → Option Asked
-command_in_rows name rows =
-    if bytes_eq name (codes "solve") then option_map solve (game_in rows)
-    else (if bytes_eq name (codes "check") then asked_with check (pair_in rows)
-    else (if bytes_eq name (codes "show") then asked_with show (pair_in rows) else None))
-
--- the same, where a parse may have entered none
-abbrev pub command_found : Option (Text × List Row) → Option Asked
-command_found None = None
-command_found (Some entered) = command_in_rows entered.0 entered.1
+-- the first of the words is this one
+abbrev pub NamesFirst : Text → List Text → Type 0
+NamesFirst name [] = ⊥
+NamesFirst name (first ∷ others) = first ≡ name

@@ -1,23 +1,29 @@
 //! Reads the words of a call: the command that they give, or that they give none.
 //!
-//! The first word is the command's name. The others are its positional words, in order; the first `--` among them is
-//! none of these, and before it no word begins with a hyphen. There is no help and no version.
+//! `read_words` reads words by any table of commands (`Usage`): which positional words a command takes and of which kind, and its
+//! options with kind and default. It answers exactly what `reading_of` of `specs/Usages.antt` says. The words go through `clap`, as a
+//! command line with one level of subcommands, and that `clap` finds just the pieces of the definition is proved once, for any table.
 //!
-//! `command_of` answers exactly by these rules, in both directions: `Gives` of `specs/Commands.antt` says how a command
-//! is written, `command_given` how words are read, and `words_give` that the one is the other turned round. The words go
-//! through `clap`, as a command line with one level of subcommands.
+//! `command_of` is the reading by the program's own table. `command_given` of `specs/Commands.antt` says how words are read, `Gives`
+//! how a command is written, and `words_give` that the one is the other turned round.
 //!
-//! A command more is a variant of `Command`, a line and an arm in `line`, and a row of `name_of`, `positionals_of`, `forms`
-//! and `command_in_rows` in the definitions. Its proof is a case of `proofs/Names.antt`, and an `Enters` as those in
-//! `proofs/Game.antt` (one positional word) and `proofs/Report.antt` (two).
+//! A command more is a variant of `Command`, a row of `USAGES` and an arm of `command_with` in `commands`, and a variant of `Asked`
+//! and a row of `forms` in the definitions. An option more is a setting in those two rows, and a field.
 #![tactic(auto)]
 
+mod arguments;
 mod command;
+mod commands;
+mod kind;
 mod laws;
 mod line;
 mod reading;
 mod stray;
+mod usage;
 
 pub use command::Command;
-pub use laws::words_give;
-pub use reading::command_of;
+pub use commands::command_of;
+pub use kind::{Kind, number};
+pub use laws::{refused_words, words_give, worked_words};
+pub use reading::read_words;
+pub use usage::{Given, Setting, Usage};

@@ -1,10 +1,14 @@
-ghost use Rattle.std.specs.Prelude.{◌≡◌, ◌↔◌, Option, Some, None, IfOk, IsNone, IsTrue, map, option_map, string_bytes};
-ghost use Rattle.clap.specs.Words.{kind_of};
-ghost use Rattle.sg_words.specs.Commands.{Asked, AsksFor, asked_of, command_given};
+//! The words of a call, read once for any table of commands.
 
-use crate::command::Command;
-use crate::line::{command_in, line};
+ghost use Rattle.std.specs.Prelude.{◌≡◌, ◌↔◌, [], ◌∷◌, Option, IfOk, IsTrue, true, drop, map, option_map, string_bytes};
+ghost use Rattle.sg_words.specs.Line.{NamesFirst};
+ghost use Rattle.clap.specs.Words.{kind_of};
+ghost use Rattle.sg_words.specs.Usages.{arguments_given, given_of, is_usage_table, reading_of, usage_named, usage_of};
+
+use crate::arguments::arguments_in;
+use crate::line::line;
 use crate::stray::has_stray;
+use crate::usage::{Given, Usage};
 use clap::Error;
 use clap::error::ErrorKind;
 use std::alloc::{AllocError, Global};
@@ -15,23 +19,38 @@ fn is_memory(error: &Error) -> bool
     error.kind() == ErrorKind::OutOfMemory
 }
 
-/// The command that the words give, or `None` where they give none. The words are those after the program's name, and
-/// only memory may be wanting.
-pub fn command_of<'a>(alloc: Global, words: &'a [String]) -> Result<Option<Command<'a>>, AllocError>
-    ensures answer { IfOk result (λ r. option_map asked_of r ≡ command_given (map string_bytes words.entry.now)) }
-
-    // The same by the rules of writing, in both directions.
-    ensures given { IfOk result (λ r. (asked : Asked) →
-        (option_map asked_of r ≡ Some asked) ↔ AsksFor (map string_bytes words.entry.now) asked) }
-    ensures none { IfOk result (λ r.
-        IsNone r ↔ ((asked : Asked) → ¬ AsksFor (map string_bytes words.entry.now) asked)) }
+/// The row of this name.
+fn usage_named<'a>(usages: &'a [Usage<'a>], name: &str) -> Option<&'a Usage<'a>>
+    ensures { option_map (λ usage. usage_of usage.now) result ≡ usage_named (map usage_of usages.now) name.now }
 {
-    if has_stray(words) {
+    for usage in usages {
+        if usage.name == name {
+            return Some(usage);
+        }
+    }
+    None
+}
+
+/// The arguments of the row that the first word names.
+fn arguments_given<'a>(
+    alloc: Global,
+    usage: &Usage<'a>,
+    words: &'a [String],
+) -> Result<Option<Vec<&'a str>>, AllocError>
+    requires table { is_usage_table (usage_of usage.now ∷ []) ≡ true }
+    requires named { NamesFirst usage.now.name.now (map string_bytes words.now) }
+    ensures { IfOk result (λ r. option_map (λ texts. map (λ text. text.now) texts.items) r
+        ≡ arguments_given (usage_of usage.now) (map string_bytes (drop 1 words.entry.now))) }
+{
+    if has_stray(usage.options, &words[1..]) {
         return Ok(None);
     }
-    let line = line(alloc)?;
+    let line = line(alloc, usage)?;
     match line.try_get_matches_from(words) {
-        Ok(matches) => Ok(command_in(&matches)),
+        Ok(matches) => match matches.subcommand() {
+            Some((_, found)) => arguments_in(alloc, usage, found),
+            None => Ok(None),
+        },
         Err(error) => {
             if is_memory(&error) {
                 Err(AllocError)
@@ -39,5 +58,34 @@ pub fn command_of<'a>(alloc: Global, words: &'a [String]) -> Result<Option<Comma
                 Ok(None)
             }
         }
+    }
+}
+
+/// What the words give by a table of commands, or `None` where they give nothing.
+///
+/// The first word names the row. The others are its positional words, and its options with their values: `--name VALUE` or
+/// `--name=VALUE`, with the whole name and at most once. Behind the first `--` all words are positional; before it neither a
+/// positional word nor a separate value begins with a hyphen. Only memory may be wanting.
+pub fn read_words<'a>(
+    alloc: Global,
+    usages: &'a [Usage<'a>],
+    words: &'a [String],
+) -> Result<Option<Given<'a>>, AllocError>
+    requires { is_usage_table (map usage_of usages.now) ≡ true }
+    ensures { IfOk result (λ r. option_map given_of r
+        ≡ reading_of (map usage_of usages.entry.now) (map string_bytes words.entry.now)) }
+{
+    match words {
+        [] => Ok(None),
+        [name, ..] => match usage_named(usages, name.as_str()) {
+            Some(usage) => match arguments_given(alloc, usage, words)? {
+                Some(arguments) => Ok(Some(Given {
+                    name: usage.name,
+                    arguments,
+                })),
+                None => Ok(None),
+            },
+            None => Ok(None),
+        },
     }
 }

@@ -1,0 +1,5 @@
+use Rattle.sg_words.proofs.Worked as worked
+use Rattle.sg_words.proofs.laws.worked_words.Goals as goal
+
+pub returns : goal.returns
+returns c = worked.worked_words

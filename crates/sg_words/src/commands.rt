@@ -1,0 +1,91 @@
+//! The table of commands, and the command that a row's arguments ask for.
+
+ghost use Rattle.std.specs.Prelude.{◌≡◌, ◌↔◌, Option, Some, None, IfOk, IsNone, map, option_map, string_bytes};
+ghost use Rattle.sg_words.specs.Commands.{Asked, Gives, solve, check, show, with_one, with_two, asked_by, asked_of, command_given};
+
+use crate::command::Command;
+use crate::kind::Kind;
+use crate::reading::read_words;
+use crate::usage::Usage;
+use std::alloc::{AllocError, Global};
+
+/// The commands: each with what its positional words must be, and its options.
+static USAGES: [Usage<'static>; 3] = [
+    Usage {
+        name: "solve",
+        positionals: &[Kind::Any],
+        options: &[],
+    },
+    Usage {
+        name: "check",
+        positionals: &[Kind::Any, Kind::Any],
+        options: &[],
+    },
+    Usage {
+        name: "show",
+        positionals: &[Kind::Any, Kind::Any],
+        options: &[],
+    },
+];
+
+fn solve<'a>(arguments: &[&'a str]) -> Option<Command<'a>>
+    ensures { option_map asked_of result ≡ with_one solve (map (λ text. text.now) arguments.now) }
+{
+    match arguments {
+        [game] => Some(Command::Solve { game: *game }),
+        _ => None,
+    }
+}
+
+fn check<'a>(arguments: &[&'a str]) -> Option<Command<'a>>
+    ensures { option_map asked_of result ≡ with_two check (map (λ text. text.now) arguments.now) }
+{
+    match arguments {
+        [game, report] => Some(Command::Check {
+            game: *game,
+            report: *report,
+        }),
+        _ => None,
+    }
+}
+
+fn show<'a>(arguments: &[&'a str]) -> Option<Command<'a>>
+    ensures { option_map asked_of result ≡ with_two show (map (λ text. text.now) arguments.now) }
+{
+    match arguments {
+        [game, report] => Some(Command::Show {
+            game: *game,
+            report: *report,
+        }),
+        _ => None,
+    }
+}
+
+/// The command of this name with these arguments.
+fn command_with<'a>(name: &str, arguments: &[&'a str]) -> Option<Command<'a>>
+    ensures { option_map asked_of result ≡ asked_by name.now (map (λ text. text.now) arguments.now) }
+{
+    match name {
+        "solve" => solve(arguments),
+        "check" => check(arguments),
+        "show" => show(arguments),
+        _ => None,
+    }
+}
+
+/// The command that the words give, or `None` where they give none. The words are those after the program's name, and
+/// only memory may be wanting.
+pub fn command_of<'a>(alloc: Global, words: &'a [String]) -> Result<Option<Command<'a>>, AllocError>
+    ensures answer { IfOk result (λ r. option_map asked_of r ≡ command_given (map string_bytes words.entry.now)) }
+
+    // The same by the rules of writing, in both directions.
+    ensures given { IfOk result (λ r. (asked : Asked) →
+        (option_map asked_of r ≡ Some asked) ↔ Gives (map string_bytes words.entry.now) asked) }
+    ensures none { IfOk result (λ r.
+        IsNone r ↔ ((asked : Asked) → ¬ Gives (map string_bytes words.entry.now) asked)) }
+{
+    match read_words(alloc, &USAGES, words)? {
+        Some(given) => Ok(command_with(given.name, given.arguments.as_slice())),
+        None => Ok(None),
+    }
+}
