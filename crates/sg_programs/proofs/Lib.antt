@@ -4,3 +4,4 @@ pub mod Heights
 pub mod Sized
 pub mod Kept
 pub mod Worked
+pub mod Multipliers

@@ -75,7 +75,7 @@ prior-spans g h l low high = elim (game_cases g h) [
   | inr m ↦ (let p = (nth-all (IsMatrixType (length g.goals)) g.types nobody m.game.each_type l low high).prior in record { low = omega (arith, ints, p.at_least); high = p.at_most })
 ]
 
-few-types : (g : Game) → IsGame g → length g.types ≤ 8
+pub few-types : (g : Game) → IsGame g → length g.types ≤ 8
 few-types g h = elim (game_cases g h) [ inl s ↦ s.game.types.count.at_most | inr m ↦ m.game.types.count.at_most ]
 
 pairs-count : (a : ℕ) (acts : List ℕ) → length (zip (numbers_from a (length acts)) acts) ≡ length acts

@@ -6,3 +6,4 @@ pub mod Marks
 pub mod Shown
 pub mod Laws
 pub mod Examples
+pub mod FactLaws

@@ -48,9 +48,9 @@ module _ (usage : Usage) (words : List Text) (all : list_all is_option_name (opt
         → Some found_rows ≡ option_map (λ (p : Text × List Row). p.1) entered → arguments_in usage found_rows ≡ arguments_given usage words
     arguments_given-parsed entered found_rows faultless entered_so is =
         let none : fault ≡ [] = sym (fault_of-line usage.name (option_names usage) words) ∙ sym (ap (λ (x : App). fault_of x (usage.name ∷ words)) same)
-            ∙ sym (ap (fault_of a) call_is) ∙ faultless (ap is_simple_and_free same ∙ line_is_free usage.name (option_names usage)) in
+        ∙ sym (ap (fault_of a) call_is) ∙ faultless (ap is_simple_and_free same ∙ line_is_free usage.name (option_names usage)) in
         let entered_is : entered ≡ Some (usage.name, rows) = entered_so (ap is_simple same ∙ line_is_simple usage.name (option_names usage))
-            ∙ ap (subcommand_of a) call_is ∙ ap (λ (x : App). subcommand_of x (usage.name ∷ words)) same ∙ subcommand_of-line usage.name (option_names usage) words in
+        ∙ ap (subcommand_of a) call_is ∙ ap (λ (x : App). subcommand_of x (usage.name ∷ words)) same ∙ subcommand_of-line usage.name (option_names usage) words in
         let rows_are : Some found_rows ≡ Some rows = is ∙ ap (option_map (λ (p : Text × List Row). p.1)) entered_is in
         let rows_is : found_rows ≡ rows = cc in
         ap (arguments_in usage) rows_is ∙ found (pieces_of (option_names usage) words None) (meets kept) none
@@ -60,7 +60,7 @@ module _ (usage : Usage) (words : List Text) (all : list_all is_option_name (opt
         → None ≡ option_map (λ (p : Text × List Row). p.1) entered → ⊥
     entered-parsed entered entered_so is =
         let entered_is : entered ≡ Some (usage.name, rows) = entered_so (ap is_simple same ∙ line_is_simple usage.name (option_names usage))
-            ∙ ap (subcommand_of a) call_is ∙ ap (λ (x : App). subcommand_of x (usage.name ∷ words)) same ∙ subcommand_of-line usage.name (option_names usage) words in
+        ∙ ap (subcommand_of a) call_is ∙ ap (λ (x : App). subcommand_of x (usage.name ∷ words)) same ∙ subcommand_of-line usage.name (option_names usage) words in
         let bad : None ≡ Some rows = is ∙ ap (option_map (λ (p : Text × List Row). p.1)) entered_is in
         absurd cc
 

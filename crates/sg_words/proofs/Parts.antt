@@ -117,7 +117,7 @@ is_joined word name value h = go (behind word (name, Some value) h)
         with_value : (has_byte 61 b.text ≡ true) ⊎ (has_byte 61 b.text ≡ false) → b.text ≡ name ++ (codes "=" ++ value)
         with_value (inl has) =
             let behind_it : Some (after_first is_equals b.text) ≡ Some value =
-                sym (ap (λ (c : Bool). if c then Some (after_first is_equals b.text) else None) has) ∙ ap (λ (p : Text × Option Text). p.1) b.split_as in
+            sym (ap (λ (c : Bool). if c then Some (after_first is_equals b.text) else None) has) ∙ ap (λ (p : Text × Option Text). p.1) b.split_as in
             let value_is : after_first is_equals b.text ≡ value = cc in
             split_at_sign 61 b.text has ∙ ap₂ (λ (before after : Text). before ++ (codes "=" ++ after)) (ap (λ (p : Text × Option Text). p.0) b.split_as) value_is
         with_value (inr none) = absurd (let bad : None ≡ Some value =

@@ -107,7 +107,7 @@ texts_in-values name (given_option other value ∷ pieces) rows apart =
         → texts_in name (with_text other value rows) ++ values_of name pieces ≡ texts_in name rows ++ values_of name (given_option other value ∷ pieces)
     go (inl e) =
         let same : texts_in name (with_text other value rows) ≡ texts_in name rows ++ value ∷ [] =
-            subst (λ (t : Text). texts_in name (with_text t value rows) ≡ texts_in name rows ++ value ∷ []) (sym (same_text other name e)) (texts_in-same name value rows) in
+        subst (λ (t : Text). texts_in name (with_text t value rows) ≡ texts_in name rows ++ value ∷ []) (sym (same_text other name e)) (texts_in-same name value rows) in
         ap (λ (ts : List Text). ts ++ values_of name pieces) same ∙ append_assoc (texts_in name rows) (value ∷ []) (values_of name pieces) ∙ rw e refl
     go (inr e) = ap (λ (ts : List Text). ts ++ values_of name pieces) (texts_in-other name other value rows e) ∙ rw e refl
 

@@ -9,10 +9,10 @@ use Rattle.sg_words.specs.Stray.{has_stray}
 -- `list NAME NAME [--seed N]`, with a number from 0 to 2^64 - 1, and `try game NAME [--lanes N] [--order WORD]`, with a number from 2 to 8
 abbrev pub sample : List Usage
 sample = record {
-      name = codes "list";
-      positionals = any ∷ any ∷ [];
-      options = record { name = codes "seed"; kind = number 0 18446744073709551615; default = codes "0" } ∷ [];
-    }
+  name = codes "list";
+  positionals = any ∷ any ∷ [];
+  options = record { name = codes "seed"; kind = number 0 18446744073709551615; default = codes "0" } ∷ [];
+}
     ∷ record {
       name = codes "try";
       positionals = fixed (codes "game") ∷ any ∷ [];

@@ -75,7 +75,7 @@ fn push_values<'a>(
 ) -> Result<bool, AllocError>
     ensures { IfOk result (λ all. (if all then Some (map (λ text. text.now) texts.new.items) else None)
         ≡ option_map (λ values. map (λ text. text.now) texts.old.items ++ values)
-            (values_by (map setting_of settings.now) (λ name. texts_in name (rows_of (found_of found.now))))) }
+        (values_by (map setting_of settings.now) (λ name. texts_in name (rows_of (found_of found.now))))) }
 {
     for setting in settings {
         match value_in(setting, found) {

@@ -1,0 +1,185 @@
+-- The rows of a node, type by type.
+use Rattle.std.proofs.Common.{◌≡◌, ◌≢◌, ◌∙◌, ℕ, zero, suc, ◌+◌, ◌-◌, ◌<◌, ◌≤◌, Bool, true, false, cond, List, [], ◌∷◌, ◌++◌, length, map, take, not, flat_map, sym, ap, subst, refl, arith, eqb, slice_index, slice_index_or, get_or}
+use Rattle.std.specs.Prelude.{ℤ, pos, ◌-ℤ◌, nat_eq}
+use Rattle.std.specs.List.{All, AllZip, filter, zip}
+use Rattle.std.proofs.lemmas.Bool.Decides.{nat_tests}
+use Rattle.std.proofs.lemmas.Grind.{flat_map-append}
+use Rattle.std.proofs.lemmas.List.{append-nil, map-append, take_more}
+use Rattle.std.proofs.lemmas.List.Elements.{All-map}
+use Rattle.std.proofs.Math.Seq.{take-length}
+use Rattle.sg_model.specs.Games.{Game, action_count}
+use Rattle.sg_model.specs.Limits.{IsGame}
+use Rattle.sg_model.specs.PlayLists.{legal_plays}
+use Rattle.sg_model.specs.Plays.{pay_a}
+use Rattle.sg_model.specs.Sums.{numbers, numbers_from}
+use Rattle.sg_tree.specs.declared.fix.Fix.{Fix}
+use Rattle.sg_bounds.specs.Regions.{IsFix, act_of, fixed}
+use Rattle.sg_bounds.proofs.Cover.{fixed_pairs}
+use Rattle.sg_rows.specs.Rows.{place}
+use Rattle.sg_bounds.specs.PlayRows.{comparisons, gain, other_actions}
+use Rattle.sg_programs.proofs.Heights.{numbers-split}
+use Rattle.sg_programs.proofs.Sized.{few-types}
+use Rattle.sg_dobss.specs.Paying.{AreByPlay, AreNumbers, difference_at, play_at}
+use Rattle.sg_dobss.specs.Tables.{AreGainRows, IsGainRow, IsTypeRow}
+
+-- ---- lists side by side
+
+pub zip-append : {A B : Type 0} (R : A → B → Type 0) (xs : List A) (ys : List B) (us : List A) (vs : List B) → AllZip R xs ys → AllZip R us vs → AllZip R (xs ++ us) (ys ++ vs)
+zip-append R [] [] us vs h k = k
+zip-append R [] (y ∷ ys) us vs h k = absurd h
+zip-append R (x ∷ xs) [] us vs h k = absurd h
+zip-append R (x ∷ xs) (y ∷ ys) us vs h k = (h.0, zip-append R xs ys us vs h.1 k)
+
+pub zip-weaker : {A B : Type 0} (P : A → Type 0) (R S : A → B → Type 0) → ((x : A) (y : B) → P x → R x y → S x y) → (xs : List A) (ys : List B) → All P xs → AllZip R xs ys → AllZip S xs ys
+zip-weaker P R S f [] [] all h = tt
+zip-weaker P R S f [] (y ∷ ys) all h = absurd h
+zip-weaker P R S f (x ∷ xs) [] all h = absurd h
+zip-weaker P R S f (x ∷ xs) (y ∷ ys) all h = (f x y (all 0 x (omega arith)) h.0, zip-weaker P R S f xs ys (λ i d lt. all (suc i) d (omega (arith, lt))) h.1)
+
+pub zip-at : {A B : Type 0} (R : A → B → Type 0) (xs : List A) (ys : List B) (i : ℕ) (d : A) (e : B) → AllZip R xs ys → i < length xs → R (get_or xs i d) (get_or ys i e)
+zip-at R [] [] i d e h lt = absurd (omega arith)
+zip-at R [] (y ∷ ys) i d e h lt = absurd h
+zip-at R (x ∷ xs) [] i d e h lt = absurd h
+zip-at R (x ∷ xs) (y ∷ ys) zero d e h lt = h.0
+zip-at R (x ∷ xs) (y ∷ ys) (suc i) d e h lt = zip-at R xs ys i d e h.1 (omega (arith, lt))
+
+-- ---- one action
+
+pub differences-by_play : (g : Game) (f h : List ℕ → ℤ) (xs ys zs : List ℤ) → AreByPlay g f xs → AreByPlay g h ys → AreNumbers (length xs) (difference_at xs ys) zs → AreByPlay g (λ play. f play -ℤ h play) zs
+differences-by_play g f h xs ys zs p q r = record {
+  long = r.long ∙ p.long;
+  each = λ k lt.
+      let d = r.each k (omega (arith, lt, p.long)) in
+      d ∙ ap (λ (z : ℤ). z -ℤ place ys k) (p.each k lt) ∙ ap (λ (z : ℤ). f (play_at g k) -ℤ z) (q.each k lt);
+}
+
+-- ---- one type
+
+abbrev pub apart : ℕ → ℕ → Bool
+apart a b = not (nat_eq a b)
+
+filter-append : (p : ℕ → Bool) (xs ys : List ℕ) → filter p (xs ++ ys) ≡ filter p xs ++ filter p ys
+filter-append p [] ys = refl
+filter-append p (x ∷ xs) ys = go (p x) (filter-append p xs ys)
+  where
+    go : (t : Bool) → filter p (xs ++ ys) ≡ filter p xs ++ filter p ys → cond t (x ∷ filter p (xs ++ ys)) (filter p (xs ++ ys)) ≡ cond t (x ∷ filter p xs) (filter p xs) ++ filter p ys
+    go true e = ap (λ zs. x ∷ zs) e
+    go false e = e
+
+-- the actions up to n, but one, each with its type
+abbrev pub others_to : ℕ → ℕ → ℕ → List (ℕ × ℕ)
+others_to l act n = map (λ (a : ℕ). (l, a)) (filter (apart act) (numbers n))
+
+others-split : (l act n : ℕ) → others_to l act (n + 1) ≡ others_to l act n ++ map (λ (a : ℕ). (l, a)) (cond (apart act (1 + n)) ((1 + n) ∷ []) [])
+others-split l act n =
+    ap (λ xs. map (λ (a : ℕ). (l, a)) (filter (apart act) xs)) (numbers-split 1 n 1)
+    ∙ ap (map (λ (a : ℕ). (l, a))) (filter-append (apart act) (numbers n) ((1 + n) ∷ []))
+    ∙ map-append (λ (a : ℕ). (l, a)) (filter (apart act) (numbers n)) (cond (apart act (1 + n)) ((1 + n) ∷ []) [])
+
+pub others-more : (l act n : ℕ) → n + 1 ≢ act → others_to l act (n + 1) ≡ others_to l act n ++ (l, n + 1) ∷ []
+others-more l act n ne =
+    let swap : 1 + n ≡ n + 1 = omega arith in
+    let e : nat_eq act (1 + n) ≡ false = grind (arith, nat_tests) in
+    others-split l act n
+    ∙ ap (λ (t : Bool). others_to l act n ++ map (λ (a : ℕ). (l, a)) (cond (not t) ((1 + n) ∷ []) [])) e
+    ∙ ap (λ (m : ℕ). others_to l act n ++ (l, m) ∷ []) swap
+
+pub others-same : (l act n : ℕ) → n + 1 ≡ act → others_to l act (n + 1) ≡ others_to l act n
+others-same l act n is =
+    let e : nat_eq act (1 + n) ≡ true = grind (arith, nat_tests) in
+    others-split l act n
+    ∙ ap (λ (t : Bool). others_to l act n ++ map (λ (a : ℕ). (l, a)) (cond (not t) ((1 + n) ∷ []) [])) e
+    ∙ append-nil (others_to l act n)
+
+-- ---- all types
+
+pair-from : (a : ℕ) (acts : List ℕ) (i : ℕ) (d : ℕ × ℕ) → i < length acts → get_or (zip (numbers_from a (length acts)) acts) i d ≡ (a + i, slice_index acts i)
+pair-from a [] i d lt = absurd (omega arith)
+pair-from a (c ∷ cs) zero d lt = let e : a ≡ a + 0 = omega arith in ap (λ (m : ℕ). (m, c)) e
+pair-from a (c ∷ cs) (suc i) d lt = let e : a + 1 + i ≡ a + suc i = omega arith in pair-from (a + 1) cs i d (omega (arith, lt)) ∙ ap (λ (m : ℕ). (m, slice_index cs i)) e
+
+pub fixed-at : (fix : Fix) (i : ℕ) (d : ℕ × ℕ) → i < length fix.acts → get_or (fixed fix) i d ≡ (fix.first + i, slice_index fix.acts i)
+fixed-at fix i d lt = pair-from fix.first fix.acts i d lt
+
+pairs-count : (a : ℕ) (acts : List ℕ) → length (zip (numbers_from a (length acts)) acts) ≡ length acts
+pairs-count a [] = refl
+pairs-count a (c ∷ cs) = ap suc (pairs-count (a + 1) cs)
+
+pub fixed-count : (fix : Fix) → length (fixed fix) ≡ length fix.acts
+fixed-count fix = pairs-count fix.first fix.acts
+
+pub fixed-more : (fix : Fix) (i : ℕ) → i < length fix.acts → take (i + 1) (fixed fix) ≡ take i (fixed fix) ++ (fix.first + i, slice_index fix.acts i) ∷ []
+fixed-more fix i lt = take_more (fixed fix) i (0, 0) (omega (arith, lt, fixed-count fix)) ∙ ap (λ (p : ℕ × ℕ). take i (fixed fix) ++ p ∷ []) (fixed-at fix i (0, 0) lt)
+
+pub fixed-all : (fix : Fix) → take (length fix.acts) (fixed fix) ≡ fixed fix
+fixed-all fix = ap (λ (n : ℕ). take n (fixed fix)) (sym (fixed-count fix)) ∙ take-length (fixed fix)
+
+-- the action of a fixed type
+pub act-is : (fix : Fix) (i : ℕ) → act_of fix (fix.first + i) ≡ slice_index fix.acts i
+act-is fix i = let e : fix.first + i - fix.first ≡ i = omega arith in ap (slice_index fix.acts) e
+
+-- what a type is fixed to is one of its actions
+pub act-in_range : (g : Game) (fix : Fix) → IsFix g fix → (i : ℕ) → i < length fix.acts → (1 ≤ slice_index fix.acts i) × (slice_index fix.acts i ≤ action_count g (fix.first + i))
+act-in_range g fix is_fix i lt =
+    let p = is_fix.acts i (0, 0) (omega (arith, lt, fixed-count fix)) in
+    let e = fixed-at fix i (0, 0) lt in
+    subst (λ (q : ℕ × ℕ). (1 ≤ q.1) × (q.1 ≤ action_count g q.0)) e p
+
+pub type-in_range : (g : Game) (fix : Fix) → IsFix g fix → (i : ℕ) → i < length fix.acts → (1 ≤ fix.first + i) × (fix.first + i ≤ length g.types)
+type-in_range g fix is_fix i lt = let a = is_fix.from_one in let b = is_fix.in_range in (omega (arith, a), omega (arith, b, lt))
+
+-- the rows of one type more
+pub rows-more : (g : Game) (fix : Fix) (i : ℕ) (rows more : List (List ℤ)) → i < length fix.acts → AreGainRows g fix i rows
+    → AllZip (IsTypeRow g (slice_index fix.acts i)) (other_actions g (fix.first + i, slice_index fix.acts i)) more → AreGainRows g fix (i + 1) (rows ++ more)
+rows-more g fix i rows more lt h k =
+    let act : ℕ = slice_index fix.acts i in
+    let l : ℕ = fix.first + i in
+    let before : List (ℕ × ℕ) = flat_map (other_actions g) (take i (fixed fix)) in
+    let of-type : All (λ (m : ℕ × ℕ). m.0 ≡ l) (other_actions g (l, act)) = All-map (λ (m : ℕ × ℕ). m.0 ≡ l) (λ (a : ℕ). (l, a)) (filter (apart act) (numbers (action_count g l))) (λ j d within. refl) in
+    let gained : AllZip (IsGainRow g fix) (other_actions g (l, act)) more =
+    zip-weaker (λ (m : ℕ × ℕ). m.0 ≡ l) (IsTypeRow g act) (IsGainRow g fix)
+    (λ m row is r. record {
+      long = r.long;
+      each = λ n within. r.each n within ∙ ap (λ (a : ℕ). pay_a g m.0 (play_at g n) m.1 -ℤ pay_a g m.0 (play_at g n) a) (sym (ap (act_of fix) is ∙ act-is fix i));
+    }) (other_actions g (l, act)) more of-type k in
+    let e : flat_map (other_actions g) (take (i + 1) (fixed fix)) ≡ before ++ other_actions g (l, act) =
+    ap (flat_map (other_actions g)) (fixed-more fix i lt) ∙ flat_map-append (other_actions g) (take i (fixed fix)) ((l, act) ∷ []) ∙ ap (λ xs. before ++ xs) (append-nil (other_actions g (l, act))) in
+    subst (λ (ms : List (ℕ × ℕ)). AllZip (IsGainRow g fix) ms (rows ++ more)) (sym e) (zip-append (IsGainRow g fix) before rows (other_actions g (l, act)) more h gained)
+
+pub rows-all : (g : Game) (fix : Fix) (rows : List (List ℤ)) → AreGainRows g fix (length fix.acts) rows → AllZip (IsGainRow g fix) (comparisons g fix) rows
+rows-all g fix rows h = subst (λ (ps : List (ℕ × ℕ)). AllZip (IsGainRow g fix) (flat_map (other_actions g) ps) rows) (fixed-all fix) h
+
+-- the differences of two lists of payoffs, of which the first is read as a slice
+pub gained : (g : Game) (f h : List ℕ → ℤ) (pays xs ys zs : List ℤ) → xs ≡ pays → AreByPlay g f pays → AreByPlay g h ys → AreNumbers (length xs) (difference_at xs ys) zs → AreByPlay g (λ play. f play -ℤ h play) zs
+gained g f h pays xs ys zs e p q r = differences-by_play g f h xs ys zs (subst (AreByPlay g f) (sym e) p) q r
+
+-- one action more, other than the fixed one
+pub type-more : (g : Game) (l act n : ℕ) (rows : List (List ℤ)) (row : List ℤ) → n + 1 ≢ act → AllZip (IsTypeRow g act) (others_to l act n) rows → IsTypeRow g act (l, n + 1) row
+    → AllZip (IsTypeRow g act) (others_to l act (n + 1)) (rows ++ row ∷ [])
+type-more g l act n rows row ne h k =
+    subst (λ ms. AllZip (IsTypeRow g act) ms (rows ++ row ∷ [])) (sym (others-more l act n ne)) (zip-append (IsTypeRow g act) (others_to l act n) rows ((l, n + 1) ∷ []) (row ∷ []) h (k, tt))
+
+-- and the fixed one, which has no row
+pub type-same : (g : Game) (l act n : ℕ) (rows : List (List ℤ)) → n + 1 ≡ act → AllZip (IsTypeRow g act) (others_to l act n) rows → AllZip (IsTypeRow g act) (others_to l act (n + 1)) rows
+type-same g l act n rows is h = subst (λ ms. AllZip (IsTypeRow g act) ms rows) (sym (others-same l act n is)) h
+
+pub fix-small : (g : Game) (fix : Fix) → IsGame g → IsFix g fix → fix.first + length fix.acts ≤ 9
+fix-small g fix game is_fix = let b = is_fix.in_range in omega (arith, few-types g game, b)
+
+-- the rows of one type more, as they are made
+pub rows-next : (g : Game) (fix : Fix) (i l act : ℕ) (rows more all : List (List ℤ)) → i < length fix.acts → l ≡ fix.first + i → act ≡ slice_index fix.acts i → AreGainRows g fix i rows
+    → AllZip (IsTypeRow g act) (other_actions g (l, act)) more → all ≡ rows ++ more → AreGainRows g fix (i + 1) all
+rows-next g fix i l act rows more all lt e f h k is =
+    subst (AreGainRows g fix (i + 1)) (sym is)
+    (rows-more g fix i rows more lt h (subst (λ a. AllZip (IsTypeRow g a) (other_actions g (fix.first + i, a)) more) f (subst (λ m. AllZip (IsTypeRow g act) (other_actions g (m, act)) more) e k)))
+
+pub rows-end : (g : Game) (fix : Fix) (i : ℕ) (rows : List (List ℤ)) → length fix.acts ≤ i → i ≤ length fix.acts → AreGainRows g fix i rows → AllZip (IsGainRow g fix) (comparisons g fix) rows
+rows-end g fix i rows le ge h = let e : i ≡ length fix.acts = omega (arith, le, ge) in rows-all g fix rows (subst (λ n. AreGainRows g fix n rows) e h)
+
+-- as the rows are written
+pub type-more-by : (g : Game) (l act n : ℕ) (rows : List (List ℤ)) (row : List ℤ) (pushed all : List (List ℤ)) → n + 1 ≢ act → AllZip (IsTypeRow g act) (others_to l act n) rows → IsTypeRow g act (l, n + 1) row
+    → pushed ≡ rows ++ row ∷ [] → all ≡ pushed → AllZip (IsTypeRow g act) (others_to l act (n + 1)) all
+type-more-by g l act n rows row pushed all ne h k e f = subst (AllZip (IsTypeRow g act) (others_to l act (n + 1))) (sym (f ∙ e)) (type-more g l act n rows row ne h k)
+
+pub type-same-by : (g : Game) (l act n : ℕ) (rows all : List (List ℤ)) → n + 1 ≡ act → AllZip (IsTypeRow g act) (others_to l act n) rows → all ≡ rows → AllZip (IsTypeRow g act) (others_to l act (n + 1)) all
+type-same-by g l act n rows all is h f = subst (AllZip (IsTypeRow g act) (others_to l act (n + 1))) (sym f) (type-same g l act n rows is h)

@@ -1,0 +1,12 @@
+pub mod Numbered
+pub mod Adding
+pub mod Covered
+pub mod Paid
+pub mod Gains
+pub mod Costs
+pub mod Ranks
+pub mod Living
+pub mod Summed
+pub mod Testing
+pub mod InTurn
+pub mod Held

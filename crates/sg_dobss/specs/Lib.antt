@@ -1,0 +1,5 @@
+pub mod Covering
+pub mod Paying
+pub mod Tables
+pub mod Tests
+pub mod Listings
