@@ -1,5 +1,4 @@
 pub mod Plays
-pub mod Nodes
 pub mod Enough
 pub mod Sparse
 pub mod Marks

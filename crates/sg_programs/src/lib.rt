@@ -1,6 +1,6 @@
 //! The linear programs of the nodes of a game, and what holds of them; no code.
 //!
-//! The definitions stand in `specs/`: `Plays` (the program over all legal plays), `Nodes` (which fixes have a program),
+//! The definitions stand in `specs/`: `Plays` (the program over all legal plays), `Marks` (the fact that multipliers are), `Shown` (what is formed at the end of a run),
 //! `Enough` (how many nodes, looks and pivots are enough) and `Sparse` (products of rows with many zeros). The functions
 //! below carry laws about them: each has an empty body, and its contract is a statement of `specs/Laws.antt`.
 #![tactic(auto)]
