@@ -19,7 +19,7 @@ use Rattle.sg_bounds.specs.Facts.{cost}
 use Rattle.sg_num.specs.Exact.{IsAtMost}
 use Rattle.sg_rows.specs.Rows.{place}
 use Rattle.sg_programs.proofs.Sized.{cost_part, fixed-few, parts-small}
-use Rattle.sg_dobss.specs.Paying.{AreByPlay, AreNumbers, play_at}
+use Rattle.sg_dobss.specs.Paying.{AreByPlay, AreNumbers, listed_play}
 use Rattle.sg_dobss.specs.Tables.{added_to, cost_to}
 use Rattle.sg_dobss.proofs.Gains.{fixed-all, fixed-count, fixed-more}
 use Rattle.sg_dobss.proofs.Numbered.{all-numbers}
@@ -42,26 +42,26 @@ costs-more g fix i costs pays sums lt h q r = record {
       let prior : ℤ = (attacker g (fix.first + i)).prior in
       r.each k (omega (arith, within, h.long))
       ∙ ap (λ (z : ℤ). z +ℤ (prior *ℤ (place pays k +ℤ shift_of g))) (h.each k within)
-      ∙ ap (λ (z : ℤ). cost_to g fix i (play_at g k) +ℤ (prior *ℤ (z +ℤ shift_of g))) (q.each k within)
-      ∙ sym (cost-more g fix i (play_at g k) lt);
+      ∙ ap (λ (z : ℤ). cost_to g fix i (listed_play g k) +ℤ (prior *ℤ (z +ℤ shift_of g))) (q.each k within)
+      ∙ sym (cost-more g fix i (listed_play g k) lt);
 }
 
 pub costs-all : (g : Game) (fix : Fix) (costs : List ℤ) → AreByPlay g (cost_to g fix (length fix.acts)) costs → AreByPlay g (λ play. cost g fix play) costs
 costs-all g fix costs h = record {
   long = h.long;
-  each = λ k lt. h.each k lt ∙ ap (total (cost_part g (play_at g k))) (fixed-all fix);
+  each = λ k lt. h.each k lt ∙ ap (total (cost_part g (listed_play g k))) (fixed-all fix);
 }
 
 -- they stay small
 pub costs-small : (g : Game) → IsGame g → (fix : Fix) → IsFix g fix → (i : ℕ) → i ≤ length fix.acts → (costs : List ℤ) → AreByPlay g (cost_to g fix i) costs → All (IsAtMost (pos (2 ^ 60))) costs
-costs-small g h fix is_fix i le costs are = all-numbers (IsAtMost (pos (2 ^ 60))) (length (legal_plays g)) (λ k. cost_to g fix i (play_at g k)) costs are each
+costs-small g h fix is_fix i le costs are = all-numbers (IsAtMost (pos (2 ^ 60))) (length (legal_plays g)) (λ k. cost_to g fix i (listed_play g k)) costs are each
   where
     room-for : (n : ℕ) → n ≤ 8 → n * (2 ^ 20 * (2 ^ 31 + 1)) ≤ 2 ^ 60
     room-for n le = omega (arith, le)
 
-    each : (k : ℕ) → k < length (legal_plays g) → IsAtMost (pos (2 ^ 60)) (cost_to g fix i (play_at g k))
+    each : (k : ℕ) → k < length (legal_plays g) → IsAtMost (pos (2 ^ 60)) (cost_to g fix i (listed_play g k))
     each k within =
-        let play : List ℕ = play_at g k in
+        let play : List ℕ = listed_play g k in
         let most : ℕ = 2 ^ 20 * (2 ^ 31 + 1) in
         let some : List (ℕ × ℕ) = take i (fixed fix) in
         let all = spans_total (cost_part g play) most some (All-take (λ p. Spans most (cost_part g play p)) i (fixed fix) (parts-small g h fix is_fix play)) in

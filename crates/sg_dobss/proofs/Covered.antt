@@ -8,40 +8,40 @@ use Rattle.sg_model.specs.Sums.{nth, numbers_from}
 use Rattle.sg_model.specs.Plays.{covers, covers_from}
 use Rattle.sg_model.specs.PlayLists.{choices_of, joint_plays, legal_plays}
 use Rattle.sg_programs.proofs.Heights.{numbers-split}
-use Rattle.sg_dobss.specs.Covering.{AreCovered, holds}
+use Rattle.sg_dobss.specs.Covering.{AreCovered, holds_target}
 
 -- which plays of n resources, from resource r on, cover target t
 abbrev pub covered_from : Game → ℕ → ℕ → ℕ → List Bool
 covered_from g t r n = map (λ play. covers_from g r play t) (joint_plays g r n)
 
 -- one choice in front of each
-one_choice : (g : Game) (t r c : ℕ) (rest : List (List ℕ)) → map (λ b. holds g r t c || b) (map (λ play. covers_from g (r + 1) play t) rest) ≡ map (λ play. covers_from g r play t) (map (λ cs. c ∷ cs) rest)
+one_choice : (g : Game) (t r c : ℕ) (rest : List (List ℕ)) → map (λ b. holds_target g r t c || b) (map (λ play. covers_from g (r + 1) play t) rest) ≡ map (λ play. covers_from g r play t) (map (λ cs. c ∷ cs) rest)
 one_choice g t r c [] = refl
 one_choice g t r c (cs ∷ rest) = ap (λ xs. covers_from g r (c ∷ cs) t ∷ xs) (one_choice g t r c rest)
 
 all_choices : (g : Game) (t r : ℕ) (rest : List (List ℕ)) (cs : List ℕ)
-    → flat_map (λ c. map (λ b. holds g r t c || b) (map (λ play. covers_from g (r + 1) play t) rest)) cs ≡ map (λ play. covers_from g r play t) (flat_map (λ c. map (λ x. c ∷ x) rest) cs)
+    → flat_map (λ c. map (λ b. holds_target g r t c || b) (map (λ play. covers_from g (r + 1) play t) rest)) cs ≡ map (λ play. covers_from g r play t) (flat_map (λ c. map (λ x. c ∷ x) rest) cs)
 all_choices g t r rest [] = refl
 all_choices g t r rest (c ∷ cs) =
     let f : ℕ → List (List ℕ) = λ c. map (λ x. c ∷ x) rest in
-    ap (λ xs. xs ++ flat_map (λ c. map (λ b. holds g r t c || b) (map (λ play. covers_from g (r + 1) play t) rest)) cs) (one_choice g t r c rest)
+    ap (λ xs. xs ++ flat_map (λ c. map (λ b. holds_target g r t c || b) (map (λ play. covers_from g (r + 1) play t) rest)) cs) (one_choice g t r c rest)
     ∙ ap (λ xs. map (λ play. covers_from g r play t) (f c) ++ xs) (all_choices g t r rest cs)
     ∙ sym (map-append (λ play. covers_from g r play t) (f c) (flat_map f cs))
 
 -- one more resource in front
-pub covered_from-next : (g : Game) (t r n : ℕ) → flat_map (λ c. map (λ b. holds g r t c || b) (covered_from g t (r + 1) n)) (choices_of g r) ≡ covered_from g t r (suc n)
+pub covered_from-next : (g : Game) (t r n : ℕ) → flat_map (λ c. map (λ b. holds_target g r t c || b) (covered_from g t (r + 1) n)) (choices_of g r) ≡ covered_from g t r (suc n)
 covered_from-next g t r n = all_choices g t r (joint_plays g (r + 1) n) (choices_of g r)
 
 -- the same, by the number of resources that are done
 pub covered-more : (g : Game) (t m k : ℕ) (all next : List Bool) → k < m → all ≡ covered_from g t (m + 1 - k) k
-    → next ≡ flat_map (λ c. map (λ b. holds g (m - k) t c || b) all) (choices_of g (m - k)) → next ≡ covered_from g t (m + 1 - (k + 1)) (k + 1)
+    → next ≡ flat_map (λ c. map (λ b. holds_target g (m - k) t c || b) all) (choices_of g (m - k)) → next ≡ covered_from g t (m + 1 - (k + 1)) (k + 1)
 covered-more g t m k all next lt e h =
     let r : ℕ = m - k in
     let before : m + 1 - k ≡ r + 1 = omega arith in
     let after : r ≡ m + 1 - (k + 1) = omega arith in
     let more : suc k ≡ k + 1 = omega arith in
     h
-    ∙ ap (λ (xs : List Bool). flat_map (λ c. map (λ b. holds g r t c || b) xs) (choices_of g r)) (e ∙ ap (λ (s : ℕ). covered_from g t s k) before)
+    ∙ ap (λ (xs : List Bool). flat_map (λ c. map (λ b. holds_target g r t c || b) xs) (choices_of g r)) (e ∙ ap (λ (s : ℕ). covered_from g t s k) before)
     ∙ covered_from-next g t r k
     ∙ ap (λ (s : ℕ). covered_from g t s (suc k)) after
     ∙ ap (λ (n : ℕ). covered_from g t (m + 1 - (k + 1)) n) more
@@ -98,10 +98,10 @@ are-covered g n all e h = record {
     by (suc k) security low high = let next : k + 1 ≡ suc k = omega arith in h.each k (omega (arith, high, count security)) ∙ ap (λ (j : ℕ). map (λ play. covers g play j) (legal_plays g)) next
 
 -- one choice more in front of all plays behind it
-pub choices-next : (g : Game) (t r n : ℕ) (rest all next : List Bool) (h : Bool) → h ≡ holds g r t n → all ≡ flat_map (λ c. map (λ b. holds g r t c || b) rest) (numbers_from 0 n)
-    → next ≡ all ++ map (λ b. h || b) rest → next ≡ flat_map (λ c. map (λ b. holds g r t c || b) rest) (numbers_from 0 (n + 1))
+pub choices-next : (g : Game) (t r n : ℕ) (rest all next : List Bool) (h : Bool) → h ≡ holds_target g r t n → all ≡ flat_map (λ c. map (λ b. holds_target g r t c || b) rest) (numbers_from 0 n)
+    → next ≡ all ++ map (λ b. h || b) rest → next ≡ flat_map (λ c. map (λ b. holds_target g r t c || b) rest) (numbers_from 0 (n + 1))
 choices-next g t r n rest all next h is e f =
-    let all_of : ℕ → List Bool = λ c. map (λ b. holds g r t c || b) rest in
+    let all_of : ℕ → List Bool = λ c. map (λ b. holds_target g r t c || b) rest in
     let same : 0 + n ≡ n = omega arith in
     f
     ∙ ap (λ xs. xs ++ map (λ b. h || b) rest) e

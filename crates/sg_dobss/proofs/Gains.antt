@@ -19,7 +19,7 @@ use Rattle.sg_rows.specs.Rows.{place}
 use Rattle.sg_bounds.specs.PlayRows.{comparisons, gain, other_actions}
 use Rattle.sg_programs.proofs.Heights.{numbers-split}
 use Rattle.sg_programs.proofs.Sized.{few-types}
-use Rattle.sg_dobss.specs.Paying.{AreByPlay, AreNumbers, difference_at, play_at}
+use Rattle.sg_dobss.specs.Paying.{AreByPlay, AreNumbers, difference_at, listed_play}
 use Rattle.sg_dobss.specs.Tables.{AreGainRows, IsGainRow, IsTypeRow}
 
 -- ---- lists side by side
@@ -50,7 +50,7 @@ differences-by_play g f h xs ys zs p q r = record {
   long = r.long ∙ p.long;
   each = λ k lt.
       let d = r.each k (omega (arith, lt, p.long)) in
-      d ∙ ap (λ (z : ℤ). z -ℤ place ys k) (p.each k lt) ∙ ap (λ (z : ℤ). f (play_at g k) -ℤ z) (q.each k lt);
+      d ∙ ap (λ (z : ℤ). z -ℤ place ys k) (p.each k lt) ∙ ap (λ (z : ℤ). f (listed_play g k) -ℤ z) (q.each k lt);
 }
 
 -- ---- one type
@@ -140,7 +140,7 @@ rows-more g fix i rows more lt h k =
     zip-weaker (λ (m : ℕ × ℕ). m.0 ≡ l) (IsTypeRow g act) (IsGainRow g fix)
     (λ m row is r. record {
       long = r.long;
-      each = λ n within. r.each n within ∙ ap (λ (a : ℕ). pay_a g m.0 (play_at g n) m.1 -ℤ pay_a g m.0 (play_at g n) a) (sym (ap (act_of fix) is ∙ act-is fix i));
+      each = λ n within. r.each n within ∙ ap (λ (a : ℕ). pay_a g m.0 (listed_play g n) m.1 -ℤ pay_a g m.0 (listed_play g n) a) (sym (ap (act_of fix) is ∙ act-is fix i));
     }) (other_actions g (l, act)) more of-type k in
     let e : flat_map (other_actions g) (take (i + 1) (fixed fix)) ≡ before ++ other_actions g (l, act) =
     ap (flat_map (other_actions g)) (fixed-more fix i lt) ∙ flat_map-append (other_actions g) (take i (fixed fix)) ((l, act) ∷ []) ∙ ap (λ xs. before ++ xs) (append-nil (other_actions g (l, act))) in

@@ -23,12 +23,12 @@ use Rattle.sg_programs.proofs.Columns.{play-column}
 use Rattle.sg_programs.proofs.Heights.{height-few}
 use Rattle.sg_programs.proofs.Sized.{program_is_bounded, program_is_sized}
 use Rattle.sg_dobss.specs.Listings.{IsListing, NodeOf}
-use Rattle.sg_dobss.specs.Paying.{play_at}
+use Rattle.sg_dobss.specs.Paying.{listed_play}
 use Rattle.sg_dobss.specs.Tables.{AreTablesOf, IsGainRow, entry_in}
 use Rattle.sg_dobss.proofs.Gains.{zip-at}
 
 -- the column at a place
-pub column-is : (g : Game) (k : ℕ) (d : Column) → k < length (legal_plays g) → get_or (map column_of (legal_plays g)) k d ≡ column_of (play_at g k)
+pub column-is : (g : Game) (k : ℕ) (d : Column) → k < length (legal_plays g) → get_or (map column_of (legal_plays g)) k d ≡ column_of (listed_play g k)
 column-is g k d lt = get_or-map column_of (legal_plays g) k [] d lt
 
 pub columns-count : (g : Game) → length (map column_of (legal_plays g)) ≡ length (legal_plays g)
@@ -44,12 +44,12 @@ module _ (g : Game) (fix : Fix) (count : ℕ) (costs : List ℤ) (rows : List (L
   row-at : (j : ℕ) → j < length rows → IsGainRow g fix (comparison_at g fix j) (slice_index_or rows j [])
   row-at j lt = zip-at (IsGainRow g fix) (comparisons g fix) rows j (0, 0) [] is.tables.rows_are (omega (arith, lt, rows-count))
 
-  entry-is : (k j : ℕ) → k < length (legal_plays g) → j < length rows + 1 → entry_in rows j k ≡ play_entry g fix (play_at g k) j
+  entry-is : (k j : ℕ) → k < length (legal_plays g) → j < length rows + 1 → entry_in rows j k ≡ play_entry g fix (listed_play g k) j
   entry-is k zero lt below = refl
   entry-is k (suc j) lt below = (row-at j (omega (arith, below))).each k lt
 
-  play-is : (k : ℕ) (d : Column) → k < length (legal_plays g) → play_of (get_or (map column_of (legal_plays g)) k d) ≡ play_at g k
-  play-is k d lt = ap play_of (column-is g k d lt) ∙ play-column (play_at g k)
+  play-is : (k : ℕ) (d : Column) → k < length (legal_plays g) → play_of (get_or (map column_of (legal_plays g)) k d) ≡ listed_play g k
+  play-is k d lt = ap play_of (column-is g k d lt) ∙ play-column (listed_play g k)
 
   pub tables-of : AreTablesOf (plays_program g fix) costs rows
   tables-of = record {
@@ -65,15 +65,15 @@ module _ (g : Game) (fix : Fix) (count : ℕ) (costs : List ℤ) (rows : List (L
   }
 
   -- the entry and the cost at the place of a column
-  pub entry-at : (col : Column) (row k : ℕ) → row < (plays_program g fix).height → k < count → column_of (play_at g k) ≡ col → entry_in rows row k ≡ (plays_program g fix).entry col row
+  pub entry-at : (col : Column) (row k : ℕ) → row < (plays_program g fix).height → k < count → column_of (listed_play g k) ≡ col → entry_in rows row k ≡ (plays_program g fix).entry col row
   entry-at col row k below lt e =
       let within : k < length (legal_plays g) = omega (arith, lt, is.counted, plays-count g) in
-      entry-is k row within (omega (arith, below, rows-count)) ∙ ap (λ play. play_entry g fix play row) (sym (play-column (play_at g k)) ∙ ap play_of e)
+      entry-is k row within (omega (arith, below, rows-count)) ∙ ap (λ play. play_entry g fix play row) (sym (play-column (listed_play g k)) ∙ ap play_of e)
 
-  pub cost-at : (col : Column) (k : ℕ) → k < count → column_of (play_at g k) ≡ col → place costs k ≡ (plays_program g fix).cost col
+  pub cost-at : (col : Column) (k : ℕ) → k < count → column_of (listed_play g k) ≡ col → place costs k ≡ (plays_program g fix).cost col
   cost-at col k lt e =
       let within : k < length (legal_plays g) = omega (arith, lt, is.counted, plays-count g) in
-      is.tables.costs_are.each k within ∙ ap (cost g fix) (sym (play-column (play_at g k)) ∙ ap play_of e)
+      is.tables.costs_are.each k within ∙ ap (cost g fix) (sym (play-column (listed_play g k)) ∙ ap play_of e)
 
   pub row-long : (i : ℕ) → i < length rows → length (slice_index_or rows i []) ≡ count
   row-long i lt = (row-at i lt).long ∙ plays-count g ∙ sym is.counted
@@ -108,15 +108,15 @@ pub listed-by : (v inner : NodeOf) → inner ≡ v → (col : Column) → Contai
 listed-by v inner e col h = subst (λ (z : NodeOf). Contains (map column_of (legal_plays z.game)) col) (sym e) h
 
 pub entry-of : (v inner : NodeOf) (count : ℕ) (costs : List ℤ) (rows rs : List (List ℤ)) → inner ≡ v → IsListing inner.game inner.fix count costs rows → (col : Column) (row k : ℕ) (z : ℤ) → row < (plays_program v.game v.fix).height → k < count
-    → column_of (play_at inner.game k) ≡ col → rs ≡ rows → z ≡ entry_in rs row k → z ≡ (plays_program v.game v.fix).entry col row
+    → column_of (listed_play inner.game k) ≡ col → rs ≡ rows → z ≡ entry_in rs row k → z ≡ (plays_program v.game v.fix).entry col row
 entry-of v inner count costs rows rs e is col row k z below lt there er q =
     q ∙ ap (λ xs. entry_in xs row k) er
-    ∙ entry-at v.game v.fix count costs rows (listing-by v inner count costs rows e is) col row k below lt (subst (λ (n : NodeOf). column_of (play_at n.game k) ≡ col) e there)
+    ∙ entry-at v.game v.fix count costs rows (listing-by v inner count costs rows e is) col row k below lt (subst (λ (n : NodeOf). column_of (listed_play n.game k) ≡ col) e there)
 
 pub cost-of : (v inner : NodeOf) (count : ℕ) (costs cs : List ℤ) (rows : List (List ℤ)) → inner ≡ v → IsListing inner.game inner.fix count costs rows → (col : Column) (k : ℕ) → k < count
-    → column_of (play_at inner.game k) ≡ col → cs ≡ costs → place cs k ≡ (plays_program v.game v.fix).cost col
+    → column_of (listed_play inner.game k) ≡ col → cs ≡ costs → place cs k ≡ (plays_program v.game v.fix).cost col
 cost-of v inner count costs cs rows e is col k lt there ec =
-    ap (λ xs. place xs k) ec ∙ cost-at v.game v.fix count costs rows (listing-by v inner count costs rows e is) col k lt (subst (λ (n : NodeOf). column_of (play_at n.game k) ≡ col) e there)
+    ap (λ xs. place xs k) ec ∙ cost-at v.game v.fix count costs rows (listing-by v inner count costs rows e is) col k lt (subst (λ (n : NodeOf). column_of (listed_play n.game k) ≡ col) e there)
 
 -- the tables as they are read
 pub tables-read : (v inner : NodeOf) (count : ℕ) (costs cs : List ℤ) (rows rs : List (List ℤ)) → inner ≡ v → IsListing inner.game inner.fix count costs rows → cs ≡ costs → rs ≡ rows → AreTablesOf (plays_program v.game v.fix) cs rs
@@ -133,11 +133,11 @@ rows-read v inner count costs rows rs e is er = ap (λ z. length z + 1) er ∙ h
 
 -- the column that is found is the one at its place
 pub found-by : (v inner : NodeOf) → inner ≡ v → (k : ℕ) (a : Answer) (here c d : Column) → k < length (plays_program v.game v.fix).columns → a ≡ found (slice_index_or (plays_program v.game v.fix).columns k d)
-    → here ≡ column_of (play_at inner.game k) → a ≡ found c → here ≡ c
+    → here ≡ column_of (listed_play inner.game k) → a ≡ found c → here ≡ c
 found-by v inner e k a here c d lt is at f =
     let same : found c ≡ found (slice_index_or (plays_program v.game v.fix).columns k d) = sym f ∙ is in
     let one : c ≡ slice_index_or (plays_program v.game v.fix).columns k d = found-same c (slice_index_or (plays_program v.game v.fix).columns k d) same in
-    at ∙ ap (λ (n : NodeOf). column_of (play_at n.game k)) e ∙ sym (column-is v.game k d (omega (arith, lt, columns-count v.game))) ∙ sym one
+    at ∙ ap (λ (n : NodeOf). column_of (listed_play n.game k)) e ∙ sym (column-is v.game k d (omega (arith, lt, columns-count v.game))) ∙ sym one
   where
     found-same : (c d : Column) → found c ≡ found d → c ≡ d
     found-same c d q = cc

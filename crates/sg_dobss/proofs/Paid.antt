@@ -19,7 +19,7 @@ use Rattle.sg_lp.specs.declared.column.Column.{Column}
 use Rattle.sg_programs.specs.Plays.{column_of}
 use Rattle.sg_dobss.specs.Covering.{AreCovered}
 use Rattle.sg_dobss.proofs.Ranks.{place-of}
-use Rattle.sg_dobss.specs.Paying.{AreByPlay, AreNumbers, covered_pay, pay, play_at, uncovered_pay}
+use Rattle.sg_dobss.specs.Paying.{AreByPlay, AreNumbers, covered_pay, pay, listed_play, uncovered_pay}
 
 -- a payoff by coverage
 pay-covered : (g : Game) → is_matrix g ≡ false → (side : Side) (l : ℕ) (play : List ℕ) (a : ℕ) → cond (covers g play a) (covered_pay side g l a) (uncovered_pay side g l a) ≡ pay side g l play a
@@ -38,11 +38,11 @@ picked-by_play g security side l a covered pays e h =
           ∙ get_or-map pick covered k false (pos 0) (omega (arith, lt, count))
           ∙ ap (λ (xs : List Bool). pick (slice_index_or xs k false)) e
           ∙ ap pick (get_or-map (λ play. covers g play a) (legal_plays g) k [] false lt)
-          ∙ pay-covered g security side l (play_at g k) a;
+          ∙ pay-covered g security side l (listed_play g k) a;
     }
 
 -- the rows as plays
-pub play_at-row : (g : Game) → is_matrix g ≡ true → (i : ℕ) → i < length g.goals → play_at g i ≡ (i + 1) ∷ []
+pub play_at-row : (g : Game) → is_matrix g ≡ true → (i : ℕ) → i < length g.goals → listed_play g i ≡ (i + 1) ∷ []
 play_at-row g matrix i lt =
     let e : legal_plays g ≡ map (λ row. row ∷ []) (numbers (length g.goals)) = rw matrix refl in
     let swap : 1 + i ≡ i + 1 = omega arith in
@@ -72,17 +72,17 @@ joint-by_play g security coverage are side l a low high row covered inside outsi
 pub row-below : (g : Game) → is_matrix g ≡ true → (n i : ℕ) → n ≡ row_count g → i < n → i < length g.goals
 row-below g matrix n i e lt = let is : row_count g ≡ length g.goals = rw matrix refl in omega (arith, lt, e, is)
 
-pub row-is : (g : Game) → is_matrix g ≡ true → (side : Side) (l a n i : ℕ) (v : ℤ) → n ≡ row_count g → i < n → v ≡ pay side g l ((i + 1) ∷ []) a → v ≡ pay side g l (play_at g i) a
+pub row-is : (g : Game) → is_matrix g ≡ true → (side : Side) (l a n i : ℕ) (v : ℤ) → n ≡ row_count g → i < n → v ≡ pay side g l ((i + 1) ∷ []) a → v ≡ pay side g l (listed_play g i) a
 row-is g matrix side l a n i v e lt h = h ∙ ap (λ play. pay side g l play a) (sym (play_at-row g matrix i (row-below g matrix n i e lt)))
 
-pub rows-all : (g : Game) → is_matrix g ≡ true → (f : List ℕ → ℤ) (n i : ℕ) (xs : List ℤ) → n ≡ row_count g → n ≤ i → i ≤ n → AreNumbers i (λ k. f (play_at g k)) xs → AreByPlay g f xs
+pub rows-all : (g : Game) → is_matrix g ≡ true → (f : List ℕ → ℤ) (n i : ℕ) (xs : List ℤ) → n ≡ row_count g → n ≤ i → i ≤ n → AreNumbers i (λ k. f (listed_play g k)) xs → AreByPlay g f xs
 rows-all g matrix f n i xs e le ge are =
     let is : row_count g ≡ length g.goals = rw matrix refl in
     let count : i ≡ length (legal_plays g) = omega (arith, e, le, ge, is, rows-count g matrix) in
-    subst (λ m. AreNumbers m (λ k. f (play_at g k)) xs) count are
+    subst (λ m. AreNumbers m (λ k. f (listed_play g k)) xs) count are
 
 -- a row as a column, by the form that was read
-pub row-column : (g : Game) (count k : ℕ) → Matrix ≡ g.kind → count ≡ play_count g → k < count → column_of ((k + 1) ∷ []) ≡ column_of (play_at g k)
+pub row-column : (g : Game) (count k : ℕ) → Matrix ≡ g.kind → count ≡ play_count g → k < count → column_of ((k + 1) ∷ []) ≡ column_of (listed_play g k)
 row-column g count k form e lt =
     let matrix : is_matrix g ≡ true = ap is_kind_matrix (sym form) in
     let rows : play_count g ≡ length g.goals = rw matrix refl in
@@ -90,14 +90,14 @@ row-column g count k form e lt =
 
 -- the place of a row's column
 pub row-place : (g : Game) (count : ℕ) (col : Column) → Matrix ≡ g.kind → count ≡ play_count g → Contains (map column_of (legal_plays g)) col
-    → (1 ≤ slice_index_or col.code 0 0) × (slice_index_or col.code 0 0 - 1 < count) × (column_of (play_at g (slice_index_or col.code 0 0 - 1)) ≡ col)
+    → (1 ≤ slice_index_or col.code 0 0) × (slice_index_or col.code 0 0 - 1 < count) × (column_of (listed_play g (slice_index_or col.code 0 0 - 1)) ≡ col)
 row-place g count col form e h =
     let matrix : is_matrix g ≡ true = ap is_kind_matrix (sym form) in
     let rows : play_count g ≡ length g.goals = rw matrix refl in
     let p = place-of g col h in
     let k : ℕ = p.0 in
     let lt : k < length g.goals = (let a = p.1 in omega (arith, a, rows-count g matrix)) in
-    let play : play_at g k ≡ (k + 1) ∷ [] = play_at-row g matrix k lt in
+    let play : listed_play g k ≡ (k + 1) ∷ [] = play_at-row g matrix k lt in
     let first : slice_index_or col.code 0 0 ≡ k + 1 = ap (λ (c : Column). slice_index_or c.code 0 0) (sym p.2) ∙ ap (λ q. slice_index_or (column_of q).code 0 0) play in
     let same : slice_index_or col.code 0 0 - 1 ≡ k = omega (arith, first) in
-    (omega (arith, first), omega (arith, same, lt, e, rows), ap (λ n. column_of (play_at g n)) same ∙ p.2)
+    (omega (arith, first), omega (arith, same, lt, e, rows), ap (λ n. column_of (listed_play g n)) same ∙ p.2)

@@ -13,7 +13,7 @@ use Rattle.sg_model.proofs.Lists.{length-flat_map-same}
 use Rattle.sg_model.proofs.Numbers.{length-numbers_from, nth-numbers_from}
 use Rattle.sg_lp.specs.declared.column.Column.{Column}
 use Rattle.sg_programs.specs.Plays.{column_of}
-use Rattle.sg_dobss.specs.Paying.{play_at}
+use Rattle.sg_dobss.specs.Paying.{listed_play}
 
 -- the k-th of the choices of n resources, from resource r on
 abbrev pub joint_at : Game → ℕ → ℕ → ℕ → List ℕ
@@ -82,7 +82,7 @@ length-joint_at g r zero k = refl
 length-joint_at g r (suc n) k = ap suc (length-joint_at g (r + 1) n (k % choices_from g (r + 1) n))
 
 -- in security form
-pub play_at-joint : (g : Game) → is_matrix g ≡ false → (k : ℕ) → k < play_count g → play_at g k ≡ joint_at g 1 (resource_count g) k
+pub play_at-joint : (g : Game) → is_matrix g ≡ false → (k : ℕ) → k < play_count g → listed_play g k ≡ joint_at g 1 (resource_count g) k
 play_at-joint g security k lt =
     let e : legal_plays g ≡ joint_plays g 1 (resource_count g) = rw security refl in
     let c : play_count g ≡ choices_from g 1 (resource_count g) = rw security refl in
@@ -233,47 +233,47 @@ rank-end g m k place play is =
 -- ---- plays of either form, as columns
 
 -- a column of a legal play, by the play's place
-pub place-of : (g : Game) (col : Column) → Contains (map column_of (legal_plays g)) col → (k : ℕ) × (k < length (legal_plays g)) × (column_of (play_at g k) ≡ col)
+pub place-of : (g : Game) (col : Column) → Contains (map column_of (legal_plays g)) col → (k : ℕ) × (k < length (legal_plays g)) × (column_of (listed_play g k) ≡ col)
 place-of g col h =
     let lt : h.0 < length (legal_plays g) = (let a = h.1 in omega (arith, a, length-map (legal_plays g) column_of)) in
     (h.0, lt, sym (get_or-map column_of (legal_plays g) h.0 [] col lt) ∙ h.2)
 
 pub rank-begin : (g : Game) (count : ℕ) (col : Column) → is_matrix g ≡ false → count ≡ play_count g → Contains (map column_of (legal_plays g)) col
-    → (k : ℕ) × (k < count) × (column_of (play_at g k) ≡ col) × IsRanked g (resource_count g) k 0 0 (play_at g k)
+    → (k : ℕ) × (k < count) × (column_of (listed_play g k) ≡ col) × IsRanked g (resource_count g) k 0 0 (listed_play g k)
 rank-begin g count col security e h =
     let p = place-of g col h in
     let k : ℕ = p.0 in
     let lt : k < play_count g = (let a = p.1 in omega (arith, a, legal_plays_are_counted g)) in
     let c : play_count g ≡ choices_from g 1 (resource_count g) = rw security refl in
-    (k, omega (arith, lt, e), p.2, rank-start g (resource_count g) k (play_at g k) (omega (arith, lt, c)) (play_at-joint g security k lt))
+    (k, omega (arith, lt, e), p.2, rank-start g (resource_count g) k (listed_play g k) (omega (arith, lt, c)) (play_at-joint g security k lt))
 
 -- a digit of a column's code is one of its play
 code-digit : (play zeros : List ℕ) (r : ℕ) → r < length play → get_or (play ++ zeros) r 0 ≡ slice_index play r
 code-digit play zeros r lt = get_or_append_left play zeros 0 r lt
 
 pub rank-step : (g : Game) (count r place digit : ℕ) (col : Column) → is_matrix g ≡ false → count ≡ play_count g → r < resource_count g → digit ≡ get_or col.code r 0
-    → (k : ℕ) → k < count → column_of (play_at g k) ≡ col → IsRanked g (resource_count g) k r place (play_at g k) → IsRanked g (resource_count g) k (r + 1) (place * width g (r + 1) + digit) (play_at g k)
+    → (k : ℕ) → k < count → column_of (listed_play g k) ≡ col → IsRanked g (resource_count g) k r place (listed_play g k) → IsRanked g (resource_count g) k (r + 1) (place * width g (r + 1) + digit) (listed_play g k)
 rank-step g count r place digit col security e lt d k below is ranked =
-    let play : List ℕ = play_at g k in
+    let play : List ℕ = listed_play g k in
     let joint : play ≡ joint_at g 1 (resource_count g) k = play_at-joint g security k (omega (arith, below, e)) in
     let long : length play ≡ resource_count g = ap length joint ∙ length-joint_at g 1 (resource_count g) k in
     let code : digit ≡ slice_index play r = d ∙ ap (λ (c : Column). get_or c.code r 0) (sym is) ∙ code-digit play (replicate (32 - length play) 0) r (omega (arith, lt, long)) in
     rank-next g (resource_count g) k r place digit play lt ranked code
 
-pub rank-last : (g : Game) (m count r place : ℕ) (col : Column) → m ≤ r → r ≤ m → (k : ℕ) → k < count → column_of (play_at g k) ≡ col → IsRanked g m k r place (play_at g k) → (place < count) × (column_of (play_at g place) ≡ col)
+pub rank-last : (g : Game) (m count r place : ℕ) (col : Column) → m ≤ r → r ≤ m → (k : ℕ) → k < count → column_of (listed_play g k) ≡ col → IsRanked g m k r place (listed_play g k) → (place < count) × (column_of (listed_play g place) ≡ col)
 rank-last g m count r place col le ge k below is ranked =
     let all : r ≡ m = omega (arith, le, ge) in
-    let same : place ≡ k = rank-end g m k place (play_at g k) (subst (λ n. IsRanked g m k n place (play_at g k)) all ranked) in
-    (omega (arith, same, below), ap (λ n. column_of (play_at g n)) same ∙ is)
+    let same : place ≡ k = rank-end g m k place (listed_play g k) (subst (λ n. IsRanked g m k n place (listed_play g k)) all ranked) in
+    (omega (arith, same, below), ap (λ n. column_of (listed_play g n)) same ∙ is)
 
 -- as the code reads them
 pub rank-room-by : (g : Game) (k r place m : ℕ) (play : List ℕ) → r < resource_count g → m ≡ length (resource_schedules g (r + 1)) → IsRanked g (resource_count g) k r place play → place * (m + 1) ≤ k
 rank-room-by g k r place m play lt e ranked = subst (λ n. place * (n + 1) ≤ k) (sym e) (rank-room g (resource_count g) k r place play lt ranked)
 
 pub rank-step-by : (g : Game) (count r place m : ℕ) (col : Column) → is_matrix g ≡ false → count ≡ play_count g → r < resource_count g → m ≡ length (resource_schedules g (r + 1))
-    → (k : ℕ) → k < count → column_of (play_at g k) ≡ col → IsRanked g (resource_count g) k r place (play_at g k) → IsRanked g (resource_count g) k (r + 1) (place * (m + 1) + get_or col.code r 0) (play_at g k)
+    → (k : ℕ) → k < count → column_of (listed_play g k) ≡ col → IsRanked g (resource_count g) k r place (listed_play g k) → IsRanked g (resource_count g) k (r + 1) (place * (m + 1) + get_or col.code r 0) (listed_play g k)
 rank-step-by g count r place m col security e lt em k below is ranked =
-    subst (λ n. IsRanked g (resource_count g) k (r + 1) (place * (n + 1) + get_or col.code r 0) (play_at g k)) (sym em) (rank-step g count r place (get_or col.code r 0) col security e lt refl k below is ranked)
+    subst (λ n. IsRanked g (resource_count g) k (r + 1) (place * (n + 1) + get_or col.code r 0) (listed_play g k)) (sym em) (rank-step g count r place (get_or col.code r 0) col security e lt refl k below is ranked)
 
 product-above : (p s : ℕ) → 0 < s → p ≤ p * s
 product-above p zero some = absurd (omega arith)
@@ -315,10 +315,10 @@ column-by : (n : ℕ) (code play : List ℕ) → length play ≡ n → code ≡ 
 column-by n code play e f = cc
 
 pub unrank-column : (g : Game) (m k count r size rest : ℕ) (code : List ℕ) → is_matrix g ≡ false → m ≡ resource_count g → m ≤ 32 → count ≡ play_count g → k < count → m ≤ r → r ≤ m → IsUnranked g m k r size rest code
-    → ◌≡◌ {A = Column} (record { len = m; code = code }) (column_of (play_at g k))
+    → ◌≡◌ {A = Column} (record { len = m; code = code }) (column_of (listed_play g k))
 unrank-column g m k count r size rest code security em few e lt le ge is =
     let all : r ≡ m = omega (arith, le, ge) in
-    let play : List ℕ = play_at g k in
+    let play : List ℕ = listed_play g k in
     let joint : play ≡ joint_at g 1 m k = play_at-joint g security k (omega (arith, lt, e)) ∙ ap (λ n. joint_at g 1 n k) (sym em) in
     let last = unrank-end g m k size rest code play few (subst (λ n. IsUnranked g m k n size rest code) all is) joint in
     column-by m code play last.0 last.1

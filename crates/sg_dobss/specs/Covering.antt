@@ -7,8 +7,8 @@ use Rattle.sg_model.specs.Plays.{covers}
 use Rattle.sg_model.specs.Sums.{nth}
 
 -- whether choice c of resource r holds target t
-abbrev pub holds : Game → ℕ → ℕ → ℕ → Bool
-holds g r t c = list_any (λ x. nat_eq x t) (schedule_targets g (nth (resource_schedules g r) c 0))
+abbrev pub holds_target : Game → ℕ → ℕ → ℕ → Bool
+holds_target g r t c = list_any (λ x. nat_eq x t) (schedule_targets g (nth (resource_schedules g r) c 0))
 
 -- in security form, for each target in order, which of the legal plays cover it
 pub record AreCovered (g : Game) (all : List (List Bool)) : Type 0 where

@@ -8,8 +8,8 @@ use Rattle.sg_dobss.specs.declared.paying.Side.{Side}
 use Rattle.sg_dobss.specs.declared.paying.Side.TheVariants.{Defender, Attacker}
 
 -- the play at a place, from 0
-abbrev pub play_at : Game → ℕ → List ℕ
-play_at g k = slice_index_or (legal_plays g) k []
+abbrev pub listed_play : Game → ℕ → List ℕ
+listed_play g k = slice_index_or (legal_plays g) k []
 
 -- what the defender or type l gets where this is played and a is attacked
 abbrev pub pay : Side → Game → ℕ → List ℕ → ℕ → ℤ
@@ -32,7 +32,7 @@ pub record AreNumbers (n : ℕ) (f : ℕ → ℤ) (xs : List ℤ) : Type 0 where
 
 -- a number for each legal play, in order
 abbrev pub AreByPlay : Game → (List ℕ → ℤ) → List ℤ → Type 0
-AreByPlay g f xs = AreNumbers (length (legal_plays g)) (λ k. f (play_at g k)) xs
+AreByPlay g f xs = AreNumbers (length (legal_plays g)) (λ k. f (listed_play g k)) xs
 
 -- the differences of the numbers of two lists
 abbrev pub difference_at : List ℤ → List ℤ → ℕ → ℤ

@@ -6,7 +6,7 @@ ghost use Rattle.sg_model.specs.Games.{is_matrix, resource_schedules};
 ghost use Rattle.sg_model.specs.PlayLists.{choices_of, legal_plays};
 ghost use Rattle.sg_model.specs.Plays.{covers};
 ghost use Rattle.sg_game.specs.Counts.{IsGoalOf, IsResourceOf};
-ghost use Rattle.sg_dobss.specs.Covering.{AreCovered, holds};
+ghost use Rattle.sg_dobss.specs.Covering.{AreCovered, holds_target};
 
 use sg_game::Game;
 use sqlite_items::Items;
@@ -24,7 +24,7 @@ fn choice_holds(game: &Game, r: u16, c: usize, t: u16) -> bool
     requires resource { IsResourceOf game.now r }
     requires choice { c ≤ length (resource_schedules game.now r) }
     requires target { 1 ≤ t }
-    ensures { result ≡ holds game.now r t c }
+    ensures { result ≡ holds_target game.now r t c }
 {
     if c == 0 {
         return false;
@@ -60,7 +60,7 @@ fn with_choices(
 ) -> Result<Items<bool>, AllocError>
     requires resource { IsResourceOf game.now r }
     requires target { 1 ≤ t }
-    ensures { IfOk result (λ all. all ≡ flat_map (λ c. map (λ b. holds game.now r t c || b) rest.now) (choices_of game.now r)) }
+    ensures { IfOk result (λ all. all ≡ flat_map (λ c. map (λ b. holds_target game.now r t c || b) rest.now) (choices_of game.now r)) }
 {
     let mut all = Items::new(alloc);
     let choices = game.resource_schedules(r).len() + 1;

@@ -8,7 +8,7 @@ ghost use Rattle.std.specs.List.{Contains};
 ghost use Rattle.sg_model.specs.Games.{is_matrix};
 ghost use Rattle.sg_model.specs.PlayLists.{legal_plays, play_count};
 ghost use Rattle.sg_programs.specs.Plays.{column_of};
-ghost use Rattle.sg_dobss.specs.Paying.{play_at};
+ghost use Rattle.sg_dobss.specs.Paying.{listed_play};
 
 use sg_game::{Game, Kind};
 use sg_lp::Column;
@@ -20,7 +20,7 @@ fn joint_column(game: &Game, count: usize, k: usize) -> Column
     requires count { count ≡ play_count game.now }
     requires few { count ≤ 4096 }
     requires inside { k < count }
-    ensures { result ≡ column_of (play_at game.now k) }
+    ensures { result ≡ column_of (listed_play game.now k) }
 {
     game.promises();
     let resources = game.resources();
@@ -53,7 +53,7 @@ pub(crate) fn column_at(game: &Game, count: usize, k: usize) -> Column
     requires count { count ≡ play_count game.now }
     requires few { count ≤ 4096 }
     requires inside { k < count }
-    ensures { result ≡ column_of (play_at game.now k) }
+    ensures { result ≡ column_of (listed_play game.now k) }
 {
     match game.kind() {
         Kind::Security => joint_column(game, count, k),
@@ -69,7 +69,7 @@ fn joint_place(game: &Game, count: usize, col: &Column) -> usize
     requires few { count ≤ 4096 }
     requires listed { Contains (map column_of (legal_plays game.now)) col.now }
     ensures inside { result < count }
-    ensures there { column_of (play_at game.now result) ≡ col.now }
+    ensures there { column_of (listed_play game.now result) ≡ col.now }
 {
     game.promises();
     let mut place = 0;
@@ -87,7 +87,7 @@ pub(crate) fn place_of(game: &Game, count: usize, col: &Column) -> usize
     requires few { count ≤ 4096 }
     requires listed { Contains (map column_of (legal_plays game.now)) col.now }
     ensures inside { result < count }
-    ensures there { column_of (play_at game.now result) ≡ col.now }
+    ensures there { column_of (listed_play game.now result) ≡ col.now }
 {
     match game.kind() {
         Kind::Security => joint_place(game, count, col),

@@ -237,7 +237,7 @@ mod tests {
     use crate::log::{Outcome, is_logged};
     use crate::shelf::Shelf;
     use std::test::Fail;
-    use std::{env, fs, process};
+    use std::{env, fs, io, process};
 
     // Gives its bytes in pieces of at most three, and then ends or fails.
     #[derive(Drop)]
