@@ -6,7 +6,8 @@ use Rattle.sg_shelf.specs.declared.sink.SinkError.{SinkError}
 use Rattle.sg_shelf.specs.Taken.{Takes, TakesFront}
 use Rattle.std.proofs.Common.{take-append-drop}
 use Rattle.sg_cert.specs.Text.{spaced}
-use Rattle.sg_cert_writer.specs.Writing.{Shown, Adds, StopsInside, Writes}
+use Rattle.sg_shelf.specs.States.{SinkState}
+use Rattle.sg_cert_writer.specs.Writing.{Adds, StopsInside, Writes}
 
 Takes-none : (a : Option (List ℕ)) → Takes a a []
 Takes-none None = refl
@@ -17,13 +18,13 @@ Takes-both None b c x y p q = q ∙ rw p refl
 Takes-both (Some xs) b c x y p q = q ∙ rw p (ap Some (append_assoc xs x y))
 
 -- nothing is added
-Adds-none : (a : Shown) (p : List ℕ) → Adds a p a p []
-Adds-none a p = record { put = []; taken = Takes-none a.0; all = sym (append-nil p); count = omega arith }
+Adds-none : (a : SinkState) (p : List ℕ) → Adds a p a p []
+Adds-none a p = record { put = []; taken = Takes-none a.bytes; all = sym (append-nil p); count = omega arith }
 
-pub Adds-trans : (a b c : Shown) (p q r t u : List ℕ) → Adds a p b q t → Adds b q c r u → Adds a p c r (t ++ u)
+pub Adds-trans : (a b c : SinkState) (p q r t u : List ℕ) → Adds a p b q t → Adds b q c r u → Adds a p c r (t ++ u)
 Adds-trans a b c p q r t u x y = record {
   put = x.put ++ y.put;
-  taken = Takes-both a.0 b.0 c.0 x.put y.put x.taken y.taken;
+  taken = Takes-both a.bytes b.bytes c.bytes x.put y.put x.taken y.taken;
   all = append_assoc x.put y.put r ∙ ap (λ (xs : List ℕ). x.put ++ xs) y.all ∙ sym (append_assoc x.put q u) ∙ ap (λ (xs : List ℕ). xs ++ u) x.all ∙ append_assoc p t u;
   count = omega (arith, x.count, y.count);
 }
@@ -32,12 +33,12 @@ take_past : (xs ys : List ℕ) (n : ℕ) → take (length xs + n) (xs ++ ys) ≡
 take_past [] ys n = let k : 0 + n ≡ n = omega arith in rw k refl
 take_past (x ∷ xs) ys n = let k : length (x ∷ xs) + n ≡ suc (length xs + n) = omega arith in rw k (ap (λ (zs : List ℕ). x ∷ zs) (take_past xs ys n))
 
-pub Stops-trans : (a b c : Shown) (p q t u : List ℕ) → Adds a p b q t → StopsInside b q c u → StopsInside a p c (t ++ u)
+pub Stops-trans : (a b c : SinkState) (p q t u : List ℕ) → Adds a p b q t → StopsInside b q c u → StopsInside a p c (t ++ u)
 Stops-trans a b c p q t u x y =
     let all : x.put ++ (q ++ u) ≡ p ++ (t ++ u) = sym (append_assoc x.put q u) ∙ ap (λ (xs : List ℕ). xs ++ u) x.all ∙ append_assoc p t u in
     record {
       size = length x.put + y.size;
-      taken = subst (λ (xs : List ℕ). Takes a.0 c.0 xs) (sym (take_past x.put (q ++ u) y.size) ∙ ap (take (length x.put + y.size)) all) (Takes-both a.0 b.0 c.0 x.put (take y.size (q ++ u)) x.taken y.taken);
+      taken = subst (λ (xs : List ℕ). Takes a.bytes c.bytes xs) (sym (take_past x.put (q ++ u) y.size) ∙ ap (take (length x.put + y.size)) all) (Takes-both a.bytes b.bytes c.bytes x.put (take y.size (q ++ u)) x.taken y.taken);
       count = omega (arith, x.count, y.count);
       last_count = y.last_count;
       risen = omega (arith, x.count, y.risen);
@@ -56,22 +57,22 @@ take_front [] ys (suc n) = refl
 take_front (x ∷ xs) ys zero = refl
 take_front (x ∷ xs) ys (suc n) = ap (λ (zs : List ℕ). x ∷ zs) (take_front xs ys n)
 
-pub Stops-early : (a c : Shown) (p t u : List ℕ) → StopsInside a p c t → StopsInside a p c (t ++ u)
+pub Stops-early : (a c : SinkState) (p t u : List ℕ) → StopsInside a p c t → StopsInside a p c (t ++ u)
 Stops-early a c p t u x = record {
   size = least x.size (length (p ++ t));
-  taken = subst (λ (xs : List ℕ). Takes a.0 c.0 xs) (sym (take_front (p ++ t) u x.size) ∙ ap (take (least x.size (length (p ++ t)))) (append_assoc p t u)) x.taken;
+  taken = subst (λ (xs : List ℕ). Takes a.bytes c.bytes xs) (sym (take_front (p ++ t) u x.size) ∙ ap (take (least x.size (length (p ++ t)))) (append_assoc p t u)) x.taken;
   count = x.count;
   last_count = x.last_count;
   risen = x.risen;
 }
 
 -- a text after one that was added
-pub Writes-trans : (r : Result (Unit {0}) SinkError) (a b c : Shown) (p q s t u : List ℕ) → Adds a p b q t → Writes r b q c s u → Writes r a p c s (t ++ u)
+pub Writes-trans : (r : Result (Unit {0}) SinkError) (a b c : SinkState) (p q s t u : List ℕ) → Adds a p b q t → Writes r b q c s u → Writes r a p c s (t ++ u)
 Writes-trans (Ok v) a b c p q s t u x y = Adds-trans a b c p q s t u x y
 Writes-trans (Err e) a b c p q s t u x y = Stops-trans a b c p q t u x y
 
 -- the same for a text that is written otherwise
-pub Writes-as : (r : Result (Unit {0}) SinkError) (a c : Shown) (p s t u : List ℕ) → t ≡ u → Writes r a p c s t → Writes r a p c s u
+pub Writes-as : (r : Result (Unit {0}) SinkError) (a c : SinkState) (p s t u : List ℕ) → t ≡ u → Writes r a p c s t → Writes r a p c s u
 Writes-as r a c p s t u e w = subst (λ (xs : List ℕ). Writes r a p c s xs) e w
 
 -- ---- loops over lists
@@ -95,24 +96,24 @@ split_here {A = A} xs i d lt = ap (λ (ys : List A). ys ++ drop (i + 1) xs) (sym
 
 -- one more item
 pub folds_more : {A : Type 0} (F : List A → List ℕ) (k : A → List ℕ) → Folds F k → (xs : List A) (i : ℕ) (x d : A) → i < length xs → x ≡ get_or xs i d
-    → (a b c : Shown) (p q r : List ℕ) → Adds a p b q (F (take i xs)) → Adds b q c r (k x) → Adds a p c r (F (take (i + 1) xs))
+    → (a b c : SinkState) (p q r : List ℕ) → Adds a p b q (F (take i xs)) → Adds b q c r (k x) → Adds a p c r (F (take (i + 1) xs))
 folds_more {A = A} F k f xs i x d lt is a b c p q r so_far more =
     let e : F (take i xs) ++ k x ≡ F (take (i + 1) xs) = sym (folds_push F k f (take i xs) x) ∙ ap F (ap (λ (y : A). take i xs ++ y ∷ []) is ∙ sym (take_more xs i d lt)) in
     subst (λ (t : List ℕ). Adds a p c r t) e (Adds-trans a b c p q r (F (take i xs)) (k x) so_far more)
 
 -- an item that stopped
 pub folds_stop : {A : Type 0} (F : List A → List ℕ) (k : A → List ℕ) → Folds F k → (xs : List A) (i : ℕ) (x d : A) → i < length xs → x ≡ get_or xs i d
-    → (a b c : Shown) (p q : List ℕ) → Adds a p b q (F (take i xs)) → StopsInside b q c (k x) → StopsInside a p c (F xs)
+    → (a b c : SinkState) (p q : List ℕ) → Adds a p b q (F (take i xs)) → StopsInside b q c (k x) → StopsInside a p c (F xs)
 folds_stop {A = A} F k f xs i x d lt is a b c p q so_far stop =
     let e : (F (take i xs) ++ k x) ++ F (drop (i + 1) xs) ≡ F xs =
     ap (λ (t : List ℕ). t ++ F (drop (i + 1) xs)) (sym (folds_push F k f (take i xs) x)) ∙ sym (folds_append F k f (take i xs ++ x ∷ []) (drop (i + 1) xs))
     ∙ ap F (ap (λ (y : A). (take i xs ++ y ∷ []) ++ drop (i + 1) xs) is ∙ split_here xs i d lt) in
     subst (λ (t : List ℕ). StopsInside a p c t) e (Stops-early a c p (F (take i xs) ++ k x) (F (drop (i + 1) xs)) (Stops-trans a b c p q (F (take i xs)) (k x) so_far stop))
 
-pub folds_end : {A : Type 0} (F : List A → List ℕ) (xs : List A) (i : ℕ) → length xs ≤ i → (a b : Shown) (p q : List ℕ) → Adds a p b q (F (take i xs)) → Adds a p b q (F xs)
+pub folds_end : {A : Type 0} (F : List A → List ℕ) (xs : List A) (i : ℕ) → length xs ≤ i → (a b : SinkState) (p q : List ℕ) → Adds a p b q (F (take i xs)) → Adds a p b q (F xs)
 folds_end {A = A} F xs i le a b p q so_far = subst (λ (ys : List A). Adds a p b q (F ys)) (take_all i xs le) so_far
 
-pub folds_start : {A : Type 0} (F : List A → List ℕ) (k : A → List ℕ) → Folds F k → (xs : List A) (a : Shown) (p : List ℕ) → Adds a p a p (F (take 0 xs))
+pub folds_start : {A : Type 0} (F : List A → List ℕ) (k : A → List ℕ) → Folds F k → (xs : List A) (a : SinkState) (p : List ℕ) → Adds a p a p (F (take 0 xs))
 folds_start F k f xs a p = subst (λ (t : List ℕ). Adds a p a p t) (sym f.nil) (Adds-none a p)
 
 -- bytes, and fields behind spaces
@@ -122,7 +123,7 @@ folds_bytes = record { nil = refl; cons = λ x xs. refl }
 pub folds_spaced : {A : Type 0} (h : A → List ℕ) → Folds (λ (xs : List A). spaced (map h xs)) (λ (x : A). 32 ∷ h x)
 folds_spaced h = record { nil = refl; cons = λ x xs. refl }
 
-pub Stops-as : (a c : Shown) (p t u : List ℕ) → t ≡ u → StopsInside a p c t → StopsInside a p c u
+pub Stops-as : (a c : SinkState) (p t u : List ℕ) → t ≡ u → StopsInside a p c t → StopsInside a p c u
 Stops-as a c p t u e w = subst (λ (xs : List ℕ). StopsInside a p c xs) e w
 
 -- ---- a whole text, from an empty block
@@ -131,20 +132,20 @@ Takes-as : (a b : Option (List ℕ)) (t u : List ℕ) → t ≡ u → Takes a b 
 Takes-as a b t u e h = subst (λ (xs : List ℕ). Takes a b xs) e h
 
 -- all was put: the text was added, and then the block
-whole_put : (a b c : Shown) (q t : List ℕ) → Adds a [] b q t → Adds b q c [] [] → Takes a.0 c.0 t
+whole_put : (a b c : SinkState) (q t : List ℕ) → Adds a [] b q t → Adds b q c [] [] → Takes a.bytes c.bytes t
 whole_put a b c q t x y =
     let e : y.put ≡ q = sym (append-nil y.put) ∙ y.all ∙ append-nil q in
-    Takes-as a.0 c.0 (x.put ++ y.put) t (ap (λ (zs : List ℕ). x.put ++ zs) e ∙ x.all) (Takes-both a.0 b.0 c.0 x.put y.put x.taken y.taken)
+    Takes-as a.bytes c.bytes (x.put ++ y.put) t (ap (λ (zs : List ℕ). x.put ++ zs) e ∙ x.all) (Takes-both a.bytes b.bytes c.bytes x.put y.put x.taken y.taken)
 
-last_front : (a b c : Shown) (q t : List ℕ) → Adds a [] b q t → StopsInside b q c [] → TakesFront a.0 c.0 t
+last_front : (a b c : SinkState) (q t : List ℕ) → Adds a [] b q t → StopsInside b q c [] → TakesFront a.bytes c.bytes t
 last_front a b c q t x y =
     let s = Stops-trans a b c [] q t [] x y in
-    (s.size, subst (λ (xs : List ℕ). Takes a.0 c.0 (take s.size xs)) (append-nil t) s.taken)
+    (s.size, subst (λ (xs : List ℕ). Takes a.bytes c.bytes (take s.size xs)) (append-nil t) s.taken)
 
-pub whole_end : (r : Result (Unit {0}) SinkError) (a b c : Shown) (p q s t : List ℕ) → p ≡ [] → Adds a p b q t → Writes r b q c s [] → OnOk r (s ≡ []) → OnOk r (Takes a.0 c.0 t)
+pub whole_end : (r : Result (Unit {0}) SinkError) (a b c : SinkState) (p q s t : List ℕ) → p ≡ [] → Adds a p b q t → Writes r b q c s [] → OnOk r (s ≡ []) → OnOk r (Takes a.bytes c.bytes t)
 whole_end (Ok u) a b c p q s t e x y f = whole_put a b c q t (subst (λ (xs : List ℕ). Adds a xs b q t) e x) (subst (λ (xs : List ℕ). Adds b q c xs []) f y)
 whole_end (Err w) a b c p q s t e x y f = tt
 
-pub front_end : (r : Result (Unit {0}) SinkError) (a b c : Shown) (p q s t : List ℕ) → p ≡ [] → Adds a p b q t → Writes r b q c s [] → OnErr r (TakesFront a.0 c.0 t)
+pub front_end : (r : Result (Unit {0}) SinkError) (a b c : SinkState) (p q s t : List ℕ) → p ≡ [] → Adds a p b q t → Writes r b q c s [] → OnErr r (TakesFront a.bytes c.bytes t)
 front_end (Ok u) a b c p q s t e x y = tt
 front_end (Err w) a b c p q s t e x y = last_front a b c q t (subst (λ (xs : List ℕ). Adds a xs b q t) e x) y

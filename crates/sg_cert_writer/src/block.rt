@@ -74,9 +74,9 @@ impl Block {
 
 /// Puts the block.
 pub fn flush<O: Sink>(out: &mut O, block: &mut Block) -> Result<(), SinkError>
-    ensures text { Writes result (O.taken out.old, O.faults out.old) block.old (O.taken out.new, O.faults out.new) block.new [] }
+    ensures text { Writes result (O.state out.old) block.old (O.state out.new) block.new [] }
     ensures empty { OnOk result (block.new ≡ []) }
-    ensures last_count { O.faults out.new ≤ 2 ^ 64 - 1 }
+    ensures last_count { (O.state out.new).faults ≤ 2 ^ 64 - 1 }
 {
     match out.put(block.as_slice()) {
         Ok(()) => {
@@ -89,7 +89,7 @@ pub fn flush<O: Sink>(out: &mut O, block: &mut Block) -> Result<(), SinkError>
 
 /// Adds a byte, and puts the block before it where it is full.
 fn put_byte<O: Sink>(out: &mut O, block: &mut Block, byte: u8) -> Result<(), SinkError>
-    ensures { Writes result (O.taken out.old, O.faults out.old) block.old (O.taken out.new, O.faults out.new) block.new (byte ∷ []) }
+    ensures { Writes result (O.state out.old) block.old (O.state out.new) block.new (byte ∷ []) }
 {
     if block.has_room() {
         block.push(byte);
@@ -106,7 +106,7 @@ fn put_byte<O: Sink>(out: &mut O, block: &mut Block, byte: u8) -> Result<(), Sin
 
 /// Adds bytes.
 pub fn put_bytes<O: Sink>(out: &mut O, block: &mut Block, text: &[u8]) -> Result<(), SinkError>
-    ensures { Writes result (O.taken out.old, O.faults out.old) block.old (O.taken out.new, O.faults out.new) block.new text.now }
+    ensures { Writes result (O.state out.old) block.old (O.state out.new) block.new text.now }
 {
     for byte in text {
         match put_byte(out, block, *byte) {
@@ -119,7 +119,7 @@ pub fn put_bytes<O: Sink>(out: &mut O, block: &mut Block, text: &[u8]) -> Result
 
 /// Adds a number behind a space.
 fn put_number<O: Sink>(out: &mut O, block: &mut Block, number: &i128) -> Result<(), SinkError>
-    ensures { Writes result (O.taken out.old, O.faults out.old) block.old (O.taken out.new, O.faults out.new) block.new (32 ∷ signed_decimal number.now) }
+    ensures { Writes result (O.state out.old) block.old (O.state out.new) block.new (32 ∷ signed_decimal number.now) }
 {
     match put_byte(out, block, b' ') {
         Ok(()) => {
@@ -132,7 +132,7 @@ fn put_number<O: Sink>(out: &mut O, block: &mut Block, number: &i128) -> Result<
 
 /// Adds a choice or action behind a space.
 fn put_choice<O: Sink>(out: &mut O, block: &mut Block, choice: u16) -> Result<(), SinkError>
-    ensures { Writes result (O.taken out.old, O.faults out.old) block.old (O.taken out.new, O.faults out.new) block.new (32 ∷ decimal choice) }
+    ensures { Writes result (O.state out.old) block.old (O.state out.new) block.new (32 ∷ decimal choice) }
 {
     match put_byte(out, block, b' ') {
         Ok(()) => {
@@ -145,7 +145,7 @@ fn put_choice<O: Sink>(out: &mut O, block: &mut Block, choice: u16) -> Result<()
 
 /// Adds numbers, each behind a space.
 fn put_numbers<O: Sink>(out: &mut O, block: &mut Block, numbers: &[i128]) -> Result<(), SinkError>
-    ensures { Writes result (O.taken out.old, O.faults out.old) block.old (O.taken out.new, O.faults out.new) block.new (spaced (map signed_decimal numbers.now)) }
+    ensures { Writes result (O.state out.old) block.old (O.state out.new) block.new (spaced (map signed_decimal numbers.now)) }
 {
     for number in numbers {
         match put_number(out, block, number) {
@@ -162,7 +162,7 @@ pub fn put_choices<O: Sink>(
     block: &mut Block,
     choices: &[u16],
 ) -> Result<(), SinkError>
-    ensures { Writes result (O.taken out.old, O.faults out.old) block.old (O.taken out.new, O.faults out.new) block.new (spaced (map decimal choices.now)) }
+    ensures { Writes result (O.state out.old) block.old (O.state out.new) block.new (spaced (map decimal choices.now)) }
 {
     for choice in choices {
         match put_choice(out, block, *choice) {
@@ -180,7 +180,7 @@ pub fn put_part<O: Sink>(
     words: &[u8],
     numbers: &[i128],
 ) -> Result<(), SinkError>
-    ensures { Writes result (O.taken out.old, O.faults out.old) block.old (O.taken out.new, O.faults out.new) block.new (words.now ++ spaced (map signed_decimal numbers.now)) }
+    ensures { Writes result (O.state out.old) block.old (O.state out.new) block.new (words.now ++ spaced (map signed_decimal numbers.now)) }
 {
     match put_bytes(out, block, words) {
         Ok(()) => put_numbers(out, block, numbers),

@@ -22,7 +22,7 @@ pub fn put_line<O: Sink>(
     words: &[u8],
     numbers: &[i128],
 ) -> Result<(), SinkError>
-    ensures { Writes result (O.taken out.old, O.faults out.old) block.old (O.taken out.new, O.faults out.new) block.new (field_line words.now (map signed_decimal numbers.now)) }
+    ensures { Writes result (O.state out.old) block.old (O.state out.new) block.new (field_line words.now (map signed_decimal numbers.now)) }
 {
     match put_part(out, block, words, numbers) {
         Ok(()) => put_bytes(out, block, b"\n"),
@@ -38,7 +38,7 @@ fn put_list_line<O: Sink>(
     numbers: &[i128],
     choices: &[u16],
 ) -> Result<(), SinkError>
-    ensures { Writes result (O.taken out.old, O.faults out.old) block.old (O.taken out.new, O.faults out.new) block.new (field_line words.now (map signed_decimal numbers.now ++ map decimal choices.now)) }
+    ensures { Writes result (O.state out.old) block.old (O.state out.new) block.new (field_line words.now (map signed_decimal numbers.now ++ map decimal choices.now)) }
 {
     match put_part(out, block, words, numbers) {
         Ok(()) => put_choices_end(out, block, choices),
@@ -52,7 +52,7 @@ fn put_choices_end<O: Sink>(
     block: &mut Block,
     choices: &[u16],
 ) -> Result<(), SinkError>
-    ensures { Writes result (O.taken out.old, O.faults out.old) block.old (O.taken out.new, O.faults out.new) block.new (spaced (map decimal choices.now) ++ 10 ∷ []) }
+    ensures { Writes result (O.state out.old) block.old (O.state out.new) block.new (spaced (map decimal choices.now) ++ 10 ∷ []) }
 {
     match put_choices(out, block, choices) {
         Ok(()) => put_bytes(out, block, b"\n"),
@@ -67,14 +67,14 @@ pub fn put_fraction<O: Sink>(
     word: &[u8],
     fraction: &Frac,
 ) -> Result<(), SinkError>
-    ensures { Writes result (O.taken out.old, O.faults out.old) block.old (O.taken out.new, O.faults out.new) block.new (spell (fraction_row word.now fraction.now)) }
+    ensures { Writes result (O.state out.old) block.old (O.state out.new) block.new (spell (fraction_row word.now fraction.now)) }
 {
     put_line(out, block, word, &[fraction.num(), fraction.den()])
 }
 
 /// A ticket.
 pub fn put_ticket<O: Sink>(out: &mut O, block: &mut Block, ticket: &Ticket) -> Result<(), SinkError>
-    ensures { Writes result (O.taken out.old, O.faults out.old) block.old (O.taken out.new, O.faults out.new) block.new (spell (ticket_row ticket.now)) }
+    ensures { Writes result (O.state out.old) block.old (O.state out.new) block.new (spell (ticket_row ticket.now)) }
 {
     put_list_line(
         out,
@@ -87,7 +87,7 @@ pub fn put_ticket<O: Sink>(out: &mut O, block: &mut Block, ticket: &Ticket) -> R
 
 /// The multiplier of a comparison.
 pub fn put_mark<O: Sink>(out: &mut O, block: &mut Block, mark: &Mark) -> Result<(), SinkError>
-    ensures { Writes result (O.taken out.old, O.faults out.old) block.old (O.taken out.new, O.faults out.new) block.new (spell (mark_row mark.now)) }
+    ensures { Writes result (O.state out.old) block.old (O.state out.new) block.new (spell (mark_row mark.now)) }
 {
     put_line(
         out,
@@ -99,7 +99,7 @@ pub fn put_mark<O: Sink>(out: &mut O, block: &mut Block, mark: &Mark) -> Result<
 
 /// The multiplier of a row of the coverage table.
 pub fn put_row<O: Sink>(out: &mut O, block: &mut Block, row: &Line) -> Result<(), SinkError>
-    ensures { Writes result (O.taken out.old, O.faults out.old) block.old (O.taken out.new, O.faults out.new) block.new (spell (line_row row.now)) }
+    ensures { Writes result (O.state out.old) block.old (O.state out.new) block.new (spell (line_row row.now)) }
 {
     put_line(out, block, b"c", &[i128::from(row.row), row.v])
 }
@@ -112,7 +112,7 @@ fn put_rest<O: Sink>(
     numbers: &[i128],
     choices: &[u16],
 ) -> Result<(), SinkError>
-    ensures { Writes result (O.taken out.old, O.faults out.old) block.old (O.taken out.new, O.faults out.new) block.new (32 ∷ field_line word.now (map signed_decimal numbers.now ++ map decimal choices.now)) }
+    ensures { Writes result (O.state out.old) block.old (O.state out.new) block.new (32 ∷ field_line word.now (map signed_decimal numbers.now ++ map decimal choices.now)) }
 {
     match put_bytes(out, block, b" ") {
         Ok(()) => put_list_line(out, block, word, numbers, choices),
@@ -136,7 +136,7 @@ fn put_word_line<O: Sink>(
     word: &[u8],
     around: Around,
 ) -> Result<(), SinkError>
-    ensures { Writes result (O.taken out.old, O.faults out.old) block.old (O.taken out.new, O.faults out.new) block.new (field_line words.now (map signed_decimal around.entry.before.now ++ word.now ∷ (map signed_decimal around.entry.after.now ++ map decimal around.entry.choices.now))) }
+    ensures { Writes result (O.state out.old) block.old (O.state out.new) block.new (field_line words.now (map signed_decimal around.entry.before.now ++ word.now ∷ (map signed_decimal around.entry.after.now ++ map decimal around.entry.choices.now))) }
 {
     match put_part(out, block, words, around.before) {
         Ok(()) => put_rest(out, block, word, around.after, around.choices),
@@ -152,7 +152,7 @@ pub fn put_header<O: Sink>(
     pair: (&i128, &i128),
     count: usize,
 ) -> Result<(), SinkError>
-    ensures { Writes result (O.taken out.old, O.faults out.old) block.old (O.taken out.new, O.faults out.new) block.new (spell (word.now ∷ signed_decimal pair.entry.0.now ∷ signed_decimal pair.entry.1.now ∷ decimal count ∷ [])) }
+    ensures { Writes result (O.state out.old) block.old (O.state out.new) block.new (spell (word.now ∷ signed_decimal pair.entry.0.now ∷ signed_decimal pair.entry.1.now ∷ decimal count ∷ [])) }
 {
     put_line(out, block, word, &[*pair.0, *pair.1, count as i128])
 }
@@ -164,7 +164,7 @@ pub fn put_water<O: Sink>(
     level: &Frac,
     reason: Level,
 ) -> Result<(), SinkError>
-    ensures { Writes result (O.taken out.old, O.faults out.old) block.old (O.taken out.new, O.faults out.new) block.new (text_of (fact_rows (Water level.now reason))) }
+    ensures { Writes result (O.state out.old) block.old (O.state out.new) block.new (text_of (fact_rows (Water level.now reason))) }
 {
     let parts = [level.num(), level.den()];
     match reason {
@@ -195,7 +195,7 @@ pub fn put_water<O: Sink>(
 
 /// The first line of a cap.
 pub fn put_cap_line<O: Sink>(out: &mut O, block: &mut Block, cap: &Cap) -> Result<(), SinkError>
-    ensures { Writes result (O.taken out.old, O.faults out.old) block.old (O.taken out.new, O.faults out.new) block.new (spell (cap_row cap.now)) }
+    ensures { Writes result (O.state out.old) block.old (O.state out.new) block.new (spell (cap_row cap.now)) }
 {
     let l = [i128::from(cap.l)];
     let v = i128::from(cap.v);
@@ -232,7 +232,7 @@ pub fn put_split_line<O: Sink>(
     l: u8,
     count: usize,
 ) -> Result<(), SinkError>
-    ensures { Writes result (O.taken out.old, O.faults out.old) block.old (O.taken out.new, O.faults out.new) block.new (spell (split_row l count)) }
+    ensures { Writes result (O.state out.old) block.old (O.state out.new) block.new (spell (split_row l count)) }
 {
     put_line(out, block, b"split", &[i128::from(l), count as i128])
 }
@@ -254,7 +254,7 @@ fn put_number_line<O: Sink>(
     words: &[u8],
     number: u64,
 ) -> Result<(), SinkError>
-    ensures { Writes result (O.taken out.old, O.faults out.old) block.old (O.taken out.new, O.faults out.new) block.new (field_line words.now (decimal number ∷ [])) }
+    ensures { Writes result (O.state out.old) block.old (O.state out.new) block.new (field_line words.now (decimal number ∷ [])) }
 {
     put_line(out, block, words, &[i128::from(number)])
 }
@@ -267,7 +267,7 @@ fn put_node_line<O: Sink>(
     number: u64,
     fix: &Fix,
 ) -> Result<(), SinkError>
-    ensures { Writes result (O.taken out.old, O.faults out.old) block.old (O.taken out.new, O.faults out.new) block.new (field_line words.now (decimal number ∷ fix_fields fix.now)) }
+    ensures { Writes result (O.state out.old) block.old (O.state out.new) block.new (field_line words.now (decimal number ∷ fix_fields fix.now)) }
 {
     put_list_line(
         out,
@@ -291,7 +291,7 @@ fn put_step_line<O: Sink>(
     step: u64,
     fix: &Fix,
 ) -> Result<(), SinkError>
-    ensures { Writes result (O.taken out.old, O.faults out.old) block.old (O.taken out.new, O.faults out.new) block.new (field_line words.now (decimal number ∷ decimal step ∷ fix_fields fix.now)) }
+    ensures { Writes result (O.state out.old) block.old (O.state out.new) block.new (field_line words.now (decimal number ∷ decimal step ∷ fix_fields fix.now)) }
 {
     put_list_line(
         out,
@@ -317,7 +317,7 @@ fn put_value_line<O: Sink>(
     step: u64,
     fix: &Fix,
 ) -> Result<(), SinkError>
-    ensures { Writes result (O.taken out.old, O.faults out.old) block.old (O.taken out.new, O.faults out.new) block.new (field_line words.now (decimal name ∷ op_word wide.now.op ∷ signed_decimal wide.now.left ∷ signed_decimal wide.now.right ∷ decimal step ∷ fix_fields fix.now)) }
+    ensures { Writes result (O.state out.old) block.old (O.state out.new) block.new (field_line words.now (decimal name ∷ op_word wide.now.op ∷ signed_decimal wide.now.left ∷ signed_decimal wide.now.right ∷ decimal step ∷ fix_fields fix.now)) }
 {
     put_word_line(
         out,
@@ -340,7 +340,7 @@ fn put_value_line<O: Sink>(
 
 /// A budget of nodes that was spent.
 fn put_spent_nodes<O: Sink>(out: &mut O, block: &mut Block, budget: u64) -> Result<(), SinkError>
-    ensures { Writes result (O.taken out.old, O.faults out.old) block.old (O.taken out.new, O.faults out.new) block.new (spell (codes "verdict" ∷ codes "gap" ∷ cause_fields (causes.Nodes budget))) }
+    ensures { Writes result (O.state out.old) block.old (O.state out.new) block.new (spell (codes "verdict" ∷ codes "gap" ∷ cause_fields (causes.Nodes budget))) }
 {
     put_number_line(out, block, b"verdict gap nodes", budget)
 }
@@ -352,7 +352,7 @@ fn put_spent_pivots<O: Sink>(
     budget: u64,
     fix: &Fix,
 ) -> Result<(), SinkError>
-    ensures { Writes result (O.taken out.old, O.faults out.old) block.old (O.taken out.new, O.faults out.new) block.new (spell (codes "verdict" ∷ codes "gap" ∷ cause_fields (causes.Pivots budget fix.now))) }
+    ensures { Writes result (O.state out.old) block.old (O.state out.new) block.new (spell (codes "verdict" ∷ codes "gap" ∷ cause_fields (causes.Pivots budget fix.now))) }
 {
     put_node_line(out, block, b"verdict gap pivots", budget, fix)
 }
@@ -365,7 +365,7 @@ fn put_spent_looks<O: Sink>(
     step: u64,
     fix: &Fix,
 ) -> Result<(), SinkError>
-    ensures { Writes result (O.taken out.old, O.faults out.old) block.old (O.taken out.new, O.faults out.new) block.new (spell (codes "verdict" ∷ codes "gap" ∷ cause_fields (causes.Looks budget step fix.now))) }
+    ensures { Writes result (O.state out.old) block.old (O.state out.new) block.new (spell (codes "verdict" ∷ codes "gap" ∷ cause_fields (causes.Looks budget step fix.now))) }
 {
     put_step_line(out, block, b"verdict gap looks", budget, step, fix)
 }
@@ -379,14 +379,14 @@ fn put_wide<O: Sink>(
     step: u64,
     fix: &Fix,
 ) -> Result<(), SinkError>
-    ensures { Writes result (O.taken out.old, O.faults out.old) block.old (O.taken out.new, O.faults out.new) block.new (spell (codes "verdict" ∷ codes "gap" ∷ cause_fields (causes.Wide name wide.now step fix.now))) }
+    ensures { Writes result (O.state out.old) block.old (O.state out.new) block.new (spell (codes "verdict" ∷ codes "gap" ∷ cause_fields (causes.Wide name wide.now step fix.now))) }
 {
     put_value_line(out, block, b"verdict gap wide", name, wide, step, fix)
 }
 
 /// The verdict of a gap.
 fn put_cause<O: Sink>(out: &mut O, block: &mut Block, cause: &Cause) -> Result<(), SinkError>
-    ensures { Writes result (O.taken out.old, O.faults out.old) block.old (O.taken out.new, O.faults out.new) block.new (spell (codes "verdict" ∷ codes "gap" ∷ cause_fields cause.now)) }
+    ensures { Writes result (O.state out.old) block.old (O.state out.new) block.new (spell (codes "verdict" ∷ codes "gap" ∷ cause_fields cause.now)) }
 {
     match cause {
         Cause::Nodes(budget) => put_spent_nodes(out, block, *budget),
@@ -407,7 +407,7 @@ pub fn put_verdict<O: Sink>(
     block: &mut Block,
     ending: &Ending,
 ) -> Result<(), SinkError>
-    ensures { Writes result (O.taken out.old, O.faults out.old) block.old (O.taken out.new, O.faults out.new) block.new (spell (verdict_row ending.now)) }
+    ensures { Writes result (O.state out.old) block.old (O.state out.new) block.new (spell (verdict_row ending.now)) }
 {
     match ending {
         Ending::Optimal => put_line(out, block, b"verdict optimal", &[]),

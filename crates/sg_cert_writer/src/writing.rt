@@ -21,7 +21,7 @@ use sg_tree::{Cap, Claim, Fact, Line, Mark, Report, Tree};
 
 /// Tickets.
 fn put_tickets<O: Sink>(out: &mut O, block: &mut Block, tickets: &[Ticket]) -> Result<(), SinkError>
-    ensures { Writes result (O.taken out.old, O.faults out.old) block.old (O.taken out.new, O.faults out.new) block.new (text_of (map ticket_row tickets.now)) }
+    ensures { Writes result (O.state out.old) block.old (O.state out.new) block.new (text_of (map ticket_row tickets.now)) }
 {
     for ticket in tickets {
         match put_ticket(out, block, ticket) {
@@ -34,7 +34,7 @@ fn put_tickets<O: Sink>(out: &mut O, block: &mut Block, tickets: &[Ticket]) -> R
 
 /// The number and total of tickets, and the tickets.
 fn put_claim<O: Sink>(out: &mut O, block: &mut Block, claim: &Claim) -> Result<(), SinkError>
-    ensures { Writes result (O.taken out.old, O.faults out.old) block.old (O.taken out.new, O.faults out.new) block.new (text_of (claim_rows claim.now)) }
+    ensures { Writes result (O.state out.old) block.old (O.state out.new) block.new (text_of (claim_rows claim.now)) }
 {
     match put_counts(out, block, claim) {
         Ok(()) => put_tickets(out, block, claim.tickets()),
@@ -44,7 +44,7 @@ fn put_claim<O: Sink>(out: &mut O, block: &mut Block, claim: &Claim) -> Result<(
 
 /// The number and total of tickets.
 fn put_counts<O: Sink>(out: &mut O, block: &mut Block, claim: &Claim) -> Result<(), SinkError>
-    ensures { Writes result (O.taken out.old, O.faults out.old) block.old (O.taken out.new, O.faults out.new) block.new (spell (codes "tickets" ∷ decimal (length claim.now.tickets) ∷ signed_decimal claim.now.total ∷ [])) }
+    ensures { Writes result (O.state out.old) block.old (O.state out.new) block.new (spell (codes "tickets" ∷ decimal (length claim.now.tickets) ∷ signed_decimal claim.now.total ∷ [])) }
 {
     put_line(
         out,
@@ -56,7 +56,7 @@ fn put_counts<O: Sink>(out: &mut O, block: &mut Block, claim: &Claim) -> Result<
 
 /// Multipliers of comparisons.
 fn put_marks<O: Sink>(out: &mut O, block: &mut Block, marks: &[Mark]) -> Result<(), SinkError>
-    ensures { Writes result (O.taken out.old, O.faults out.old) block.old (O.taken out.new, O.faults out.new) block.new (text_of (map mark_row marks.now)) }
+    ensures { Writes result (O.state out.old) block.old (O.state out.new) block.new (text_of (map mark_row marks.now)) }
 {
     for mark in marks {
         match put_mark(out, block, mark) {
@@ -69,7 +69,7 @@ fn put_marks<O: Sink>(out: &mut O, block: &mut Block, marks: &[Mark]) -> Result<
 
 /// Multipliers of rows.
 fn put_rows<O: Sink>(out: &mut O, block: &mut Block, rows: &[Line]) -> Result<(), SinkError>
-    ensures { Writes result (O.taken out.old, O.faults out.old) block.old (O.taken out.new, O.faults out.new) block.new (text_of (map line_row rows.now)) }
+    ensures { Writes result (O.state out.old) block.old (O.state out.new) block.new (text_of (map line_row rows.now)) }
 {
     for row in rows {
         match put_row(out, block, row) {
@@ -87,7 +87,7 @@ fn put_plays<O: Sink>(
     pair: (&i128, &i128),
     marks: &[Mark],
 ) -> Result<(), SinkError>
-    ensures { Writes result (O.taken out.old, O.faults out.old) block.old (O.taken out.new, O.faults out.new) block.new (text_of (fact_rows (Plays pair.entry.0.now pair.entry.1.now marks.now))) }
+    ensures { Writes result (O.state out.old) block.old (O.state out.new) block.new (text_of (fact_rows (Plays pair.entry.0.now pair.entry.1.now marks.now))) }
 {
     match put_header(out, block, b"plays", pair, marks.len()) {
         Ok(()) => put_marks(out, block, marks),
@@ -102,7 +102,7 @@ fn put_cover<O: Sink>(
     pair: (&i128, &i128),
     rows: &[Line],
 ) -> Result<(), SinkError>
-    ensures { Writes result (O.taken out.old, O.faults out.old) block.old (O.taken out.new, O.faults out.new) block.new (text_of (fact_rows (Cover pair.entry.0.now pair.entry.1.now rows.now))) }
+    ensures { Writes result (O.state out.old) block.old (O.state out.new) block.new (text_of (fact_rows (Cover pair.entry.0.now pair.entry.1.now rows.now))) }
 {
     match put_header(out, block, b"cover", pair, rows.len()) {
         Ok(()) => put_rows(out, block, rows),
@@ -112,7 +112,7 @@ fn put_cover<O: Sink>(
 
 /// A fact.
 fn put_fact<O: Sink>(out: &mut O, block: &mut Block, fact: &Fact) -> Result<(), SinkError>
-    ensures { Writes result (O.taken out.old, O.faults out.old) block.old (O.taken out.new, O.faults out.new) block.new (text_of (fact_rows fact.now)) }
+    ensures { Writes result (O.state out.old) block.old (O.state out.new) block.new (text_of (fact_rows fact.now)) }
 {
     match fact {
         Fact::Plays { rho, mu, marks } => put_plays(out, block, (rho, mu), marks.as_slice()),
@@ -123,7 +123,7 @@ fn put_fact<O: Sink>(out: &mut O, block: &mut Block, fact: &Fact) -> Result<(), 
 
 /// Facts.
 fn put_facts<O: Sink>(out: &mut O, block: &mut Block, facts: &[Fact]) -> Result<(), SinkError>
-    ensures { Writes result (O.taken out.old, O.faults out.old) block.old (O.taken out.new, O.faults out.new) block.new (text_of (flat_map fact_rows facts.now)) }
+    ensures { Writes result (O.state out.old) block.old (O.state out.new) block.new (text_of (flat_map fact_rows facts.now)) }
 {
     for fact in facts {
         match put_fact(out, block, fact) {
@@ -136,7 +136,7 @@ fn put_facts<O: Sink>(out: &mut O, block: &mut Block, facts: &[Fact]) -> Result<
 
 /// A cap: its facts behind its line.
 fn put_cap<O: Sink>(out: &mut O, block: &mut Block, cap: &Cap) -> Result<(), SinkError>
-    ensures { Writes result (O.taken out.old, O.faults out.old) block.old (O.taken out.new, O.faults out.new) block.new (text_of (cap_rows cap.now)) }
+    ensures { Writes result (O.state out.old) block.old (O.state out.new) block.new (text_of (cap_rows cap.now)) }
 {
     match put_cap_line(out, block, cap) {
         Ok(()) => put_facts(out, block, cap.proof.as_slice()),
@@ -146,7 +146,7 @@ fn put_cap<O: Sink>(out: &mut O, block: &mut Block, cap: &Cap) -> Result<(), Sin
 
 /// Caps.
 fn put_caps<O: Sink>(out: &mut O, block: &mut Block, caps: &[Cap]) -> Result<(), SinkError>
-    ensures { Writes result (O.taken out.old, O.faults out.old) block.old (O.taken out.new, O.faults out.new) block.new (text_of (flat_map cap_rows caps.now)) }
+    ensures { Writes result (O.state out.old) block.old (O.state out.new) block.new (text_of (flat_map cap_rows caps.now)) }
 {
     for cap in caps {
         match put_cap(out, block, cap) {
@@ -159,7 +159,7 @@ fn put_caps<O: Sink>(out: &mut O, block: &mut Block, caps: &[Cap]) -> Result<(),
 
 /// A base: open, or a fact.
 fn put_base<O: Sink>(out: &mut O, block: &mut Block, base: &Option<Fact>) -> Result<(), SinkError>
-    ensures { Writes result (O.taken out.old, O.faults out.old) block.old (O.taken out.new, O.faults out.new) block.new (text_of (base_rows base.now)) }
+    ensures { Writes result (O.state out.old) block.old (O.state out.new) block.new (text_of (base_rows base.now)) }
 {
     match base {
         None => put_open(out, block),
@@ -169,7 +169,7 @@ fn put_base<O: Sink>(out: &mut O, block: &mut Block, base: &Option<Fact>) -> Res
 
 /// An open node or base.
 fn put_open<O: Sink>(out: &mut O, block: &mut Block) -> Result<(), SinkError>
-    ensures { Writes result (O.taken out.old, O.faults out.old) block.old (O.taken out.new, O.faults out.new) block.new (text_of (base_rows None)) }
+    ensures { Writes result (O.state out.old) block.old (O.state out.new) block.new (text_of (base_rows None)) }
 {
     put_line(out, block, b"open", &[])
 }
@@ -182,7 +182,7 @@ fn put_split<O: Sink>(
     base: &Option<Fact>,
     count: usize,
 ) -> Result<(), SinkError>
-    ensures { Writes result (O.taken out.old, O.faults out.old) block.old (O.taken out.new, O.faults out.new) block.new (text_of (split_row l count ∷ base_rows base.now)) }
+    ensures { Writes result (O.state out.old) block.old (O.state out.new) block.new (text_of (split_row l count ∷ base_rows base.now)) }
 {
     match put_split_line(out, block, l, count) {
         Ok(()) => put_base(out, block, base),
@@ -192,7 +192,7 @@ fn put_split<O: Sink>(
 
 /// A node: open, a fact, or a split with its parts.
 fn put_node<O: Sink>(out: &mut O, block: &mut Block, tree: &Tree) -> Result<(), SinkError>
-    ensures { Writes result (O.taken out.old, O.faults out.old) block.old (O.taken out.new, O.faults out.new) block.new (text_of (node_rows tree.now)) }
+    ensures { Writes result (O.state out.old) block.old (O.state out.new) block.new (text_of (node_rows tree.now)) }
 {
     match tree {
         Tree::Unproved => put_open(out, block),
@@ -219,7 +219,7 @@ fn put_tickets_value<O: Sink>(
     block: &mut Block,
     report: &Report,
 ) -> Result<(), SinkError>
-    ensures { Writes result (O.taken out.old, O.faults out.old) block.old (O.taken out.new, O.faults out.new) block.new (text_of (claim_rows report.now.tickets) ++ spell (fraction_row (codes "value") report.now.value)) }
+    ensures { Writes result (O.state out.old) block.old (O.state out.new) block.new (text_of (claim_rows report.now.tickets) ++ spell (fraction_row (codes "value") report.now.value)) }
 {
     match put_claim(out, block, &report.tickets) {
         Ok(()) => put_fraction(out, block, b"value", &report.value),
@@ -229,7 +229,7 @@ fn put_tickets_value<O: Sink>(
 
 /// The lines up to the caps.
 fn put_head<O: Sink>(out: &mut O, block: &mut Block, report: &Report) -> Result<(), SinkError>
-    ensures { Writes result (O.taken out.old, O.faults out.old) block.old (O.taken out.new, O.faults out.new) block.new (text_of (head_rows report.now)) }
+    ensures { Writes result (O.state out.old) block.old (O.state out.new) block.new (text_of (head_rows report.now)) }
 {
     match put_line(out, block, b"patrol-report 1", &[]) {
         Ok(()) => put_tickets_value(out, block, report),
@@ -239,7 +239,7 @@ fn put_head<O: Sink>(out: &mut O, block: &mut Block, report: &Report) -> Result<
 
 /// The verdict and the last line.
 fn put_end<O: Sink>(out: &mut O, block: &mut Block, report: &Report) -> Result<(), SinkError>
-    ensures { Writes result (O.taken out.old, O.faults out.old) block.old (O.taken out.new, O.faults out.new) block.new (spell (verdict_row report.now.ending) ++ spell (codes "end" ∷ [])) }
+    ensures { Writes result (O.state out.old) block.old (O.state out.new) block.new (spell (verdict_row report.now.ending) ++ spell (codes "end" ∷ [])) }
 {
     match put_verdict(out, block, &report.ending) {
         Ok(()) => put_line(out, block, b"end", &[]),
@@ -249,7 +249,7 @@ fn put_end<O: Sink>(out: &mut O, block: &mut Block, report: &Report) -> Result<(
 
 /// The lines behind the tree.
 fn put_tail<O: Sink>(out: &mut O, block: &mut Block, report: &Report) -> Result<(), SinkError>
-    ensures { Writes result (O.taken out.old, O.faults out.old) block.old (O.taken out.new, O.faults out.new) block.new (text_of (tail_rows report.now)) }
+    ensures { Writes result (O.state out.old) block.old (O.state out.new) block.new (text_of (tail_rows report.now)) }
 {
     match put_fraction(out, block, b"upper", &report.upper) {
         Ok(()) => put_end(out, block, report),
@@ -259,7 +259,7 @@ fn put_tail<O: Sink>(out: &mut O, block: &mut Block, report: &Report) -> Result<
 
 /// The tree and the lines behind it.
 fn put_tree_tail<O: Sink>(out: &mut O, block: &mut Block, report: &Report) -> Result<(), SinkError>
-    ensures { Writes result (O.taken out.old, O.faults out.old) block.old (O.taken out.new, O.faults out.new) block.new (text_of (node_rows report.now.tree ++ tail_rows report.now)) }
+    ensures { Writes result (O.state out.old) block.old (O.state out.new) block.new (text_of (node_rows report.now.tree ++ tail_rows report.now)) }
 {
     match put_node(out, block, &report.tree) {
         Ok(()) => put_tail(out, block, report),
@@ -269,7 +269,7 @@ fn put_tree_tail<O: Sink>(out: &mut O, block: &mut Block, report: &Report) -> Re
 
 /// The lines from the caps on.
 fn put_caps_tail<O: Sink>(out: &mut O, block: &mut Block, report: &Report) -> Result<(), SinkError>
-    ensures { Writes result (O.taken out.old, O.faults out.old) block.old (O.taken out.new, O.faults out.new) block.new (text_of (flat_map cap_rows report.now.caps ++ (node_rows report.now.tree ++ tail_rows report.now))) }
+    ensures { Writes result (O.state out.old) block.old (O.state out.new) block.new (text_of (flat_map cap_rows report.now.caps ++ (node_rows report.now.tree ++ tail_rows report.now))) }
 {
     match put_caps(out, block, report.caps.as_slice()) {
         Ok(()) => put_tree_tail(out, block, report),
@@ -279,7 +279,7 @@ fn put_caps_tail<O: Sink>(out: &mut O, block: &mut Block, report: &Report) -> Re
 
 /// All lines.
 fn put_report<O: Sink>(out: &mut O, block: &mut Block, report: &Report) -> Result<(), SinkError>
-    ensures { Writes result (O.taken out.old, O.faults out.old) block.old (O.taken out.new, O.faults out.new) block.new (report_text report.now) }
+    ensures { Writes result (O.state out.old) block.old (O.state out.new) block.new (report_text report.now) }
 {
     match put_head(out, block, report) {
         Ok(()) => put_caps_tail(out, block, report),
@@ -290,11 +290,11 @@ fn put_report<O: Sink>(out: &mut O, block: &mut Block, report: &Report) -> Resul
 /// Puts the text of a report. It takes no memory. Where the sink fails, a front of the text was taken, and the count
 /// of faults rose.
 pub fn write_report<O: Sink>(report: &Report, out: &mut O) -> Result<(), SinkError>
-    ensures count { O.faults out.old ≤ O.faults out.new }
-    ensures last_count { O.faults out.new ≤ 2 ^ 64 - 1 }
-    ensures whole { OnOk result (Takes (O.taken out.old) (O.taken out.new) (report_text report.now)) }
-    ensures front { OnErr result (TakesFront (O.taken out.old) (O.taken out.new) (report_text report.now)) }
-    ensures failed { OnErr result (HasRisen (O.faults out.old) (O.faults out.new)) }
+    ensures count { (O.state out.old).faults ≤ (O.state out.new).faults }
+    ensures last_count { (O.state out.new).faults ≤ 2 ^ 64 - 1 }
+    ensures whole { OnOk result (Takes (O.state out.old).bytes (O.state out.new).bytes (report_text report.now)) }
+    ensures front { OnErr result (TakesFront (O.state out.old).bytes (O.state out.new).bytes (report_text report.now)) }
+    ensures failed { OnErr result (HasRisen (O.state out.old).faults (O.state out.new).faults) }
 {
     let mut block = Block::new();
     match put_report(out, &mut block, report) {

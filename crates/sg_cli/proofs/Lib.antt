@@ -1,11 +1,14 @@
+pub mod CommandStatus
 pub mod Completes
 pub mod Formed
+pub mod JudgingStatus
 pub mod Lengths
-pub mod Logged
 pub mod OneStatus
 pub mod Outcomes
 pub mod Pairs
+pub mod Progress
 pub mod SmallNumbers
+pub mod SolvingStatus
 pub mod Stopping
 pub mod Tellings
 pub mod WorkedRuns

@@ -1,77 +1,72 @@
 -- A run that tells a refusal answers by it.
-use Rattle.std.proofs.Common.{◌≡◌, ◌≢◌, ◌⊎◌, ℕ, List, [], ◌∷◌, Option, Some, sym, ◌∙◌, ap, subst, arith, inl, inr}
-use Rattle.sg_cli.specs.Refusals.{status_of, HasNumbers}
-use Rattle.sg_words.specs.Commands.{Asked, solve, check, show}
+use Rattle.std.proofs.Common.{◌≡◌, ◌≢◌, ◌⊎◌, ℕ, List, [], ◌∷◌, ◌++◌, Option, Some, refl, sym, ◌∙◌, ap, subst, arith, inl, inr}
+use Rattle.std.proofs.lemmas.List.{append_assoc, map-append}
+use Rattle.sg_shelf.specs.Files.{HandsOver}
 use Rattle.sg_shelf.specs.Logs.{Log}
+use Rattle.sg_shelf.specs.States.{ShelfState, SinkState}
 use Rattle.sg_shelf.specs.declared.log.Outcome.TheVariants.{Given}
-use Rattle.sg_cli.specs.ShelfReads.{ReadsBoth, ReadsFront, ReadsGameFile, game_read, reads_asked, reads_of, report_read}
-use Rattle.sg_cli.specs.Scenes.{Scene, game_name, report_name}
-use Rattle.sg_cli.specs.Causes.{ComesOf}
-use Rattle.sg_cli.specs.Runs.{TellsRefusal, Answers}
-use Rattle.sg_cli.proofs.Logged.{all_read, front_named}
+use Rattle.sg_cli.specs.Commands.{Plan}
+use Rattle.sg_cli.specs.Progress.{ReadsFront, read_of, reads_of}
+use Rattle.sg_cli.specs.Effects.{Stops}
+use Rattle.sg_cli.specs.Refusals.{status_of, HasNumbers}
+use Rattle.sg_cli.specs.Runs.{Answers, ComesOf, FailsCommand, Observation, TellsRefusal}
+use Rattle.sg_cli.specs.declared.input.InputFault.{InputFault}
+use Rattle.sg_cli.specs.declared.input.InputFault.TheVariants as faults
+use Rattle.sg_cli.specs.declared.refusal.CommandRefusal.{CommandRefusal}
+use Rattle.sg_cli.specs.declared.refusal.CommandRefusal.TheVariants as owns
 use Rattle.sg_cli.specs.declared.refusal.Refusal.{Refusal}
-use Rattle.sg_cli.specs.declared.refusal.Refusal.TheVariants.{Words, GameNotRead, GameTooLong, GameRefused, NotYet, ReportNotRead, ReportTooLong, ReportRefused, ReportWrong, NotWritten, Memory}
+use Rattle.sg_cli.specs.declared.refusal.Refusal.TheVariants.{Words, NotRead, TooLong, Refused, Own, NotWritten, Memory}
 
--- the files that a command which reads a report names
-two_files : (asked : Asked) (report : List ℕ) → report_name asked ≡ Some report → reads_of asked ≡ game_read (game_name asked) Given ∷ report_read report Given ∷ []
-two_files (solve game) report e = let no_way : ⊥ = cc in absurd no_way
-two_files (check game other) report e = let same : other ≡ report = cc in ap (λ (r : List ℕ). game_read game Given ∷ report_read r Given ∷ []) same
-two_files (show game other) report e = let same : other ≡ report = cc in ap (λ (r : List ℕ). game_read game Given ∷ report_read r Given ∷ []) same
+-- some of the plan's reads were answered where bytes hold nothing of their kind
+front_faulty : (hands : HandsOver) (plan : Plan) (a c : ShelfState) (fault : InputFault) → Stops hands plan a c (Refused fault) → ReadsFront (reads_of plan.inputs) a c
+front_faulty hands plan a c fault h =
+    let r = h.ends.reaches in
+    record {
+      read = reads_of r.front ++ read_of Given h.input ∷ [];
+      unread = reads_of r.rest;
+      in_order = append_assoc (reads_of r.front) (read_of Given h.input ∷ []) (reads_of r.rest) ∙ sym (map-append (read_of Given) r.front (h.input ∷ r.rest)) ∙ ap reads_of (sym r.in_order);
+      reads = h.ends.answered ∙ ap (λ (log : Log). log ++ read_of Given h.input ∷ []) r.read.log ∙ append_assoc a.log (reads_of r.front) (read_of Given h.input ∷ []);
+    }
 
--- what was read of a command's files is of those of what the words ask for
-of_asked : (s : Scene) (asked : Asked) → s.asked ≡ Some asked → ReadsFront (reads_of asked) s.shelf_before s.shelf_after
-    → ReadsFront (reads_asked s.asked) s.shelf_before s.shelf_after
-of_asked s asked asks h = subst (λ (a : Option Asked). ReadsFront (reads_asked a) s.shelf_before s.shelf_after) (sym asks) h
-
--- the game's file alone was read
-one_read : (s : Scene) (asked : Asked) → s.asked ≡ Some asked → ReadsGameFile (game_name asked) Given s.shelf_before s.shelf_after
-    → ReadsFront (reads_asked s.asked) s.shelf_before s.shelf_after
-one_read s asked asks h = of_asked s asked asks (front_named asked s.shelf_before s.shelf_after (all_read (game_read (game_name asked) Given ∷ []) s.shelf_before s.shelf_after h))
-
--- both were read
-two_read : (s : Scene) (asked : Asked) (report : List ℕ) → s.asked ≡ Some asked → report_name asked ≡ Some report
-    → ReadsBoth (game_name asked) report Given s.shelf_before s.shelf_after → ReadsFront (reads_asked s.asked) s.shelf_before s.shelf_after
-two_read s asked report asks names h =
-    of_asked s asked asks
-    (subst (λ (n : Log). ReadsFront n s.shelf_before s.shelf_after) (sym (two_files asked report names))
-    (all_read (game_read (game_name asked) Given ∷ report_read report Given ∷ []) s.shelf_before s.shelf_after h))
+-- and where the command refuses what it read
+front_own : (hands : HandsOver) (plan : Plan) (a c : ShelfState) (own : CommandRefusal) → Stops hands plan a c (Own own) → ReadsFront (reads_of plan.inputs) a c
+front_own hands plan a c own h =
+    record { read = reads_of h.front; unread = reads_of h.rest; in_order = sym (map-append (read_of Given) h.front h.rest) ∙ ap reads_of (sym h.in_order); reads = h.read.log }
 
 -- where there is no memory for a line with numbers, want of memory has its cause too
-memory_comes : (s : Scene) (r : Refusal) → HasNumbers r → ComesOf s r → ComesOf s Memory
-memory_comes s Words k c = absurd k
-memory_comes s GameNotRead k c = absurd k
-memory_comes s GameTooLong k c = absurd k
-memory_comes s (GameRefused fault) k c = (one_read s c.asked c.asks c.cause.0, c.kept)
-memory_comes s NotYet k c = absurd k
-memory_comes s ReportNotRead k c = absurd k
-memory_comes s ReportTooLong k c = absurd k
-memory_comes s (ReportRefused fault) k c = (two_read s c.asked c.cause.report c.asks c.cause.names c.cause.holds.0, c.kept)
-memory_comes s (ReportWrong line reason) k c = (two_read s c.asked c.cause.report c.asks c.cause.names c.cause.holds.0, c.kept)
-memory_comes s NotWritten k c = absurd k
-memory_comes s Memory k c = absurd k
+memory_comes : (o : Observation) (e : Refusal) → HasNumbers e → ComesOf o e → ComesOf o Memory
+memory_comes o Words k c = absurd k
+memory_comes o (NotRead kind) k c = absurd k
+memory_comes o (TooLong kind) k c = absurd k
+memory_comes o (Refused fault) k c = inl (record { asked = c.asked; asks = c.asks; fails = inl (front_faulty _ _ _ _ fault c.fails.0, c.fails.1) })
+memory_comes o (Own own) k c = inl (record { asked = c.asked; asks = c.asks; fails = inl (front_own _ _ _ _ own c.fails.0, c.fails.1) })
+memory_comes o NotWritten k c = absurd k
+memory_comes o Memory k c = absurd k
 
-pub tells_answer : (s : Scene) (fb fa : ℕ) (eb ea : Option (List ℕ)) (asked told : Refusal) (status : ℕ) → ComesOf s asked
-    → (told ≡ asked) ⊎ ((told ≡ Memory) × HasNumbers asked) → TellsRefusal fb fa eb ea told → status ≡ status_of told → Answers s fb fa eb ea status
-tells_answer s fb fa eb ea asked told status c (inl same) t e =
-    inr (record { refusal = told; is_status = e; cause = subst (ComesOf s) (sym same) c; tells = t })
-tells_answer s fb fa eb ea asked told status c (inr memory) t e =
-    inr (record { refusal = told; is_status = e; cause = subst (ComesOf s) (sym memory.0) (memory_comes s asked memory.1 c); tells = t })
+pub tells_answer : (o : Observation) (eb ea : SinkState) (due told : Refusal) (status : ℕ) → ComesOf o due
+    → (told ≡ due) ⊎ ((told ≡ Memory) × HasNumbers due) → TellsRefusal eb ea told → status ≡ status_of told → Answers o eb ea status
+tells_answer o eb ea due told status c (inl same) t e = inr (record { refusal = told; is_status = e; cause = subst (ComesOf o) (sym same) c; tells = t })
+tells_answer o eb ea due told status c (inr memory) t e =
+    inr (record { refusal = told; is_status = e; cause = subst (ComesOf o) (sym memory.0) (memory_comes o due memory.1 c); tells = t })
 
 -- a run that ends with another status than 9 was not refused by the output
-pub not_by_output : (asked told : Refusal) (status : ℕ) → (told ≡ asked) ⊎ ((told ≡ Memory) × HasNumbers asked) → status ≡ status_of told → status ≢ 9 → asked ≢ NotWritten
-not_by_output asked told status (inl same) e other is = other (e ∙ ap status_of (same ∙ is))
-not_by_output asked told status (inr memory) e other is = subst HasNumbers is memory.1
+pub not_by_output : (due told : Refusal) (status : ℕ) → (told ≡ due) ⊎ ((told ≡ Memory) × HasNumbers due) → status ≡ status_of told → status ≢ 9 → due ≢ NotWritten
+not_by_output due told status (inl same) e other is = other (e ∙ ap status_of (same ∙ is))
+not_by_output due told status (inr memory) e other is = subst HasNumbers is memory.1
+
+-- one that ends with 11 only where this holds was refused for memory only there
+pub by_memory : (due told : Refusal) (status : ℕ) (P : Type 0) → (told ≡ due) ⊎ ((told ≡ Memory) × HasNumbers due) → status ≡ status_of told → (status ≡ 11 → P) → due ≡ Memory → P
+by_memory due told status P (inl same) e only is = only (e ∙ ap status_of (same ∙ is))
+by_memory due told status P (inr memory) e only is = only (e ∙ ap status_of memory.0)
 
 -- no refusal has a status of success
 pub not_success : (told : Refusal) (status : ℕ) → status ≡ status_of told → (status ≢ 0) × (status ≢ 10)
 not_success Words status e = (λ z. absurd (omega (arith, e, z)), λ z. absurd (omega (arith, e, z)))
-not_success GameNotRead status e = (λ z. absurd (omega (arith, e, z)), λ z. absurd (omega (arith, e, z)))
-not_success GameTooLong status e = (λ z. absurd (omega (arith, e, z)), λ z. absurd (omega (arith, e, z)))
-not_success (GameRefused fault) status e = (λ z. absurd (omega (arith, e, z)), λ z. absurd (omega (arith, e, z)))
-not_success NotYet status e = (λ z. absurd (omega (arith, e, z)), λ z. absurd (omega (arith, e, z)))
-not_success ReportNotRead status e = (λ z. absurd (omega (arith, e, z)), λ z. absurd (omega (arith, e, z)))
-not_success ReportTooLong status e = (λ z. absurd (omega (arith, e, z)), λ z. absurd (omega (arith, e, z)))
-not_success (ReportRefused fault) status e = (λ z. absurd (omega (arith, e, z)), λ z. absurd (omega (arith, e, z)))
-not_success (ReportWrong line reason) status e = (λ z. absurd (omega (arith, e, z)), λ z. absurd (omega (arith, e, z)))
+not_success (NotRead kind) status e = (λ z. absurd (omega (arith, e, z)), λ z. absurd (omega (arith, e, z)))
+not_success (TooLong kind) status e = (λ z. absurd (omega (arith, e, z)), λ z. absurd (omega (arith, e, z)))
+not_success (Refused (faults.Game fault)) status e = (λ z. absurd (omega (arith, e, z)), λ z. absurd (omega (arith, e, z)))
+not_success (Refused (faults.Report fault)) status e = (λ z. absurd (omega (arith, e, z)), λ z. absurd (omega (arith, e, z)))
+not_success (Own owns.NotYet) status e = (λ z. absurd (omega (arith, e, z)), λ z. absurd (omega (arith, e, z)))
+not_success (Own (owns.ReportWrong line reason)) status e = (λ z. absurd (omega (arith, e, z)), λ z. absurd (omega (arith, e, z)))
 not_success NotWritten status e = (λ z. absurd (omega (arith, e, z)), λ z. absurd (omega (arith, e, z)))
 not_success Memory status e = (λ z. absurd (omega (arith, e, z)), λ z. absurd (omega (arith, e, z)))

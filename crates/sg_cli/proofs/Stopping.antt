@@ -1,124 +1,102 @@
--- What the refusals of a run's steps come of in the whole run.
-use Rattle.std.proofs.Common.{◌≡◌, ◌≢◌, ℕ, ◌≤◌, List, [], ◌∷◌, length, Option, Some, Ok, refl, subst, arith, inl, inr}
+-- What the refusals of the commands' steps come of in the whole run.
+use Rattle.std.proofs.Common.{◌≡◌, ℕ, List, [], ◌∷◌, length, Ok, Err, refl, ap}
 use Rattle.sg_model.specs.Games.{Game}
+use Rattle.sg_format.specs.GameFiles.{game_of_bytes}
 use Rattle.sg_tree.specs.declared.report.Report.{Report}
-use Rattle.sg_shelf.specs.Faults.{HasRisen}
-use Rattle.sg_shelf.specs.Logs.{Trail}
-use Rattle.sg_shelf.specs.declared.log.Outcome.TheVariants.{Given, TooLong, Failed}
-use Rattle.sg_shelf.specs.Files.{Files, HandsOver}
-use Rattle.sg_words.specs.Commands.{Asked, solve, check, show}
-use Rattle.sg_cli.specs.ShelfReads.{ReadsBoth, ReadsGameFile, game_read, report_read}
-use Rattle.sg_cli.specs.Scenes.{SaysGame, SaysReport, game_name, scene}
-use Rattle.sg_cli.specs.Causes.{ComesOf, IsCauseOf, OfReport}
-use Rattle.sg_cli.specs.Readings.{GameFileFails, HasChecked, JudgingFails, ReportFileFails, SolvingFails}
-use Rattle.sg_cli.proofs.Logged.{all_read, and_then, front_after, front_named}
+use Rattle.sg_cert.specs.Reading.{report_of}
+use Rattle.sg_shelf.specs.Files.{HandsOver}
+use Rattle.sg_shelf.specs.States.{ShelfState}
+use Rattle.sg_cli.specs.Inputs.{Content, Input, game, game_file, held_as, report, report_file}
+use Rattle.sg_cli.specs.Commands.{Plan}
+use Rattle.sg_cli.specs.Progress.{HasRead, ReachesInput, reads_of}
+use Rattle.sg_cli.specs.Effects.{Stops}
+use Rattle.sg_cli.specs.Judging.{IsChecked, judging, refuses_wrong}
+use Rattle.sg_cli.specs.Solving.{solving}
+use Rattle.sg_cli.specs.Steps.{GivesContent, GivesNoGame, GivesNone, GivesNoReport, SolvingFails}
+use Rattle.sg_cli.specs.declared.input.InputFault.TheVariants as faults
+use Rattle.sg_cli.specs.declared.refusal.CommandRefusal.{CommandRefusal}
+use Rattle.sg_cli.specs.declared.refusal.CommandRefusal.TheVariants.{NotYet}
 use Rattle.sg_cli.specs.declared.refusal.Refusal.{Refusal}
-use Rattle.sg_cli.specs.declared.refusal.Refusal.TheVariants.{Words, GameNotRead, GameTooLong, GameRefused, NotYet, ReportNotRead, ReportTooLong, ReportRefused, ReportWrong, NotWritten, Memory}
+use Rattle.sg_cli.specs.declared.refusal.Refusal.TheVariants.{Words, NotRead, TooLong, Refused, Own, NotWritten, Memory}
+use Rattle.sg_cli.proofs.Progress.{all_read, none_read, stops_behind, stops_faulty, stops_reading}
 
-module _ (hands : HandsOver) (files : Option Files) (before after : Trail) where
-  -- a file that gives no game
-  pub game_fails : (asked : Asked) (e : Refusal) → GameFileFails hands files (game_name asked) before after e → IsCauseOf hands files before after asked e
-  game_fails asked Words h = absurd h
-  game_fails asked GameNotRead h = h
-  game_fails asked GameTooLong h = h
-  game_fails asked (GameRefused fault) h = h
-  game_fails asked NotYet h = absurd h
-  game_fails asked ReportNotRead h = absurd h
-  game_fails asked ReportTooLong h = absurd h
-  game_fails asked (ReportRefused fault) h = absurd h
-  game_fails asked (ReportWrong line reason) h = absurd h
-  game_fails asked NotWritten h = absurd h
-  game_fails asked Memory h = front_named asked before after h
+module _ (hands : HandsOver) where
+  -- the first file is asked for
+  pub at_first : (plan : Plan) (a : ShelfState) (file : Input) (rest : List Input) → plan.inputs ≡ file ∷ rest → plan.takes [] → ReachesInput hands plan a a file
+  at_first plan a file rest e takes = record { front = []; rest = rest; in_order = e; contents = []; read = none_read hands a; took = tt; takes = takes }
 
-  -- a game that is not solved
-  pub solving_fails : (name : List ℕ) (g : Game) (e : Refusal) → ReadsGameFile name Given before after → SaysGame hands files name (Ok g) → SolvingFails g e → IsCauseOf hands files before after (solve name) e
-  solving_fails name g Words one s h = absurd h
-  solving_fails name g GameNotRead one s h = absurd h
-  solving_fails name g GameTooLong one s h = absurd h
-  solving_fails name g (GameRefused fault) one s h = absurd h
-  solving_fails name g NotYet one s h = inl (one, record { game = g; says = s; not_taken = h })
-  solving_fails name g ReportNotRead one s h = absurd h
-  solving_fails name g ReportTooLong one s h = absurd h
-  solving_fails name g (ReportRefused fault) one s h = absurd h
-  solving_fails name g (ReportWrong line reason) one s h = absurd h
-  solving_fails name g NotWritten one s h = absurd h
-  solving_fails name g Memory one s h = all_read (game_read name Given ∷ []) before after one
+  -- and the second
+  pub at_second : (plan : Plan) (a b : ShelfState) (one two : Input) (rest : List Input) (content : Content) → plan.inputs ≡ one ∷ two ∷ rest → plan.takes [] → plan.takes (content ∷ [])
+      → HasRead hands a b (one ∷ []) (content ∷ []) → ReachesInput hands plan a b two
+  at_second plan a b one two rest content e starts takes h = record { front = one ∷ []; rest = rest; in_order = e; contents = content ∷ []; read = h; took = (starts, tt); takes = takes }
 
-  -- a game on which reports are not checked
-  pub unchecked_fails : (name report : List ℕ) (g : Game) → ReadsGameFile name Given before after → SaysGame hands files name (Ok g) → ¬ (length g.types ≡ 1)
-      → IsCauseOf hands files before after (check name report) NotYet
-  unchecked_fails name report g one s h = inl (one, record { game = g; says = s; not_taken = h })
+  -- bytes that give no game, or no report
+  pub no_game : (plan : Plan) (a b c : ShelfState) (name bytes : List ℕ) (e : Refusal) → ReachesInput hands plan a b (game_file name) → GivesContent hands b c (game_file name) bytes
+      → GivesNoGame (game_of_bytes bytes) e → Stops hands plan a c e
+  no_game plan a b c name bytes Words r g h = absurd h
+  no_game plan a b c name bytes (NotRead kind) r g h = absurd h
+  no_game plan a b c name bytes (TooLong kind) r g h = absurd h
+  no_game plan a b c name bytes (Refused (faults.Game fault)) r g h = stops_faulty hands plan a b (game_file name) r c bytes (faults.Game fault) g (ap (held_as game faults.Game) h)
+  no_game plan a b c name bytes (Refused (faults.Report fault)) r g h = absurd h
+  no_game plan a b c name bytes (Own own) r g h = absurd h
+  no_game plan a b c name bytes NotWritten r g h = absurd h
+  no_game plan a b c name bytes Memory r g h = stops_behind hands plan a b (game_file name) r c bytes g
 
-  -- a file that gives no report, read after the game was
-  pub report_fails : (name report : List ℕ) (g : Game) (between : Trail) (e : Refusal) → HasChecked hands files name g → ReadsGameFile name Given before between → before.faults ≤ between.faults
-      → ReportFileFails hands files report between after e
-      → IsCauseOf hands files before after (check name report) e
-  report_fails name report g between Words c one le h = absurd h
-  report_fails name report g between GameNotRead c one le h = absurd h
-  report_fails name report g between GameTooLong c one le h = absurd h
-  report_fails name report g between (GameRefused fault) c one le h = absurd h
-  report_fails name report g between NotYet c one le h = absurd h
-  report_fails name report g between ReportNotRead c one le h =
-      record { game = g; takes = record { says = c.says; taken = c.is_checked }; report = report; names = refl; holds = (and_then name report Failed before between after one h.0, elim h.1 [ inl risen ↦ inl (risen_later risen) | inr missing ↦ inr missing ]) }
-    where
-      risen_later : HasRisen between.faults after.faults → HasRisen before.faults after.faults
-      risen_later risen = omega (arith, risen, le)
-  report_fails name report g between ReportTooLong c one le h = record { game = g; takes = record { says = c.says; taken = c.is_checked }; report = report; names = refl; holds = (and_then name report TooLong before between after one h.0, h.1) }
-  report_fails name report g between (ReportRefused fault) c one le h = record { game = g; takes = record { says = c.says; taken = c.is_checked }; report = report; names = refl; holds = (and_then name report Given before between after one h.0, h.1) }
-  report_fails name report g between (ReportWrong line reason) c one le h = absurd h
-  report_fails name report g between NotWritten c one le h = absurd h
-  report_fails name report g between Memory c one le h = front_after (game_read name Given) (report_read report Given ∷ []) before between after one h
+  pub no_report : (plan : Plan) (a b c : ShelfState) (name bytes : List ℕ) (e : Refusal) → ReachesInput hands plan a b (report_file name) → GivesContent hands b c (report_file name) bytes
+      → GivesNoReport (report_of bytes) e → Stops hands plan a c e
+  no_report plan a b c name bytes Words r g h = absurd h
+  no_report plan a b c name bytes (NotRead kind) r g h = absurd h
+  no_report plan a b c name bytes (TooLong kind) r g h = absurd h
+  no_report plan a b c name bytes (Refused (faults.Game fault)) r g h = absurd h
+  no_report plan a b c name bytes (Refused (faults.Report fault)) r g h = stops_faulty hands plan a b (report_file name) r c bytes (faults.Report fault) g (ap (held_as report faults.Report) h)
+  no_report plan a b c name bytes (Own own) r g h = absurd h
+  no_report plan a b c name bytes NotWritten r g h = absurd h
+  no_report plan a b c name bytes Memory r g h = stops_behind hands plan a b (report_file name) r c bytes g
 
-  -- a report that is not accepted
-  pub judging_fails : (name report : List ℕ) (g : Game) (r : Report) (e : Refusal) → HasChecked hands files name g → ReadsBoth name report Given before after → SaysReport hands files report (Ok r) → JudgingFails g r e
-      → IsCauseOf hands files before after (check name report) e
-  judging_fails name report g r Words c two s h = absurd h
-  judging_fails name report g r GameNotRead c two s h = absurd h
-  judging_fails name report g r GameTooLong c two s h = absurd h
-  judging_fails name report g r (GameRefused fault) c two s h = absurd h
-  judging_fails name report g r NotYet c two s h =
-      inr (record { game = g; takes = record { says = c.says; taken = c.is_checked }; report = report; names = refl; holds = (two, record { read = r; says = s; holds = h }) })
-  judging_fails name report g r ReportNotRead c two s h = absurd h
-  judging_fails name report g r ReportTooLong c two s h = absurd h
-  judging_fails name report g r (ReportRefused fault) c two s h = absurd h
-  judging_fails name report g r (ReportWrong line reason) c two s h =
-      record { game = g; takes = record { says = c.says; taken = c.is_checked }; report = report; names = refl; holds = (two, record { read = r; says = s; holds = h }) }
-  judging_fails name report g r NotWritten c two s h = absurd h
-  judging_fails name report g r Memory c two s h = absurd h
+  -- ---- `solve`
 
-  -- what a report is shown for fails as what it is checked for
-  shown_of : (name report : List ℕ) (P : Game → List ℕ → Type 0) → OfReport hands files (check name report) P → OfReport hands files (show name report) P
-  shown_of name report P h = record { game = h.game; takes = record { says = h.takes.says; taken = h.takes.taken }; report = h.report; names = h.names; holds = h.holds }
+  module _ (name : List ℕ) (a b : ShelfState) where
+    pub solve_unread : (e : Refusal) → GivesNone a b (game_file name) e → Stops hands (solving name).plan a b e
+    solve_unread e h = stops_reading hands (solving name).plan a a (game_file name) (at_first (solving name).plan a (game_file name) [] refl tt) b e h
 
-  pub shown_fails : (name report : List ℕ) (e : Refusal) → IsCauseOf hands files before after (check name report) e → IsCauseOf hands files before after (show name report) e
-  shown_fails name report Words h = absurd h
-  shown_fails name report GameNotRead h = h
-  shown_fails name report GameTooLong h = h
-  shown_fails name report (GameRefused fault) h = h
-  shown_fails name report NotYet (inl h) = inl (h.0, record { game = h.1.game; says = h.1.says; not_taken = h.1.not_taken })
-  shown_fails name report NotYet (inr h) = inr (shown_of name report _ h)
-  shown_fails name report ReportNotRead h = shown_of name report _ h
-  shown_fails name report ReportTooLong h = shown_of name report _ h
-  shown_fails name report (ReportRefused fault) h = shown_of name report _ h
-  shown_fails name report (ReportWrong line reason) h = shown_of name report _ h
-  shown_fails name report NotWritten h = absurd h
-  shown_fails name report Memory h = h
+    pub solve_no_game : (bytes : List ℕ) (e : Refusal) → GivesContent hands a b (game_file name) bytes → GivesNoGame (game_of_bytes bytes) e → Stops hands (solving name).plan a b e
+    solve_no_game bytes e g h = no_game (solving name).plan a a b name bytes e (at_first (solving name).plan a (game_file name) [] refl tt) g h
 
-  -- a command that fails before it writes
-  pub stops : (asked : Asked) (faults_before faults_after : ℕ) (out : Option (List ℕ)) (e : Refusal) → IsCauseOf hands files before after asked e
-      → ComesOf (scene (Some asked) hands files before after faults_before faults_after out out) e
-  stops asked fb fa out Words h = absurd h
-  stops asked fb fa out GameNotRead h = record { asked = asked; asks = refl; cause = h; kept = refl }
-  stops asked fb fa out GameTooLong h = record { asked = asked; asks = refl; cause = h; kept = refl }
-  stops asked fb fa out (GameRefused fault) h = record { asked = asked; asks = refl; cause = h; kept = refl }
-  stops asked fb fa out NotYet h = record { asked = asked; asks = refl; cause = h; kept = refl }
-  stops asked fb fa out ReportNotRead h = record { asked = asked; asks = refl; cause = h; kept = refl }
-  stops asked fb fa out ReportTooLong h = record { asked = asked; asks = refl; cause = h; kept = refl }
-  stops asked fb fa out (ReportRefused fault) h = record { asked = asked; asks = refl; cause = h; kept = refl }
-  stops asked fb fa out (ReportWrong line reason) h = record { asked = asked; asks = refl; cause = h; kept = refl }
-  stops asked fb fa out NotWritten h = absurd h
-  stops asked fb fa out Memory h = (h, refl)
+    -- a game that gives no report
+    pub unsolved : (g : Game) (e : Refusal) → HasRead hands a b (game_file name ∷ []) (game g ∷ []) → SolvingFails g e → Stops hands (solving name).plan a b e
+    unsolved g Words r h = absurd h
+    unsolved g (NotRead kind) r h = absurd h
+    unsolved g (TooLong kind) r h = absurd h
+    unsolved g (Refused fault) r h = absurd h
+    unsolved g (Own own) r h = record { front = game_file name ∷ []; rest = []; in_order = refl; contents = game g ∷ []; read = r; took = (tt, tt); refuses = h }
+    unsolved g NotWritten r h = absurd h
+    unsolved g Memory r h = all_read hands a b (game_file name ∷ []) (game g ∷ []) r
 
-  -- no such refusal is the output's
-  pub not_by_writing : (asked : Asked) (e : Refusal) → IsCauseOf hands files before after asked e → e ≢ NotWritten
-  not_by_writing asked e h is = subst (IsCauseOf hands files before after asked) is h
+  -- ---- a report on a game
+
+  module _ (name named : List ℕ) (a b : ShelfState) where
+    pub judge_unread : (e : Refusal) → GivesNone a b (game_file name) e → Stops hands (judging name named) a b e
+    judge_unread e h = stops_reading hands (judging name named) a a (game_file name) (at_first (judging name named) a (game_file name) (report_file named ∷ []) refl tt) b e h
+
+    pub judge_no_game : (bytes : List ℕ) (e : Refusal) → GivesContent hands a b (game_file name) bytes → GivesNoGame (game_of_bytes bytes) e → Stops hands (judging name named) a b e
+    judge_no_game bytes e g h = no_game (judging name named) a a b name bytes e (at_first (judging name named) a (game_file name) (report_file named ∷ []) refl tt) g h
+
+    -- a game on which reports are not checked
+    pub unchecked : (g : Game) → HasRead hands a b (game_file name ∷ []) (game g ∷ []) → ¬ (IsChecked g) → Stops hands (judging name named) a b (Own NotYet)
+    unchecked g r h = record { front = game_file name ∷ []; rest = report_file named ∷ []; in_order = refl; contents = game g ∷ []; read = r; took = (tt, tt); refuses = h }
+
+    module _ (c : ShelfState) (g : Game) (is : IsChecked g) (r : HasRead hands a b (game_file name ∷ []) (game g ∷ [])) where
+      second : ReachesInput hands (judging name named) a b (report_file named)
+      second = at_second (judging name named) a b (game_file name) (report_file named) [] (game g) refl tt is r
+
+      pub judge_no_file : (e : Refusal) → GivesNone b c (report_file named) e → Stops hands (judging name named) a c e
+      judge_no_file e h = stops_reading hands (judging name named) a b (report_file named) second c e h
+
+      pub judge_no_report : (bytes : List ℕ) (e : Refusal) → GivesContent hands b c (report_file named) bytes → GivesNoReport (report_of bytes) e → Stops hands (judging name named) a c e
+      judge_no_report bytes e k h = no_report (judging name named) a b c named bytes e second k h
+
+    -- a report that is refused
+    pub wrong : (g : Game) (r : Report) (own : CommandRefusal) → IsChecked g → HasRead hands a b (game_file name ∷ report_file named ∷ []) (game g ∷ report r ∷ [])
+        → refuses_wrong (game g ∷ report r ∷ []) own → Stops hands (judging name named) a b (Own own)
+    wrong g r own is h refuses =
+        record { front = game_file name ∷ report_file named ∷ []; rest = []; in_order = refl; contents = game g ∷ report r ∷ []; read = h; took = (tt, (is, tt)); refuses = refuses }

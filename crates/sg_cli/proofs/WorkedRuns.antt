@@ -1,5 +1,5 @@
 -- Runs worked out by hand, by computing.
-use Rattle.std.proofs.Common.{◌≡◌, ℕ, ◌+◌, ◌/◌, ◌%◌, ◌<◌, ◌≤◌, List, [], ◌∷◌, ◌++◌, length, decimal, codes, Option, Some, None, IsSomeAnd, false, ◌≢◌, Ok, Err, refl, sym, ◌∙◌, ap, subst, arith, inr}
+use Rattle.std.proofs.Common.{◌≡◌, ℕ, ◌+◌, ◌/◌, ◌%◌, ◌<◌, ◌≤◌, List, [], ◌∷◌, ◌++◌, length, decimal, codes, Option, Some, None, IsSomeAnd, false, Ok, Err, refl, sym, ◌∙◌, ap, subst, arith, inl, inr}
 use Rattle.std.proofs.lemmas.Fmt.{decimal_digit, decimal_step}
 use Rattle.sg_model.specs.declared.fault.GameFault.{GameFault}
 use Rattle.sg_model.specs.Games.{Game}
@@ -14,14 +14,19 @@ use Rattle.sg_bounds.proofs.Reports.{accepted_means}
 use Rattle.sg_bounds.proofs.Worked.{open_is, two_parts, worked_reports}
 use Rattle.sg_check.specs.Covered.{has_cover, node_has_cover}
 use Rattle.sg_shelf.specs.Files.{Files, any_bytes, bytes_under}
-use Rattle.sg_words.specs.Commands.{Asked, check, show, solve}
-use Rattle.sg_cli.specs.Scenes.{SaysGame, SaysReport, game_name, report_name}
-use Rattle.sg_cli.specs.Solutions.{IsCheckable}
-use Rattle.sg_cli.specs.Causes.{IsServed, IsWrong}
-use Rattle.sg_cli.specs.Deeds.{Accepts, Does}
-use Rattle.sg_cli.specs.Decisions.{ByReport, ByChecking, ByShowing, Decides}
+use Rattle.sg_words.specs.Commands.{check, show, solve}
+use Rattle.sg_cli.specs.Inputs as inputs
+use Rattle.sg_cli.specs.Inputs.{Content, IsHandedAs, game_file, held_as, report_file}
+use Rattle.sg_cli.specs.Commands.{Command}
+use Rattle.sg_cli.specs.Checking.{checking, ends_yes, writes_yes}
+use Rattle.sg_cli.specs.ExpectedStatus.{ByRest, ExpectedStatus}
+use Rattle.sg_cli.specs.Judging.{IsCheckable, IsJudged, IsWrong, judging}
+use Rattle.sg_cli.specs.Showing.{ends_shown, writes_table}
+use Rattle.sg_cli.specs.Solving.{solving}
 use Rattle.sg_cli.specs.WorkedRuns.{HoldsBytes, HoldsPair, WorkedChecks, WorkedLimits, WorkedRefusals, wrong_report}
-use Rattle.sg_cli.proofs.Completes.{accepted_decides, by_bytes, by_long, by_pair, by_report_fault, does_decides, long_game, read_game, read_report, refused_game, shown_decides, wrong}
+use Rattle.sg_cli.specs.declared.input.InputFault.TheVariants as faults
+use Rattle.sg_cli.specs.declared.refusal.CommandRefusal.TheVariants.{ReportWrong}
+use Rattle.sg_cli.proofs.Completes.{by_faulty, by_longer, by_said}
 
 -- ---- lines
 
@@ -67,56 +72,57 @@ holds_more files name bytes limit count h more =
     let long : IsSomeAnd (Some bytes) (λ bytes. limit < length bytes) = omega (arith, h.count, more) in
     subst (λ (file : Option (List ℕ)). IsSomeAnd file (λ bytes. limit < length bytes)) (sym h.stands) long
 
+says : (files : Files) (name bytes : List ℕ) (r : _) → bytes_under files name ≡ Some bytes → length bytes ≤ 4194304 → game_of_bytes bytes ≡ r
+    → IsHandedAs any_bytes (Some files) (game_file name) (held_as inputs.game faults.Game r)
+says files name bytes r holds short e = record { bytes = bytes; handed = tt; reads = record { may_hold = holds; within = short }; holds = ap (held_as inputs.game faults.Game) e }
+
+spells : (files : Files) (name text : List ℕ) (r : _) → bytes_under files name ≡ Some text → length text ≤ 536870912 → report_of text ≡ r
+    → IsHandedAs any_bytes (Some files) (report_file name) (held_as inputs.report faults.Report r)
+spells files name text r holds short e = record { bytes = text; handed = tt; reads = record { may_hold = holds; within = short }; holds = ap (held_as inputs.report faults.Report) e }
+
 pub worked_limits : WorkedLimits
 worked_limits = record {
-  longest_game = λ files game bytes fault h says.
-      refused_game any_bytes files (solve game) 6 fault (record { bytes = bytes; handed = tt; reads = record { may_hold = h.stands; within = omega (arith, h.count) }; game = says }) refl;
-  longer_game = λ files game bytes h. long_game any_bytes files (solve game) 5 (holds_more files game bytes 4194304 4194305 h (omega arith)) refl;
-  longest_report = λ files game report bytes text fault h says k unread.
-      read_game any_bytes files (check game report) 7 one_player (record { bytes = bytes; handed = tt; reads = record { may_hold = h.stands; within = omega (arith, h.count) }; game = says })
-      (by_pair any_bytes files (check game report) one_player report 7 refl refl
-      (by_bytes 536870912 (λ bytes. ByReport (ByChecking one_player) (report_of bytes)) (bytes_under files report) text 7 k.stands (omega (arith, k.count))
-      (by_report_fault (ByChecking one_player) (report_of text) fault 7 unread refl)));
-  longer_report = λ files game report bytes text h says k.
-      read_game any_bytes files (check game report) 5 one_player (record { bytes = bytes; handed = tt; reads = record { may_hold = h.stands; within = omega (arith, h.count) }; game = says })
-      (by_pair any_bytes files (check game report) one_player report 5 refl refl
-      (by_long 536870912 (λ bytes. ByReport (ByChecking one_player) (report_of bytes)) (bytes_under files report) 5 (holds_more files report text 536870912 536870913 k (omega arith)) refl));
+  longest_game = λ files name bytes fault h e.
+      by_faulty any_bytes (solving name) files 6 [] (game_file name) [] (faults.Game fault) tt (says files name bytes (Err fault) h.stands (omega (arith, h.count)) e) refl;
+  longer_game = λ files name bytes h. by_longer any_bytes (solving name) files 5 [] (game_file name) [] tt (holds_more files name bytes 4194304 4194305 h (omega arith)) refl;
+  longest_report = λ files name named bytes text fault h e k f.
+      by_said any_bytes (checking name named) files 7 [] (game_file name) (report_file named ∷ []) (inputs.game one_player) tt (says files name bytes (Ok one_player) h.stands (omega (arith, h.count)) e)
+      (by_faulty any_bytes (checking name named) files 7 (inputs.game one_player ∷ []) (report_file named) [] (faults.Report fault) refl
+      (spells files named text (Err fault) k.stands (omega (arith, k.count)) f) refl);
+  longer_report = λ files name named bytes text h e k.
+      by_said any_bytes (checking name named) files 5 [] (game_file name) (report_file named ∷ []) (inputs.game one_player) tt (says files name bytes (Ok one_player) h.stands (omega (arith, h.count)) e)
+      (by_longer any_bytes (checking name named) files 5 (inputs.game one_player ∷ []) (report_file named) [] refl (holds_more files named text 536870912 536870913 k (omega arith)) refl);
 }
 
 -- ---- reports
 
-module _ (files : Files) (game report : List ℕ) (r : Report) (h : HoldsPair files game report r) where
-  says_game : SaysGame any_bytes (Some files) game (Ok one_player)
-  says_game = record { bytes = h.bytes; handed = tt; reads = record { may_hold = h.holds_game; within = omega (arith, h.few) }; game = h.says_game }
+module _ (ends : List Content → ℕ → Type 0) (writes : List Content → ℕ → List ℕ → Type 0) (files : Files) (name named : List ℕ) (r : Report) (h : HoldsPair files name named r) (status : ℕ) where
+  abbrev command : Command
+  command = record { plan = judging name named; ends = ends; writes = writes; is_formed_late = false }
 
-  says_report : SaysReport any_bytes (Some files) report (Ok r)
-  says_report = record { bytes = h.text; handed = tt; reads = record { may_hold = h.holds_report; within = omega (arith, h.short) }; report = h.says_report }
+  -- what is due once both files are read
+  both : ByRest command files (inputs.game one_player ∷ inputs.report r ∷ []) [] status → ExpectedStatus command files status
+  both due =
+      by_said any_bytes command files status [] (game_file name) (report_file named ∷ []) (inputs.game one_player) tt (says files name h.bytes (Ok one_player) h.holds_game (omega (arith, h.few)) h.says_game)
+      (by_said any_bytes command files status (inputs.game one_player ∷ []) (report_file named) [] (inputs.report r) refl
+      (spells files named h.text (Ok r) h.holds_report (omega (arith, h.short)) h.says_report) due)
 
-  accepts : IsCheckable r → IsAccepted one_player r → Accepts any_bytes (Some files) game report one_player r
-  accepts checkable is = record {
-    says = says_game;
-    is_checked = refl;
-    says_report = says_report;
-    is_checkable = checkable;
-    accepted = is;
-    means = accepted_means one_player (accepted h.bytes one_player h.says_game) r is;
-  }
-
-eleven : decimal 11 ≡ 49 ∷ 49 ∷ []
-eleven = two_digits 11 (omega arith) (omega arith)
+  -- a report that is accepted
+  due_yes : IsCheckable r → IsAccepted one_player r → ends (inputs.game one_player ∷ inputs.report r ∷ []) status → ExpectedStatus command files status
+  due_yes checkable is e =
+      both (inr (record { is_checkable = checkable; accepted = is; means = accepted_means one_player (accepted h.bytes one_player h.says_game) r is }, e))
 
 plain : has_cover one_type_report ≡ false
 plain = ap node_has_cover (two_parts 1 None first_fact second_fact)
 
+open_plain : has_cover spent_report ≡ false
+open_plain = ap node_has_cover open_is
+
 refused : IsWrong one_player 5 3 wrong_report
 refused = record { is_checkable = plain; refused = worked_reports.other_value }
 
-told : (files : Files) (game report : List ℕ) (h : HoldsPair files game report wrong_report) (asked : Asked) → game_name asked ≡ game → report_name asked ≡ Some report → IsServed asked one_player
-    → report_name asked ≢ None → Decides files asked 7
-told files game report h asked is names taken reads =
-    read_game any_bytes files asked 7 one_player (subst (λ (n : List ℕ). SaysGame any_bytes (Some files) n (Ok one_player)) (sym is) (says_game files game report wrong_report h))
-    (by_pair any_bytes files asked one_player report 7 taken names
-    (read_report any_bytes files asked one_player report 7 wrong_report (says_report files game report wrong_report h) (wrong any_bytes asked one_player wrong_report 5 3 7 reads refused refl)))
+eleven : decimal 11 ≡ 49 ∷ 49 ∷ []
+eleven = two_digits 11 (omega arith) (omega arith)
 
 pub worked_checks : WorkedChecks
 worked_checks =
@@ -125,19 +131,18 @@ worked_checks =
     let three : decimal 3 ≡ 51 ∷ [] = decimal_digit 3 (omega arith) in
     let four : decimal 4 ≡ 52 ∷ [] = decimal_digit 4 (omega arith) in
     record {
-      optimal = λ files game report h.
-          let is = accepts files game report one_type_report h plain worked_reports.one_type in
-          let yes : Does any_bytes (Some files) (check game report) 0 (codes "yes optimal 11 3\n") = record { game = one_player; read = one_type_report; accepts = is; done = refl; written = rw (eleven, three) refl } in (
-            yes,
-            does_decides any_bytes files (check game report) 0 _ yes,
-            accepted_decides any_bytes files (show game report) game report one_player one_type_report 0 is refl refl refl (shown_decides any_bytes one_player one_type_report 0 worked_reports.one_type refl),
-          );
-      gap = λ files game report h.
-          let is = accepts files game report spent_report h (ap node_has_cover open_is) worked_reports.spent in
-          let yes : Does any_bytes (Some files) (check game report) 10 (codes "yes gap 2 1 4 1\n") = record { game = one_player; read = spent_report; accepts = is; done = refl; written = rw (one, two, four) refl } in (
-            yes,
-            does_decides any_bytes files (check game report) 10 _ yes,
-            accepted_decides any_bytes files (show game report) game report one_player spent_report 0 is refl refl refl (shown_decides any_bytes one_player spent_report 0 worked_reports.spent refl),
-          );
-      wrong = λ files game report h. (told files game report h (check game report) refl refl refl (λ e. cc), told files game report h (show game report) refl refl refl (λ e. cc));
+      optimal = λ files name named h. (
+        (refl, rw (eleven, three) refl),
+        due_yes ends_yes writes_yes files name named one_type_report h 0 plain worked_reports.one_type refl,
+        due_yes ends_shown writes_table files name named one_type_report h 0 plain worked_reports.one_type refl,
+      );
+      gap = λ files name named h. (
+        (refl, rw (one, two, four) refl),
+        due_yes ends_yes writes_yes files name named spent_report h 10 open_plain worked_reports.spent refl,
+        due_yes ends_shown writes_table files name named spent_report h 0 open_plain worked_reports.spent refl,
+      );
+      wrong = λ files name named h. (
+        both ends_yes writes_yes files name named wrong_report h 7 (inl (ReportWrong 5 3, refused, refl)),
+        both ends_shown writes_table files name named wrong_report h 7 (inl (ReportWrong 5 3, refused, refl)),
+      );
     }

@@ -1,13 +1,9 @@
 //! What `check` does: reads a game and a report on it, and says yes where the report is accepted.
 
-ghost use Rattle.std.specs.Prelude.{◌≡◌, ◌≢◌, ◌≤◌, ◌↔◌, IfOk, IfErr, IsTrue, true, Some, string_bytes};
+ghost use Rattle.std.specs.Prelude.{◌≡◌, ◌≢◌, ◌≤◌, IfOk, IfErr, string_bytes};
 ghost use Rattle.sg_bounds.specs.Accepted.{is_optimal};
-ghost use Rattle.sg_words.specs.Commands as commands;
-ghost use Rattle.sg_cli.specs.ShelfReads.{trail};
-ghost use Rattle.sg_cli.specs.Scenes.{scene};
-ghost use Rattle.sg_cli.specs.Causes.{ComesOf};
-ghost use Rattle.sg_cli.specs.Solutions.{gap_text, optimal_text, yes_status, yes_text};
-ghost use Rattle.sg_cli.specs.Runs.{IsDone};
+ghost use Rattle.sg_cli.specs.Checking.{checking, gap_text, optimal_text, yes_status, yes_text};
+ghost use Rattle.sg_cli.specs.Effects.{Fails, IsDone, surroundings};
 
 use crate::judging::accepted_named;
 use crate::refusal::Refusal;
@@ -72,18 +68,14 @@ pub(crate) fn check_named<S: Shelf, O: Sink>(
     shelf: &mut S,
     out: &mut O,
 ) -> Result<u8, Refusal>
-    ensures files { S.files shelf.new ≡ S.files shelf.old }
-    ensures faults { S.faults shelf.old ≤ S.faults shelf.new }
-    ensures out_faults { O.faults out.old ≤ O.faults out.new }
+    ensures files { (S.state shelf.new).files ≡ (S.state shelf.old).files }
+    ensures faults { (S.state shelf.old).faults ≤ (S.state shelf.new).faults }
+    ensures out_faults { (O.state out.old).faults ≤ (O.state out.new).faults }
     ensures kept { IfErr result (λ e. e ≢ Refusal.NotWritten → out.new ≡ out.old) }
-    ensures ok { IfOk result (IsDone (scene (Some (commands.check name.now report.now)) S.hands_over (S.files shelf.old)
-        (trail (S.log shelf.old) (S.faults shelf.old))
-        (trail (S.log shelf.new) (S.faults shelf.new))
-        (O.faults out.old) (O.faults out.new) (O.taken out.old) (O.taken out.new))) }
-    ensures err { IfErr result (ComesOf (scene (Some (commands.check name.now report.now)) S.hands_over (S.files shelf.old)
-        (trail (S.log shelf.old) (S.faults shelf.old))
-        (trail (S.log shelf.new) (S.faults shelf.new))
-        (O.faults out.old) (O.faults out.new) (O.taken out.old) (O.taken out.new))) }
+    ensures ok { IfOk result (IsDone S.hands_over (checking name.now report.now)
+        (surroundings (S.state shelf.old) (O.state out.old)) (surroundings (S.state shelf.new) (O.state out.new))) }
+    ensures err { IfErr result (Fails S.hands_over (checking name.now report.now)
+        (surroundings (S.state shelf.old) (O.state out.old)) (surroundings (S.state shelf.new) (O.state out.new))) }
 {
     let pair = match accepted_named(alloc, name, report, shelf) {
         Ok(pair) => pair,

@@ -1,11 +1,11 @@
 //! Laws about the commands together, each as the contract of a function that does nothing.
 
-ghost use Rattle.sg_cli.specs.Laws.{OneStatusIsDecided, RightReportsAreShort, SolvedIsChecked};
+ghost use Rattle.sg_cli.specs.Laws.{OneStatusIsDue, RightReportsAreShort, SolvedIsChecked};
 ghost use Rattle.sg_cli.specs.WorkedRuns.{WorkedChecks, WorkedLimits, WorkedRefusals};
 
 /// Told files decide one status for each command.
-pub fn one_status_is_decided()
-    ensures { OneStatusIsDecided }
+pub fn one_status_is_due()
+    ensures { OneStatusIsDue }
 {}
 
 /// A right report has at most 16 MiB.

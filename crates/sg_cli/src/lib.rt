@@ -1,12 +1,17 @@
 //! The program's one call, [`run`]: words in; a report, a yes to one, a table or a refusal out.
 //!
-//! What it promises stands in `specs/Runs.antt` (`Answers`, `IsComplete`): what the commands do in `specs/Deeds.antt`, what
-//! each refusal comes of in `specs/Causes.antt`, which status told files decide in `specs/Decisions.antt`, and the status
-//! and line of each refusal in `specs/Refusals.antt`.
+//! What it promises stands in `specs/Runs.antt` (`Answers`, `IsComplete`): what each command reads, takes, refuses and writes
+//! in a module of its own (`specs/Solving.antt`, `specs/Checking.antt`, `specs/Showing.antt`); what that means for the shelf
+//! and the outputs, for all commands at once, in `specs/Effects.antt`; which status told files decide in
+//! `specs/ExpectedStatus.antt`; and the status and line of each refusal in `specs/Refusals.antt`.
+//!
+//! A command more is a module here and one in `specs/`, a row of words in `sg_words`, and a row of the list: an arm of
+//! `run_command` and one of `command_for`.
 #![tactic(auto)]
 
 mod call;
 mod checking;
+mod input;
 mod judging;
 mod laws;
 mod process;
@@ -19,10 +24,11 @@ mod solving;
 mod telling;
 
 pub use call::run;
+pub use input::{InputFault, InputKind};
 pub use laws::{
-    checks_are_worked, limits_are_worked, one_status_is_decided, refusals_are_worked,
+    checks_are_worked, limits_are_worked, one_status_is_due, refusals_are_worked,
     right_reports_are_short, solved_is_checked,
 };
 pub use process::run_process;
 pub use program::run_program;
-pub use refusal::Refusal;
+pub use refusal::{CommandRefusal, Refusal};

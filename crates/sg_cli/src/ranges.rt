@@ -2,7 +2,7 @@
 
 ghost use Rattle.sg_cert.specs.Ranges.{IsReport};
 ghost use Rattle.sg_solve.specs.Solutions.{IsOptimalReport};
-ghost use Rattle.sg_cli.specs.Solutions.{IsSolved};
+ghost use Rattle.sg_cli.specs.Solving.{IsSolved};
 ghost use Rattle.sg_cli.specs.Widths.{BothPartsFit, HasParts, IsSized};
 
 use sg_frac::Frac;

@@ -1,18 +1,14 @@
 //! What `solve` does: reads a game, solves it, and writes its report.
 
-ghost use Rattle.std.specs.Prelude.{◌≡◌, ◌≢◌, ◌≤◌, IfOk, IfErr, OnOk, Some};
-ghost use Rattle.sg_words.specs.Commands as commands;
-ghost use Rattle.sg_shelf.specs.declared.log.Outcome.TheVariants.{Given};
-ghost use Rattle.sg_cli.specs.ShelfReads.{ReadsGameFile, trail};
-ghost use Rattle.sg_cli.specs.Scenes.{scene};
-ghost use Rattle.sg_cli.specs.Causes.{ComesOf, IsCauseOf};
-ghost use Rattle.sg_cli.specs.Solutions.{IsSolved, IsAnswer};
-ghost use Rattle.sg_cli.specs.Readings.{HasSolution, IsSolution, SolvingFails};
-ghost use Rattle.sg_cli.specs.Runs.{IsDone};
+ghost use Rattle.std.specs.Prelude.{◌≡◌, ◌≢◌, ◌≤◌, IfOk, IfErr};
+ghost use Rattle.sg_cli.specs.Effects.{Fails, IsDone, Stops, surroundings};
+ghost use Rattle.sg_cli.specs.Solving.{IsAnswer, IsSolved, solving};
+ghost use Rattle.sg_cli.specs.Steps.{HasSolution, IsSolution, SolvingFails};
 
+use crate::input::InputKind;
 use crate::ranges::lies_in_ranges;
-use crate::reading::game_named;
-use crate::refusal::Refusal;
+use crate::reading::{game_of, read_input};
+use crate::refusal::{CommandRefusal, Refusal};
 use sg_cert_writer::write_report;
 use sg_game::{Game, is_origami};
 use sg_shelf::{Shelf, Sink};
@@ -36,7 +32,7 @@ fn solved(alloc: Global, game: &Game) -> Result<Report, Refusal>
     ensures err { IfErr result (SolvingFails game.now) }
 {
     if !is_origami(game) {
-        return Err(Refusal::NotYet);
+        return Err(Refusal::Own(CommandRefusal::NotYet));
     }
     match report_on(alloc, game) {
         Ok(report) => Ok(report),
@@ -46,18 +42,23 @@ fn solved(alloc: Global, game: &Game) -> Result<Report, Refusal>
 
 /// A right report on the game in the file of that name.
 fn solution_named<S: Shelf>(alloc: Global, name: &str, shelf: &mut S) -> Result<Report, Refusal>
-    ensures files { S.files shelf.new ≡ S.files shelf.old }
-    ensures faults { S.faults shelf.old ≤ S.faults shelf.new }
-    ensures ok { IfOk result (HasSolution S.hands_over (S.files shelf.old) name.now) }
-    ensures one { OnOk result (ReadsGameFile name.now Given
-        (trail (S.log shelf.old) (S.faults shelf.old))
-        (trail (S.log shelf.new) (S.faults shelf.new))) }
-    ensures err { IfErr result (IsCauseOf S.hands_over (S.files shelf.old)
-        (trail (S.log shelf.old) (S.faults shelf.old))
-        (trail (S.log shelf.new) (S.faults shelf.new)) (commands.solve name.now)) }
+    ensures files { (S.state shelf.new).files ≡ (S.state shelf.old).files }
+    ensures faults { (S.state shelf.old).faults ≤ (S.state shelf.new).faults }
+    ensures ok { IfOk result (HasSolution S.hands_over name.now (S.state shelf.old) (S.state shelf.new)) }
+    ensures err { IfErr result (Stops S.hands_over (solving name.now).plan (S.state shelf.old) (S.state shelf.new)) }
 {
-    let game = game_named(alloc, shelf, name)?;
-    solved(alloc, &game)
+    let bytes = match read_input(alloc, shelf, InputKind::Game, name) {
+        Ok(bytes) => bytes,
+        Err(refusal) => return Err(refusal),
+    };
+    let game = match game_of(alloc, &bytes) {
+        Ok(game) => game,
+        Err(refusal) => return Err(refusal),
+    };
+    match solved(alloc, &game) {
+        Ok(report) => Ok(report),
+        Err(refusal) => Err(refusal),
+    }
 }
 
 /// Solves the game in the file of that name, and writes its report.
@@ -67,18 +68,14 @@ pub(crate) fn solve_named<S: Shelf, O: Sink>(
     shelf: &mut S,
     out: &mut O,
 ) -> Result<u8, Refusal>
-    ensures files { S.files shelf.new ≡ S.files shelf.old }
-    ensures faults { S.faults shelf.old ≤ S.faults shelf.new }
-    ensures out_faults { O.faults out.old ≤ O.faults out.new }
+    ensures files { (S.state shelf.new).files ≡ (S.state shelf.old).files }
+    ensures faults { (S.state shelf.old).faults ≤ (S.state shelf.new).faults }
+    ensures out_faults { (O.state out.old).faults ≤ (O.state out.new).faults }
     ensures kept { IfErr result (λ e. e ≢ Refusal.NotWritten → out.new ≡ out.old) }
-    ensures ok { IfOk result (IsDone (scene (Some (commands.solve name.now)) S.hands_over (S.files shelf.old)
-        (trail (S.log shelf.old) (S.faults shelf.old))
-        (trail (S.log shelf.new) (S.faults shelf.new))
-        (O.faults out.old) (O.faults out.new) (O.taken out.old) (O.taken out.new))) }
-    ensures err { IfErr result (ComesOf (scene (Some (commands.solve name.now)) S.hands_over (S.files shelf.old)
-        (trail (S.log shelf.old) (S.faults shelf.old))
-        (trail (S.log shelf.new) (S.faults shelf.new))
-        (O.faults out.old) (O.faults out.new) (O.taken out.old) (O.taken out.new))) }
+    ensures ok { IfOk result (IsDone S.hands_over (solving name.now)
+        (surroundings (S.state shelf.old) (O.state out.old)) (surroundings (S.state shelf.new) (O.state out.new))) }
+    ensures err { IfErr result (Fails S.hands_over (solving name.now)
+        (surroundings (S.state shelf.old) (O.state out.old)) (surroundings (S.state shelf.new) (O.state out.new))) }
 {
     let report = match solution_named(alloc, name, shelf) {
         Ok(report) => report,

@@ -117,11 +117,11 @@ fn write_day(
 /// Puts the bytes of the block from this place on.
 fn put_row<O: Sink>(writer: &RowWriter, start: usize, out: &mut O) -> Result<(), RowsFault>
     requires { start ≤ length (block_of writer.now) }
-    ensures whole { OnOk result (Takes (O.taken out.old) (O.taken out.new) (drop start (block_of writer.now))) }
-    ensures front { OnErr result (TakesFront (O.taken out.old) (O.taken out.new) (drop start (block_of writer.now))) }
-    ensures pieces { O.puts out.new ≡ raised (O.puts out.old) }
-    ensures count { O.faults out.old ≤ O.faults out.new }
-    ensures failed { OnErr result (HasRisen (O.faults out.old) (O.faults out.new)) }
+    ensures whole { OnOk result (Takes (O.state out.old).bytes (O.state out.new).bytes (drop start (block_of writer.now))) }
+    ensures front { OnErr result (TakesFront (O.state out.old).bytes (O.state out.new).bytes (drop start (block_of writer.now))) }
+    ensures pieces { (O.state out.new).puts ≡ raised (O.state out.old).puts }
+    ensures count { (O.state out.old).faults ≤ (O.state out.new).faults }
+    ensures failed { OnErr result (HasRisen (O.state out.old).faults (O.state out.new).faults) }
 {
     match out.put(&writer.get_ref()[start..]) {
         Ok(()) => Ok(()),
@@ -133,11 +133,11 @@ fn put_row<O: Sink>(writer: &RowWriter, start: usize, out: &mut O) -> Result<(),
 fn put_header<O: Sink>(writer: &mut RowWriter, game: &Game, out: &mut O) -> Result<(), RowsFault>
     requires { IsBetweenRows writer.old }
     ensures between { OnOk result (IsBetweenRows writer.new) }
-    ensures whole { OnOk result (Takes (O.taken out.old) (O.taken out.new) (row_text default_writer (header_fields game.now))) }
-    ensures front { OnErr result (TakesFront (O.taken out.old) (O.taken out.new) (row_text default_writer (header_fields game.now))) }
-    ensures pieces { OnOk result (O.puts out.new ≡ raised (O.puts out.old)) }
-    ensures count { O.faults out.old ≤ O.faults out.new }
-    ensures failed { result ≡ Err RowsFault.Failed → HasRisen (O.faults out.old) (O.faults out.new) }
+    ensures whole { OnOk result (Takes (O.state out.old).bytes (O.state out.new).bytes (row_text default_writer (header_fields game.now))) }
+    ensures front { OnErr result (TakesFront (O.state out.old).bytes (O.state out.new).bytes (row_text default_writer (header_fields game.now))) }
+    ensures pieces { OnOk result ((O.state out.new).puts ≡ raised (O.state out.old).puts) }
+    ensures count { (O.state out.old).faults ≤ (O.state out.new).faults }
+    ensures failed { result ≡ Err RowsFault.Failed → HasRisen (O.state out.old).faults (O.state out.new).faults }
 {
     let start = writer.get_ref().as_slice().len();
     match write_header(writer, game) {
@@ -157,11 +157,11 @@ fn put_day<O: Sink>(
     requires between { IsBetweenRows writer.old }
     requires legal { IsLegal game.now code.now }
     ensures between { OnOk result (IsBetweenRows writer.new) }
-    ensures whole { OnOk result (Takes (O.taken out.old) (O.taken out.new) (row_text default_writer (decimal day ∷ assignments game.now code.now))) }
-    ensures front { OnErr result (TakesFront (O.taken out.old) (O.taken out.new) (row_text default_writer (decimal day ∷ assignments game.now code.now))) }
-    ensures pieces { OnOk result (O.puts out.new ≡ raised (O.puts out.old)) }
-    ensures count { O.faults out.old ≤ O.faults out.new }
-    ensures failed { result ≡ Err RowsFault.Failed → HasRisen (O.faults out.old) (O.faults out.new) }
+    ensures whole { OnOk result (Takes (O.state out.old).bytes (O.state out.new).bytes (row_text default_writer (decimal day ∷ assignments game.now code.now))) }
+    ensures front { OnErr result (TakesFront (O.state out.old).bytes (O.state out.new).bytes (row_text default_writer (decimal day ∷ assignments game.now code.now))) }
+    ensures pieces { OnOk result ((O.state out.new).puts ≡ raised (O.state out.old).puts) }
+    ensures count { (O.state out.old).faults ≤ (O.state out.new).faults }
+    ensures failed { result ≡ Err RowsFault.Failed → HasRisen (O.state out.old).faults (O.state out.new).faults }
 {
     let start = writer.get_ref().as_slice().len();
     match write_day(writer, game, code, day) {
@@ -186,11 +186,11 @@ pub fn put_rows<O: Sink>(
 ) -> Result<(), RowsFault>
     requires legal { AreLegal game.now k.now.tickets }
     requires known { All (λ i. i < length k.now.tickets) order.now }
-    ensures whole { OnOk result (Takes (O.taken out.old) (O.taken out.new) (roster_text game.now k.now.tickets order.now)) }
-    ensures front { OnErr result (TakesFront (O.taken out.old) (O.taken out.new) (roster_text game.now k.now.tickets order.now)) }
-    ensures pieces { OnOk result (O.puts out.new ≡ min (O.puts out.old + (1 + length order.now)) (2 ^ 64 - 1)) }
-    ensures count { O.faults out.old ≤ O.faults out.new }
-    ensures failed { result ≡ Err RowsFault.Failed → HasRisen (O.faults out.old) (O.faults out.new) }
+    ensures whole { OnOk result (Takes (O.state out.old).bytes (O.state out.new).bytes (roster_text game.now k.now.tickets order.now)) }
+    ensures front { OnErr result (TakesFront (O.state out.old).bytes (O.state out.new).bytes (roster_text game.now k.now.tickets order.now)) }
+    ensures pieces { OnOk result ((O.state out.new).puts ≡ min ((O.state out.old).puts + (1 + length order.now)) (2 ^ 64 - 1)) }
+    ensures count { (O.state out.old).faults ≤ (O.state out.new).faults }
+    ensures failed { result ≡ Err RowsFault.Failed → HasRisen (O.state out.old).faults (O.state out.new).faults }
 {
     let tickets = k.tickets();
     let mut writer = row_writer(alloc);

@@ -190,11 +190,7 @@ impl Model for LongReport {
 }
 
 impl Shelf for LongReport {
-    ghost files = { λ shelf. None };
-
-    ghost faults = { λ shelf. 0 };
-
-    ghost log = { λ shelf. shelf };
+    ghost state = { λ shelf. record { files = None; log = shelf; faults = 0 } };
 
     fn read(&mut self, alloc: Global, name: &str, limit: usize) -> Result<Vec<u8>, ShelfError> {
         if name == "report" {

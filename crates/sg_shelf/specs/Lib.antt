@@ -5,8 +5,9 @@ pub mod Logs
 pub mod Taken
 pub mod Calls
 pub mod NamedFiles
-pub mod ShelfState
-pub mod SinkState
+pub mod States
+pub mod MemShelfState
+pub mod MemSinkState
 pub mod WriterState
 pub mod ReaderState
 pub mod Opened

@@ -46,8 +46,3 @@ log_with log name limit (Some outcome) = logged log name limit outcome
 -- the log after a read that answered this error
 abbrev pub log_after : ShelfError → List ℕ → ℕ → Log → Log
 log_after error name limit log = log_with log name limit (outcome_of_error error)
-
--- what a shelf shows of its reads: the log, and the faults counted
-pub record Trail : Type 0 where
-  pub log : Log
-  pub faults : ℕ

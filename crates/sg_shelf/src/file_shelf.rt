@@ -31,9 +31,10 @@ pub struct FileShelf<O: Opener> {
 }
 
 impl<O: Opener> Model for FileShelf<O> {
-    ghost use Rattle.sg_shelf.specs.Logs.{Trail, log_of};
+    ghost use Rattle.sg_shelf.specs.Logs.{log_of};
+    ghost use Rattle.sg_shelf.specs.States.{FileShelfState};
 
-    ghost Value = { Trail };
+    ghost Value = { FileShelfState };
 
     ghost view = { λ shelf. record { log = log_of shelf.log.items; faults = shelf.faults } };
 }
@@ -54,11 +55,7 @@ impl<R: Files + AllocGlobal> FileShelf<PathOpener<R>> {
 }
 
 impl<O: Opener> Shelf for FileShelf<O> {
-    ghost files = { λ shelf. None };
-
-    ghost faults = { λ shelf. shelf.faults };
-
-    ghost log = { λ shelf. shelf.log };
+    ghost state = { λ shelf. record { files = None; log = shelf.log; faults = shelf.faults } };
 
     ghost hands_over = { λ name limit bytes. IsWholeFile O.opens name bytes };
 

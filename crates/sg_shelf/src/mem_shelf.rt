@@ -4,7 +4,7 @@ ghost use Rattle.std.specs.Prelude.{◌≡◌, ◌≢◌, [], ◌-◌, ◌^◌, 
 ghost use Rattle.sg_shelf.specs.Files.{bytes_under};
 ghost use Rattle.sg_shelf.specs.Logs.{log_of};
 ghost use Rattle.sg_shelf.specs.NamedFiles.{files_of};
-ghost use Rattle.sg_shelf.specs.ShelfState.{ShelfState, answer_of, read_is_fault, read_answer, after_read, ReadFails};
+ghost use Rattle.sg_shelf.specs.MemShelfState.{MemShelfState, answer_of, read_is_fault, read_answer, after_read, ReadFails};
 ghost use Rattle.sg_shelf.specs.declared.shelf.ShelfError.TheVariants.{Memory};
 
 use crate::faults::raised_unless;
@@ -35,9 +35,9 @@ pub struct MemShelf {
 impl Model for MemShelf {
     ghost use Rattle.sg_shelf.specs.Logs.{log_of};
     ghost use Rattle.sg_shelf.specs.NamedFiles.{files_of};
-    ghost use Rattle.sg_shelf.specs.ShelfState.{ShelfState};
+    ghost use Rattle.sg_shelf.specs.MemShelfState.{MemShelfState};
 
-    ghost Value = { ShelfState };
+    ghost Value = { MemShelfState };
 
     ghost view = { λ shelf. record {
       files = files_of shelf.files.items;
@@ -125,11 +125,7 @@ impl MemShelf {
 }
 
 impl Shelf for MemShelf {
-    ghost files = { λ shelf. Some shelf.files };
-
-    ghost faults = { λ shelf. shelf.faults };
-
-    ghost log = { λ shelf. shelf.log };
+    ghost state = { λ shelf. record { files = Some shelf.files; log = shelf.log; faults = shelf.faults } };
 
     fn read(&mut self, alloc: Global, name: &str, limit: usize) -> Result<Vec<u8>, ShelfError>
         ensures count { self.old.faults ≤ self.new.faults }

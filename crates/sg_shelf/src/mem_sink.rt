@@ -3,7 +3,7 @@
 ghost use Rattle.std.specs.Prelude.{◌≡◌, [], ◌-◌, ◌^◌, ◌≤◌, IfOk, OnOk, OnErr, Some, is_err, take, if◌then◌else◌};
 ghost use Rattle.sg_shelf.specs.Faults.{HasRisen};
 ghost use Rattle.sg_shelf.specs.Taken.{Takes, TakesFront};
-ghost use Rattle.sg_shelf.specs.SinkState.{put_fails, after_put};
+ghost use Rattle.sg_shelf.specs.MemSinkState.{put_fails, after_put};
 
 use crate::sink::{Sink, SinkError};
 use std::alloc::{AllocError, Global};
@@ -26,9 +26,9 @@ pub struct MemSink {
 
 impl Model for MemSink {
     ghost use Rattle.std.specs.Prelude.{◌≤◌, vec_capacity, vec_len};
-    ghost use Rattle.sg_shelf.specs.SinkState.{SinkState};
+    ghost use Rattle.sg_shelf.specs.MemSinkState.{MemSinkState};
 
-    ghost Value = { SinkState };
+    ghost Value = { MemSinkState };
 
     ghost view = { λ sink. record {
       bytes = sink.bytes.items;
@@ -75,11 +75,7 @@ fn due(piece: &[u8], fails: bool, keep: usize) -> &[u8]
 }
 
 impl Sink for MemSink {
-    ghost taken = { λ sink. Some sink.bytes };
-
-    ghost faults = { λ sink. sink.faults };
-
-    ghost puts = { λ sink. sink.calls };
+    ghost state = { λ sink. record { bytes = Some sink.bytes; puts = sink.calls; faults = sink.faults } };
 
     fn put(&mut self, piece: &[u8]) -> Result<(), SinkError>
         ensures count { self.old.faults ≤ self.new.faults }

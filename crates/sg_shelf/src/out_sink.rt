@@ -45,11 +45,7 @@ impl<W: Write> OutSink<W> {
 }
 
 impl<W: Write> Sink for OutSink<W> {
-    ghost taken = { λ sink. None };
-
-    ghost faults = { λ sink. sink.faults };
-
-    ghost puts = { λ sink. sink.puts };
+    ghost state = { λ sink. record { bytes = None; puts = sink.puts; faults = sink.faults } };
 
     fn put(&mut self, piece: &[u8]) -> Result<(), SinkError>
         ensures count { self.old.faults ≤ self.new.faults }

@@ -2,9 +2,10 @@
 
 ghost use Rattle.std.specs.Prelude.{◌≡◌, ◌⊎◌, ◌-◌, ◌^◌, ◌≤◌, ◌<◌, ℕ, List, Option, IfOk, IfErr, OnOk, IsErrOf, IsErrAnd, IsSome};
 ghost use Rattle.sg_shelf.specs.Faults.{HasRisen, HasNotRisen};
-ghost use Rattle.sg_shelf.specs.Files.{Files, Reads, IsMissing, IsLong};
-ghost use Rattle.sg_shelf.specs.Logs.{Log, logged, log_after};
+ghost use Rattle.sg_shelf.specs.Files.{Reads, IsMissing, IsLong};
+ghost use Rattle.sg_shelf.specs.Logs.{logged, log_after};
 ghost use Rattle.sg_shelf.specs.ShelfErrors.{IsTooLongOrMemory, IsFailedOrMemory};
+ghost use Rattle.sg_shelf.specs.States.{ShelfState};
 ghost use Rattle.sg_shelf.specs.declared.log.Outcome.TheVariants as Outcome;
 ghost use Rattle.sg_shelf.specs.declared.shelf.ShelfError.TheVariants.{Failed, TooLong, Memory};
 
@@ -27,14 +28,10 @@ pub enum ShelfError {
 
 /// Files by name.
 pub trait Shelf {
-    /// The names and bytes that it holds, where it tells them.
-    ghost files: { Self → Option Files };
-
-    /// How many faults it has counted, 2^64 - 1 at most.
-    ghost faults: { Self → ℕ };
-
-    /// The reads that it answered, in order: each name and limit, and whether it gave the bytes. Want of memory is no answer.
-    ghost log: { Self → Log };
+    /// What it shows of itself: the names and bytes that it holds, where it tells them; the reads that it answered, in
+    /// order, each with its name, its limit and whether it gave the bytes (want of memory is no answer); and how many
+    /// faults it has counted, 2^64 - 1 at most.
+    ghost state: { Self → ShelfState };
 
     /// What its reads hand over: these bytes may be the answer to a read of this name up to this limit. Only a read that
     /// answers them says so, told or not: a caller that has to speak of bytes that were handed over can't take others.
@@ -45,27 +42,27 @@ pub trait Shelf {
         requires { limit ≤ 536870912 }
 
         // No read changes the files, or whether they are told. The count never falls.
-        ensures files { files self.new ≡ files self.old }
-        ensures count { faults self.old ≤ faults self.new }
-        ensures last_count { faults self.new ≤ 2 ^ 64 - 1 }
+        ensures files { (state self.new).files ≡ (state self.old).files }
+        ensures count { (state self.old).faults ≤ (state self.new).faults }
+        ensures last_count { (state self.new).faults ≤ 2 ^ 64 - 1 }
 
         // Every answer but want of memory is one more entry of the log, and none is lost.
-        ensures given { OnOk result (log self.new ≡ logged (log self.old) name.now limit Outcome.Given) }
-        ensures not_given { IfErr result (λ error. log self.new ≡ log_after error name.now limit (log self.old)) }
+        ensures given { OnOk result ((state self.new).log ≡ logged (state self.old).log name.now limit Outcome.Given) }
+        ensures not_given { IfErr result (λ error. (state self.new).log ≡ log_after error name.now limit (state self.old).log) }
 
-        ensures bytes { IfOk result (λ bytes. Reads (files self.old) name.now limit bytes.items) }
+        ensures bytes { IfOk result (λ bytes. Reads (state self.old).files name.now limit bytes.items) }
         ensures handed { IfOk result (λ bytes. hands_over name.now limit bytes.items) }
 
         // It doesn't give up by itself.
         ensures failed { IsErrOf result Failed
-            → HasRisen (faults self.old) (faults self.new) ⊎ IsMissing (files self.old) name.now }
-        ensures missing { IsMissing (files self.old) name.now → IsErrAnd result IsFailedOrMemory }
+            → HasRisen (state self.old).faults (state self.new).faults ⊎ IsMissing (state self.old).files name.now }
+        ensures missing { IsMissing (state self.old).files name.now → IsErrAnd result IsFailedOrMemory }
 
         // Where the files are told, a file is too long exactly where it has more bytes than the limit.
         ensures seen { (seen : ℕ) → IsErrOf result (TooLong seen) → limit < seen }
-        ensures too_long { (seen : ℕ) → IsErrOf result (TooLong seen) → IsSome (files self.old)
-            → IsLong (files self.old) name.now limit × HasNotRisen (faults self.old) (faults self.new) }
-        ensures long { IsLong (files self.old) name.now limit → HasNotRisen (faults self.old) (faults self.new)
+        ensures too_long { (seen : ℕ) → IsErrOf result (TooLong seen) → IsSome (state self.old).files
+            → IsLong (state self.old).files name.now limit × HasNotRisen (state self.old).faults (state self.new).faults }
+        ensures long { IsLong (state self.old).files name.now limit → HasNotRisen (state self.old).faults (state self.new).faults
             → IsErrAnd result IsTooLongOrMemory }
 
         // Want of memory leaves the shelf as it was.

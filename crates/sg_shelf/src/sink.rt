@@ -2,6 +2,7 @@
 
 ghost use Rattle.std.specs.Prelude.{◌≡◌, ◌-◌, ◌^◌, ◌≤◌, ℕ, List, Option, OnOk, OnErr};
 ghost use Rattle.sg_shelf.specs.Faults.{HasRisen, raised};
+ghost use Rattle.sg_shelf.specs.States.{SinkState};
 ghost use Rattle.sg_shelf.specs.Taken.{Takes, TakesFront};
 
 use thiserror::Error;
@@ -16,25 +17,20 @@ pub enum SinkError {
 
 /// Takes bytes.
 pub trait Sink {
-    /// The bytes that it took, where it tells them.
-    ghost taken: { Self → Option (List ℕ) };
-
-    /// How many faults it has counted, 2^64 - 1 at most.
-    ghost faults: { Self → ℕ };
-
-    /// How many puts it has been given, 2^64 - 1 at most.
-    ghost puts: { Self → ℕ };
+    /// What it shows of itself: the bytes that it took, where it tells them, how many puts it has been given and how
+    /// many faults it has counted, both 2^64 - 1 at most.
+    ghost state: { Self → SinkState };
 
     /// Adds the piece to what it took, or where it fails a front of it.
     fn put(&mut self, piece: &[u8]) -> Result<(), SinkError>
         // The count never falls.
-        ensures count { faults self.old ≤ faults self.new }
-        ensures last_count { faults self.new ≤ 2 ^ 64 - 1 }
-        ensures put_count { puts self.new ≡ raised (puts self.old) }
+        ensures count { (state self.old).faults ≤ (state self.new).faults }
+        ensures last_count { (state self.new).faults ≤ 2 ^ 64 - 1 }
+        ensures put_count { (state self.new).puts ≡ raised (state self.old).puts }
 
-        ensures whole { OnOk result (Takes (taken self.old) (taken self.new) piece.now) }
-        ensures front { OnErr result (TakesFront (taken self.old) (taken self.new) piece.now) }
+        ensures whole { OnOk result (Takes (state self.old).bytes (state self.new).bytes piece.now) }
+        ensures front { OnErr result (TakesFront (state self.old).bytes (state self.new).bytes piece.now) }
 
         // It doesn't give up by itself.
-        ensures failed { OnErr result (HasRisen (faults self.old) (faults self.new)) };
+        ensures failed { OnErr result (HasRisen (state self.old).faults (state self.new).faults) };
 }

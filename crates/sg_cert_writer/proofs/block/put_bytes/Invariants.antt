@@ -3,4 +3,4 @@ use Rattle.sg_cert_writer.specs.Writing.{Adds}
 use Rattle.sg_cert_writer.proofs.block.put_bytes.Given as goal
 
 abbrev pub invariant-loop-byte : goal.invariant-loop-byte
-invariant-loop-byte g l = Adds (g.O.Sink.taken l.initial.out, g.O.Sink.faults l.initial.out) l.initial.block (g.O.Sink.taken l.out, g.O.Sink.faults l.out) l.block (take l.byte-index l.text)
+invariant-loop-byte g l = Adds (g.O.Sink.state l.initial.out) l.initial.block (g.O.Sink.state l.out) l.block (take l.byte-index l.text)

@@ -5,4 +5,4 @@ use Rattle.sg_cert_writer.specs.Writing.{Adds}
 use Rattle.sg_cert_writer.proofs.block.put_numbers.Given as goal
 
 abbrev pub invariant-loop-number : goal.invariant-loop-number
-invariant-loop-number g l = Adds (g.O.Sink.taken l.initial.out, g.O.Sink.faults l.initial.out) l.initial.block (g.O.Sink.taken l.out, g.O.Sink.faults l.out) l.block (spaced (map signed_decimal (take l.number-index l.numbers)))
+invariant-loop-number g l = Adds (g.O.Sink.state l.initial.out) l.initial.block (g.O.Sink.state l.out) l.block (spaced (map signed_decimal (take l.number-index l.numbers)))

@@ -5,4 +5,4 @@ use Rattle.sg_cert_writer.specs.Writing.{Adds}
 use Rattle.sg_cert_writer.proofs.writing.put_caps.Given as goal
 
 abbrev pub invariant-loop-cap : goal.invariant-loop-cap
-invariant-loop-cap g l = Adds (g.O.Sink.taken l.initial.out, g.O.Sink.faults l.initial.out) l.initial.block (g.O.Sink.taken l.out, g.O.Sink.faults l.out) l.block (text_of (flat_map cap_rows (take l.cap-index l.caps)))
+invariant-loop-cap g l = Adds (g.O.Sink.state l.initial.out) l.initial.block (g.O.Sink.state l.out) l.block (text_of (flat_map cap_rows (take l.cap-index l.caps)))

@@ -4,4 +4,4 @@ use Rattle.sg_cert_writer.specs.Writing.{Adds}
 use Rattle.sg_cert_writer.proofs.writing.put_rows.Given as goal
 
 abbrev pub invariant-loop-row : goal.invariant-loop-row
-invariant-loop-row g l = Adds (g.O.Sink.taken l.initial.out, g.O.Sink.faults l.initial.out) l.initial.block (g.O.Sink.taken l.out, g.O.Sink.faults l.out) l.block (text_of (map line_row (take l.row-index l.rows)))
+invariant-loop-row g l = Adds (g.O.Sink.state l.initial.out) l.initial.block (g.O.Sink.state l.out) l.block (text_of (map line_row (take l.row-index l.rows)))

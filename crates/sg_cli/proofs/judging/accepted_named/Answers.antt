@@ -1,31 +1,64 @@
-use Rattle.std.proofs.Common.{Ok, subst}
-use Rattle.sg_shelf.specs.declared.log.Outcome.TheVariants.{Given}
-use Rattle.sg_cli.specs.ShelfReads.{trail}
-use Rattle.sg_cli.specs.Scenes.{SaysReport}
-use Rattle.sg_cli.specs.Readings.{ReportFileFails}
-use Rattle.sg_cli.proofs.Logged.{and_then}
-use Rattle.sg_cli.proofs.Stopping.{judging_fails, report_fails}
+use Rattle.std.proofs.Common.{◌≡◌, List, ℕ, Ok, ap, sym, ◌∙◌, subst}
+use Rattle.sg_format.specs.GameFiles.{game_of_bytes}
+use Rattle.sg_cert.specs.Reading.{report_of}
+use Rattle.sg_cli.specs.Inputs.{game, game_file, held_as, report, report_file}
+use Rattle.sg_cli.specs.Judging.{IsChecked}
+use Rattle.sg_cli.specs.Steps.{GivesNoGame, GivesNoReport}
+use Rattle.sg_cli.specs.declared.input.InputFault.TheVariants as faults
+use Rattle.sg_cli.proofs.Progress.{first_read, second_read}
+use Rattle.sg_cli.proofs.Stopping.{judge_no_file, judge_no_game, judge_no_report, judge_unread, unchecked, wrong}
 use Rattle.sg_cli.proofs.judging.accepted_named.Goals as goal
 
 pub returns-in-Err-clause-err : goal.returns-in-Err-clause-err
-returns-in-Err-clause-err g c = c.in-Err.ensures.err c.args.report.now
+returns-in-Err-clause-err g c = judge_unread _ c.args.name.now c.args.report.now _ _ c.in-Err.refusal c.in-Err.ensures.err
 
-pub returns-in-Err-report_named-clause-err : goal.returns-in-Err-report_named-clause-err
-returns-in-Err-report_named-clause-err g c =
-    let between = c.checked_game.new.shelf in
-    let after = c.report_named.new.shelf in
-    let fails = subst (λ f. ReportFileFails g.S.Shelf.hands_over f c.args.report.now
-    (trail (g.S.Shelf.log between) (g.S.Shelf.faults between))
-    (trail (g.S.Shelf.log after) (g.S.Shelf.faults after)) c.in-Err-report_named.refusal)
-    c.checked_game.ensures.files c.in-Err-report_named.ensures.err in
-    report_fails _ _ _ _ c.args.name.now c.args.report.now c.in-Ok.game _ c.in-Err-report_named.refusal c.in-Ok.ensures.ok c.in-Ok.ensures.one c.in-Ok.ensures.faults fails
+pub returns-in-Err-game_of-clause-err : goal.returns-in-Err-game_of-clause-err
+returns-in-Err-game_of-clause-err g c =
+    judge_no_game _ c.args.name.now c.args.report.now _ _ c.in-Ok.bytes.items c.in-Err-game_of.refusal c.in-Ok.ensures.ok
+    (subst (λ (b : List ℕ). GivesNoGame (game_of_bytes b) c.in-Err-game_of.refusal) c.deref.ensures.value c.in-Err-game_of.ensures.err)
 
-pub returns-in-Err-judge-clause-err : goal.returns-in-Err-judge-clause-err
-returns-in-Err-judge-clause-err g c =
-    let before = c.args.shelf.now in
-    let between = c.checked_game.new.shelf in
-    let after = c.report_named.new.shelf in
-    let says = subst (λ f. SaysReport g.S.Shelf.hands_over f c.args.report.now (Ok c.in-Ok-report_named.read)) c.checked_game.ensures.files c.in-Ok-report_named.ensures.ok in
-    let two = and_then c.args.name.now c.args.report.now Given (trail (g.S.Shelf.log before) (g.S.Shelf.faults before))
-    (trail (g.S.Shelf.log between) (g.S.Shelf.faults between)) (trail (g.S.Shelf.log after) (g.S.Shelf.faults after)) c.in-Ok.ensures.one c.in-Ok-report_named.ensures.one in
-    judging_fails _ _ _ _ c.args.name.now c.args.report.now c.in-Ok.game c.in-Ok-report_named.read c.in-Err-judge.refusal c.in-Ok.ensures.ok two says c.in-Err-judge.ensures.err
+pub returns-then-types-ne1-clause-err : goal.returns-then-types-ne1-clause-err
+returns-then-types-ne1-clause-err g c =
+    let says : game_of_bytes c.in-Ok.bytes.items ≡ Ok c.in-Ok-game_of.game = subst (λ (b : List ℕ). game_of_bytes b ≡ Ok c.in-Ok-game_of.game) c.deref.ensures.value c.in-Ok-game_of.ensures.ok in
+    unchecked _ c.args.name.now c.args.report.now _ _ c.in-Ok-game_of.game
+    (first_read _ _ _ (game_file c.args.name.now) c.in-Ok.bytes.items (game c.in-Ok-game_of.game) c.in-Ok.ensures.ok (ap (held_as game faults.Game) says))
+    (λ is. c.if-types-ne1.true (c.types.ensures.count ∙ is))
+
+pub returns-in-Err-read_input-clause-err : goal.returns-in-Err-read_input-clause-err
+returns-in-Err-read_input-clause-err g c =
+    let says : game_of_bytes c.in-Ok.bytes.items ≡ Ok c.in-Ok-game_of.game = subst (λ (b : List ℕ). game_of_bytes b ≡ Ok c.in-Ok-game_of.game) c.deref.ensures.value c.in-Ok-game_of.ensures.ok in
+    let checked : IsChecked c.in-Ok-game_of.game = sym c.types.ensures.count ∙ c.if-types-ne1.false in
+    judge_no_file _ c.args.name.now c.args.report.now _ _ _ c.in-Ok-game_of.game checked
+    (first_read _ _ _ (game_file c.args.name.now) c.in-Ok.bytes.items (game c.in-Ok-game_of.game) c.in-Ok.ensures.ok (ap (held_as game faults.Game) says))
+    c.in-Err-read_input.refusal c.in-Err-read_input.ensures.err
+
+pub returns-in-Err-report_of-clause-err : goal.returns-in-Err-report_of-clause-err
+returns-in-Err-report_of-clause-err g c =
+    let says : game_of_bytes c.in-Ok.bytes.items ≡ Ok c.in-Ok-game_of.game = subst (λ (b : List ℕ). game_of_bytes b ≡ Ok c.in-Ok-game_of.game) c.deref.ensures.value c.in-Ok-game_of.ensures.ok in
+    let checked : IsChecked c.in-Ok-game_of.game = sym c.types.ensures.count ∙ c.if-types-ne1.false in
+    judge_no_report _ c.args.name.now c.args.report.now _ _ _ c.in-Ok-game_of.game checked
+    (first_read _ _ _ (game_file c.args.name.now) c.in-Ok.bytes.items (game c.in-Ok-game_of.game) c.in-Ok.ensures.ok (ap (held_as game faults.Game) says))
+    c.in-Ok-read_input.bytes.items c.in-Err-report_of.refusal c.in-Ok-read_input.ensures.ok
+    (subst (λ (b : List ℕ). GivesNoReport (report_of b) c.in-Err-report_of.refusal) c.deref-2.ensures.value c.in-Err-report_of.ensures.err)
+
+pub returns-in-Ok-judge-clause-ok : goal.returns-in-Ok-judge-clause-ok
+returns-in-Ok-judge-clause-ok g c =
+    let says : game_of_bytes c.in-Ok.bytes.items ≡ Ok c.in-Ok-game_of.game = subst (λ (b : List ℕ). game_of_bytes b ≡ Ok c.in-Ok-game_of.game) c.deref.ensures.value c.in-Ok-game_of.ensures.ok in
+    let spells : report_of c.in-Ok-read_input.bytes.items ≡ Ok c.in-Ok-report_of.read = subst (λ (b : List ℕ). report_of b ≡ Ok c.in-Ok-report_of.read) c.deref-2.ensures.value c.in-Ok-report_of.ensures.ok in
+    record {
+      read = second_read _ _ _ _ (game_file c.args.name.now) (report_file c.args.report.now) c.in-Ok-read_input.bytes.items (game c.in-Ok-game_of.game) (report c.in-Ok-report_of.read)
+          (first_read _ _ _ (game_file c.args.name.now) c.in-Ok.bytes.items (game c.in-Ok-game_of.game) c.in-Ok.ensures.ok (ap (held_as game faults.Game) says))
+          c.in-Ok-read_input.ensures.ok (ap (held_as report faults.Report) spells);
+      is_checked = sym c.types.ensures.count ∙ c.if-types-ne1.false;
+      judged = c.in-Ok-judge.ensures.ok;
+    }
+
+pub returns-clause-err : goal.returns-clause-err
+returns-clause-err g c =
+    let says : game_of_bytes c.in-Ok.bytes.items ≡ Ok c.in-Ok-game_of.game = subst (λ (b : List ℕ). game_of_bytes b ≡ Ok c.in-Ok-game_of.game) c.deref.ensures.value c.in-Ok-game_of.ensures.ok in
+    let spells : report_of c.in-Ok-read_input.bytes.items ≡ Ok c.in-Ok-report_of.read = subst (λ (b : List ℕ). report_of b ≡ Ok c.in-Ok-report_of.read) c.deref-2.ensures.value c.in-Ok-report_of.ensures.ok in
+    let checked : IsChecked c.in-Ok-game_of.game = sym c.types.ensures.count ∙ c.if-types-ne1.false in
+    wrong _ c.args.name.now c.args.report.now _ _ c.in-Ok-game_of.game c.in-Ok-report_of.read c.in-Err-judge.own checked
+    (second_read _ _ _ _ (game_file c.args.name.now) (report_file c.args.report.now) c.in-Ok-read_input.bytes.items (game c.in-Ok-game_of.game) (report c.in-Ok-report_of.read)
+    (first_read _ _ _ (game_file c.args.name.now) c.in-Ok.bytes.items (game c.in-Ok-game_of.game) c.in-Ok.ensures.ok (ap (held_as game faults.Game) says))
+    c.in-Ok-read_input.ensures.ok (ap (held_as report faults.Report) spells)) c.in-Err-judge.ensures.err

@@ -1,42 +1,49 @@
-use Rattle.std.proofs.Common.{List, ℕ, sym, subst, refl}
+use Rattle.std.proofs.Common.{List, ℕ, [], ◌∷◌, refl, sym, subst, inl}
 use Rattle.sg_report.specs.Tables.{IsReportTable}
-use Rattle.sg_words.specs.Commands as commands
+use Rattle.sg_cli.specs.Inputs.{game, report}
+use Rattle.sg_cli.specs.Showing.{showing}
+use Rattle.sg_cli.proofs.Progress.{all_read, fails_by}
 use Rattle.sg_cli.proofs.showing.show_named.Goals as goal
+
+pub returns-in-Err-clause-err : goal.returns-in-Err-clause-err
+returns-in-Err-clause-err g c = fails_by _ (showing c.args.name.now c.args.report.now) _ _ _ c.in-Err.refusal c.in-Err.ensures.err
+
+pub returns-in-Err-table_of-clause-err : goal.returns-in-Err-table_of-clause-err
+returns-in-Err-table_of-clause-err g c = inl (all_read _ _ _ _ _ c.in-Ok.ensures.ok.read, refl)
 
 pub returns-in-Ok-put-clause-ok : goal.returns-in-Ok-put-clause-ok
 returns-in-Ok-put-clause-ok g c =
+    let h = c.in-Ok.ensures.ok in
     let pair = c.in-Ok.pair in
     record {
-      asked = commands.show c.args.name.now c.args.report.now;
-      asks = refl;
-      reads = c.in-Ok.ensures.two;
       text = c.deref.result.now;
-      does = record {
-        game = pair.game;
-        read = pair.report;
-        accepts = c.in-Ok.ensures.ok;
-        done = refl;
-        written = subst (λ (t : List ℕ). IsReportTable pair.game pair.report.tickets.tickets pair.report.upper t) (sym c.deref.ensures.value) c.in-Ok-table_of.ensures;
+      writes = record {
+        contents = game pair.game ∷ report pair.report ∷ [];
+        read = h.read;
+        took = (tt, (h.is_checked, tt));
+        takes = h.judged;
+        ends = refl;
+        writes = subst (λ (t : List ℕ). IsReportTable pair.game pair.report.tickets.tickets pair.report.upper t) (sym c.deref.ensures.value) c.in-Ok-table_of.ensures;
       };
-      takes = c.in-Ok-put.ensures.whole;
+      taken = c.in-Ok-put.ensures.whole;
     }
 
 pub returns-clause-err : goal.returns-clause-err
 returns-clause-err g c =
-    let pair = c.in-Ok.pair in
-    record {
-      fault = c.in-Err-put.ensures.failed;
-      asked = commands.show c.args.name.now c.args.report.now;
-      asks = refl;
-      reads = c.in-Ok.ensures.two;
-      status = 0;
-      text = c.deref.result.now;
-      does = record {
-        game = pair.game;
-        read = pair.report;
-        accepts = c.in-Ok.ensures.ok;
-        done = refl;
-        written = subst (λ (t : List ℕ). IsReportTable pair.game pair.report.tickets.tickets pair.report.upper t) (sym c.deref.ensures.value) c.in-Ok-table_of.ensures;
-      };
-      takes = c.in-Err-put.ensures.front;
-    }
+    let h = c.in-Ok.ensures.ok in
+    let pair = c.in-Ok.pair in (
+      c.in-Err-put.ensures.failed,
+      record {
+        status = 0;
+        text = c.deref.result.now;
+        writes = record {
+          contents = game pair.game ∷ report pair.report ∷ [];
+          read = h.read;
+          took = (tt, (h.is_checked, tt));
+          takes = h.judged;
+          ends = refl;
+          writes = subst (λ (t : List ℕ). IsReportTable pair.game pair.report.tickets.tickets pair.report.upper t) (sym c.deref.ensures.value) c.in-Ok-table_of.ensures;
+        };
+        taken = c.in-Err-put.ensures.front;
+      },
+    )

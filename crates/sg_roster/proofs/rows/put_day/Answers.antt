@@ -18,13 +18,13 @@ pub returns-in-Ok-clause-whole : goal.returns-in-Ok-clause-whole
 returns-in-Ok-clause-whole g c =
     let start : length c.as_slice-start.result.now ≡ length (block_of c.args.writer.now) = ap length (c.as_slice-start.ensures.value ∙ ap (λ (v : Vec ℕ Global). v.items) c.get_ref.ensures) in
     let row = ap (λ (n : ℕ). drop n (block_of c.write_day.new.writer)) start ∙ added_row c.args.writer.now c.write_day.new.writer (decimal c.args.day ∷ assignments c.args.game.now c.args.code.now) c.in-Ok.ensures in
-    subst (λ (t : List ℕ). OnOk c.put_row.result (Takes (g.O.Sink.taken c.args.out.now) (g.O.Sink.taken c.put_row.new.out) t)) row c.put_row.ensures.whole
+    subst (λ (t : List ℕ). OnOk c.put_row.result (Takes (g.O.Sink.state c.args.out.now).bytes (g.O.Sink.state c.put_row.new.out).bytes t)) row c.put_row.ensures.whole
 
 pub returns-in-Ok-clause-front : goal.returns-in-Ok-clause-front
 returns-in-Ok-clause-front g c =
     let start : length c.as_slice-start.result.now ≡ length (block_of c.args.writer.now) = ap length (c.as_slice-start.ensures.value ∙ ap (λ (v : Vec ℕ Global). v.items) c.get_ref.ensures) in
     let row = ap (λ (n : ℕ). drop n (block_of c.write_day.new.writer)) start ∙ added_row c.args.writer.now c.write_day.new.writer (decimal c.args.day ∷ assignments c.args.game.now c.args.code.now) c.in-Ok.ensures in
-    subst (λ (t : List ℕ). OnErr c.put_row.result (TakesFront (g.O.Sink.taken c.args.out.now) (g.O.Sink.taken c.put_row.new.out) t)) row c.put_row.ensures.front
+    subst (λ (t : List ℕ). OnErr c.put_row.result (TakesFront (g.O.Sink.state c.args.out.now).bytes (g.O.Sink.state c.put_row.new.out).bytes t)) row c.put_row.ensures.front
 
 pub returns-in-Err-clause-front : goal.returns-in-Err-clause-front
-returns-in-Err-clause-front g c = no_front (g.O.Sink.taken c.args.out.now) (row_text default_writer (decimal c.args.day ∷ assignments c.args.game.now c.args.code.now))
+returns-in-Err-clause-front g c = no_front (g.O.Sink.state c.args.out.now).bytes (row_text default_writer (decimal c.args.day ∷ assignments c.args.game.now c.args.code.now))

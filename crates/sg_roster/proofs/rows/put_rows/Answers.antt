@@ -12,8 +12,8 @@ returns-in-Err-clause-front g c =
     let game = c.args.game.now in
     let k : List Ticket = c.args.k.now.tickets in
     let order : List ℕ = c.args.order.now in
-    let before = g.O.Sink.taken c.args.out.now in
-    front_put before before (g.O.Sink.taken c.put_header.new.out) (roster_text game k order) (row_text default_writer (header_fields game)) (records_text (days_from game k 1 order))
+    let before = (g.O.Sink.state c.args.out.now).bytes in
+    front_put before before (g.O.Sink.state c.put_header.new.out).bytes (roster_text game k order) (row_text default_writer (header_fields game)) (records_text (days_from game k 1 order))
     (none_put before (roster_text game k order)) c.in-Err.ensures.front
 
 pub returns-in-Err-put_day-clause-front : goal.returns-in-Err-put_day-clause-front
@@ -24,11 +24,11 @@ returns-in-Err-put_day-clause-front g c =
     let i : ℕ = c.loop-i.i in
     let code : List ℕ = c.as_slice.result.now in
     let whole : List ℕ = roster_text game k order in
-    let before = g.O.Sink.taken c.args.out.now in
-    let now = g.O.Sink.taken c.loop-i.out in
+    let before = (g.O.Sink.state c.args.out.now).bytes in
+    let now = (g.O.Sink.state c.loop-i.out).bytes in
     let split = day_row game c.tickets-tickets.result.now k order i c.index-tickets-order.result code c.loop-i-test.true (c.requires.known i 0 c.loop-i-test.true)
     c.tickets-tickets.ensures.value c.index-tickets-order.is c.as_slice.ensures in
-    front_put before now (g.O.Sink.taken c.put_day.new.out) whole (row_text default_writer (decimal (i + 1) ∷ assignments game code)) (records_text (days_from game k (i + 1 + 1) (drop (i + 1) order)))
+    front_put before now (g.O.Sink.state c.put_day.new.out).bytes whole (row_text default_writer (decimal (i + 1) ∷ assignments game code)) (records_text (days_from game k (i + 1 + 1) (drop (i + 1) order)))
     (subst (HasPut before now whole) split c.loop-i.invariant.put) c.in-Err-put_day.ensures.front
 
 pub loop-i-preserved : goal.loop-i-preserved
@@ -39,12 +39,12 @@ loop-i-preserved g c =
     let i : ℕ = c.loop-i.i in
     let code : List ℕ = c.as_slice.result.now in
     let whole : List ℕ = roster_text game k order in
-    let before = g.O.Sink.taken c.args.out.now in
-    let now = g.O.Sink.taken c.loop-i.out in
+    let before = (g.O.Sink.state c.args.out.now).bytes in
+    let now = (g.O.Sink.state c.loop-i.out).bytes in
     let split = day_row game c.tickets-tickets.result.now k order i c.index-tickets-order.result code c.loop-i-test.true (c.requires.known i 0 c.loop-i-test.true)
     c.tickets-tickets.ensures.value c.index-tickets-order.is c.as_slice.ensures in
     record {
-      put = row_put before now (g.O.Sink.taken c.put_day.new.out) whole (row_text default_writer (decimal (i + 1) ∷ assignments game code)) (records_text (days_from game k (i + 1 + 1) (drop (i + 1) order)))
+      put = row_put before now (g.O.Sink.state c.put_day.new.out).bytes whole (row_text default_writer (decimal (i + 1) ∷ assignments game code)) (records_text (days_from game k (i + 1 + 1) (drop (i + 1) order)))
           (subst (HasPut before now whole) split c.loop-i.invariant.put) c.in-Ok-put_day.ensures.whole;
       between = c.in-Ok-put_day.ensures.between;
       pieces = omega (arith, c.in-Ok-put_day.ensures.pieces, c.loop-i.invariant.pieces);

@@ -1,31 +1,12 @@
--- Which games and reports the commands serve so far, and what they say of them.
-use Rattle.std.specs.Prelude.{◌≡◌, ◌++◌, ℕ, List, true, false, codes, length, if◌then◌else◌}
+-- The command `check GAME REPORT`.
+use Rattle.std.specs.Prelude.{◌≡◌, ◌++◌, ℕ, false, List, [], ◌∷◌, codes, if◌then◌else◌}
 use Rattle.std.specs.Fmt.{signed_decimal}
-use Rattle.sg_model.specs.Games.{Game}
-use Rattle.sg_model.specs.Limits.{is_scaled}
 use Rattle.sg_frac.specs.Fractions.{Fraction}
 use Rattle.sg_tree.specs.declared.report.Report.{Report}
-use Rattle.sg_cert.specs.Ranges.{IsReport}
 use Rattle.sg_bounds.specs.Accepted.{is_optimal}
-use Rattle.sg_check.specs.Covered.{has_cover}
-use Rattle.sg_solve.specs.Solutions.{IsOptimalReport}
-
--- the games that are solved so far: those that declare a scale
-abbrev pub IsSolved : Game → Type 0
-IsSolved g = is_scaled g ≡ true
-
--- a report that says what is true of the game and leaves nothing open, and whose text is a report text
-pub record IsAnswer (g : Game) (r : Report) : Type 0 where
-  pub is_right : IsOptimalReport g r
-  pub in_ranges : IsReport r
-
--- the games on which reports are checked so far: those with one type of attacker
-abbrev pub IsChecked : Game → Type 0
-IsChecked g = length g.types ≡ 1
-
--- the reports that are checked so far: those that hold no fact of the coverage table
-abbrev pub IsCheckable : Report → Type 0
-IsCheckable r = has_cover r ≡ false
+use Rattle.sg_cli.specs.Inputs.{Content, game, report}
+use Rattle.sg_cli.specs.Commands.{Command}
+use Rattle.sg_cli.specs.Judging.{judging}
 
 -- a fraction as two numbers, and what follows them
 abbrev pub parts_text : Fraction → List ℕ → List ℕ
@@ -46,3 +27,17 @@ yes_text r = if is_optimal r.ending then optimal_text r.value else gap_text r.va
 -- the status that accepts it
 abbrev pub yes_status : Report → ℕ
 yes_status r = if is_optimal r.ending then 0 else 10
+
+-- the status tells whether the report's bounds meet
+abbrev pub ends_yes : List Content → ℕ → Type 0
+ends_yes (game g ∷ report r ∷ []) status = status ≡ yes_status r
+ends_yes _ status = ⊥
+
+-- and the yes to it is written
+abbrev pub writes_yes : List Content → ℕ → List ℕ → Type 0
+writes_yes (game g ∷ report r ∷ []) status text = text ≡ yes_text r
+writes_yes _ status text = ⊥
+
+-- the command
+abbrev pub checking : List ℕ → List ℕ → Command
+checking name named = record { plan = judging name named; ends = ends_yes; writes = writes_yes; is_formed_late = false }

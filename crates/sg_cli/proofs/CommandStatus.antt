@@ -1,0 +1,53 @@
+-- Told files decide one status for each command of the list, and each ends with a status of success.
+use Rattle.std.proofs.Common.{◌≡◌, ◌≢◌, ◌⊎◌, ℕ, List, Result, Ok, Err, IfOk, IfErr, Some, inl, inr}
+use Rattle.sg_words.specs.Commands.{Asked, solve, check, show}
+use Rattle.sg_cli.specs.Inputs.{Content}
+use Rattle.sg_cli.specs.Checking.{ends_yes, writes_yes, yes_status}
+use Rattle.sg_cli.specs.CommandList.{command_for}
+use Rattle.sg_cli.specs.Effects.{Fails, IsDone}
+use Rattle.sg_cli.specs.Showing.{ends_shown, writes_table}
+use Rattle.sg_cli.specs.Laws.{OneStatusIsDue}
+use Rattle.sg_cli.specs.Runs.{ComesOf, DoesCommand, Observation}
+use Rattle.sg_cli.proofs.JudgingStatus.{one_judging, success_checking, success_showing}
+use Rattle.sg_cli.proofs.OneStatus.{just}
+use Rattle.sg_cli.proofs.SolvingStatus.{one_solving, success_solving}
+use Rattle.sg_cli.specs.declared.refusal.Refusal.{Refusal}
+use Rattle.sg_cli.specs.declared.refusal.Refusal.TheVariants.{Words, NotRead, TooLong, Refused, Own, NotWritten, Memory}
+
+pub one_status : OneStatusIsDue
+one_status files (solve name) = one_solving files name
+one_status files (check name named) = one_judging files name named ends_yes writes_yes (λ g r. just (yes_status r))
+one_status files (show name named) = one_judging files name named ends_shown writes_table (λ g r. just 0)
+
+-- ---- success
+
+success : (asked : Asked) (contents : List Content) (status : ℕ) → (command_for asked).ends contents status → (status ≡ 0) ⊎ (status ≡ 10)
+success (solve name) = success_solving
+success (check name named) = success_checking
+success (show name named) = success_showing
+
+-- no other status is one of a command that was done
+pub no_other : (o : Observation) (status : ℕ) → DoesCommand o status → status ≢ 0 → status ≢ 10 → ⊥
+no_other o status d zero ten = elim (success d.asked d.done.writes.contents status d.done.writes.ends) [ inl e ↦ zero e | inr e ↦ ten e ]
+
+-- what is kept without a condition is kept with one
+pub kept_first : (r : Result ℕ Refusal) (Q A : Type 0) → IfErr r (λ e. e ≢ NotWritten → A) → IfErr r (λ e. e ≢ NotWritten → (e ≡ Memory → Q) → A)
+kept_first (Ok status) Q A h = tt
+kept_first (Err refusal) Q A h = λ other first. h other
+
+-- ---- the command that is asked for
+
+module _ (o : Observation) (asked : Asked) (asks : o.asked ≡ Some asked) where
+  pub does : (r : Result ℕ Refusal) → IfOk r (IsDone o.hands (command_for asked) o.before o.after) → IfOk r (DoesCommand o)
+  does (Ok status) h = record { asked = asked; asks = asks; done = h }
+  does (Err refusal) h = tt
+
+  pub comes : (r : Result ℕ Refusal) → IfErr r (Fails o.hands (command_for asked) o.before o.after) → IfErr r (ComesOf o)
+  comes (Ok status) h = tt
+  comes (Err Words) h = absurd h.0
+  comes (Err (NotRead kind)) h = record { asked = asked; asks = asks; fails = h }
+  comes (Err (TooLong kind)) h = record { asked = asked; asks = asks; fails = h }
+  comes (Err (Refused fault)) h = record { asked = asked; asks = asks; fails = h }
+  comes (Err (Own own)) h = record { asked = asked; asks = asks; fails = h }
+  comes (Err NotWritten) h = record { asked = asked; asks = asks; fails = h }
+  comes (Err Memory) h = inl (record { asked = asked; asks = asks; fails = h })
