@@ -150,7 +150,7 @@ module _ (g : Game) (peopled : IsPeopled g) (s : Search) (results : All (IsResul
   fact-fits acts f e =
       let src = fact-source (IsResult g) s.worked results (prefix acts) f e in
       let r = src.holds in
-      let is_fix : IsFix g (prefix acts) = subst (IsFix g) src.fix r.node.fix in
+      let is_fix : IsFix g (prefix acts) = subst (IsFix g) src.fix r.node.is_fix in
       let narrow : IsNarrow g (prefix acts) f src.of.point = subst (λ (x : Fact). IsNarrow g (prefix acts) x src.of.point) src.fact (subst (λ (x : Fix). IsNarrow g x src.of.fact src.of.point) src.fix r.narrow) in
       let rho : pos 1 ≤ℤ rho_of f = subst (λ (x : Fact). pos 1 ≤ℤ rho_of x) src.fact (holds-rho g src.of.fix src.of.fact r.fact) in
       let to = is_fix.in_range in
