@@ -33,6 +33,17 @@ const NOBODY: &'static str =
 const ROWS: &'static str =
     "version = 1\nform = \"matrix\"\nrows = [\"A\", \"B\"]\n[[type]]\nname = \"thief\"\nprior = 1\nactions = [\"x\", \"y\"]\nleader = [[2, 4], [1, 3]]\nfollower = [[1, 0], [0, 2]]\n";
 
+/// Three days of two patrols.
+fn three_days() -> &'static Case {
+    const CASE: &'static Case = &Case {
+        game: PATROLS,
+        tickets: &[(1, &[1, 2]), (1, &[1, 3]), (1, &[2, 3])],
+        seed: 7,
+        rows: "day,p1,p2\n1,t1,t2\n2,t2,t3\n3,t1,t3\n",
+    };
+    CASE
+}
+
 /// Rosters written by hand, in orders of `tools/roster_order.py`.
 fn rosters() -> &'static [Case] {
     const CASES: &'static [Case] = &[
@@ -108,7 +119,7 @@ fn rosters_are_put(rt: HostRuntime) -> Result<(), Fail> {
 
 #[test]
 fn each_row_is_one_put_that_may_fail(rt: HostRuntime) -> Result<(), Fail> {
-    let case = &rosters()[0];
+    let case = three_days();
     for (put, keep, front) in [
         (1, 0, ""),
         (1, 4, "day,"),
