@@ -10,6 +10,7 @@ crates/patrol/out/patrol, as .ci/run leaves it.
 """
 import os
 import random
+import re
 import subprocess
 import sys
 import tempfile
