@@ -3,6 +3,7 @@ pub mod Comparisons
 pub mod Heights
 pub mod Kept
 pub mod ListedPlays
+pub mod Looks
 pub mod Multiples
 pub mod Multipliers
 pub mod NodeEnds

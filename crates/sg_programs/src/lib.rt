@@ -14,8 +14,8 @@ mod point_laws;
 pub use examples::{worked_programs, worked_refusals};
 pub use fact_laws::{final_is_fact, marks_rise};
 pub use laws::{
-    columns_are_plays, program_is_bounded, program_is_sized, rows_are_comparisons,
-    zeros_change_nothing,
+    columns_are_plays, looks_are_enough, program_is_bounded, program_is_sized,
+    rows_are_comparisons, zeros_change_nothing,
 };
 pub use node_laws::{
     closed_is_result, listing_is_method, node_end_is_one, node_stop_is_one, pivots_are_few,
