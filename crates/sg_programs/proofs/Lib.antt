@@ -1,8 +1,14 @@
 pub mod Columns
 pub mod Comparisons
 pub mod Heights
-pub mod Sized
 pub mod Kept
-pub mod Worked
-pub mod Multipliers
+pub mod ListedPlays
 pub mod Looks
+pub mod Multiples
+pub mod Multipliers
+pub mod NodeEnds
+pub mod PlayPoints
+pub mod PointSums
+pub mod Refused
+pub mod Sized
+pub mod Worked

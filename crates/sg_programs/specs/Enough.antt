@@ -1,7 +1,12 @@
 -- How many nodes and looks are enough, whatever the numbers of a game are. How many pivots are, `enough_pivots` says of any program.
-use Rattle.std.specs.Prelude.{ℕ, zero, suc, ◌+◌, ◌*◌, if◌then◌else◌, List, [], ◌∷◌, length, nat_eq, sum_by}
+use Rattle.std.specs.Prelude.{ℕ, zero, suc, ◌+◌, ◌*◌, ◌/◌, min, if◌then◌else◌, List, [], ◌∷◌, length, sum_by}
 use Rattle.sg_model.specs.Sums.{numbers}
+use Rattle.sg_model.specs.Limits.{program_rows}
 use Rattle.sg_model.specs.Games.{Game, action_count, is_matrix, resource_count, resource_schedules}
+
+-- how many nodes a search may work: so many, and no more than 6,000,000 rows of programs together
+abbrev pub node_budget : Game → ℕ → ℕ
+node_budget g nodes = min nodes (6000000 / program_rows g)
 
 -- the product of the action counts of these types
 abbrev pub action_lists : Game → List ℕ → ℕ

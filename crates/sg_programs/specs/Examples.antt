@@ -14,7 +14,8 @@ use Rattle.sg_programs.specs.Enough.{enough_looks}
 use Rattle.sg_search.specs.CountLaws.{enough_nodes}
 use Rattle.sg_programs.specs.Marks.{plays_fact}
 use Rattle.sg_programs.specs.Plays.{column_of, play_of, plays_program}
-use Rattle.sg_programs.specs.Shown.{both_bounds, point_steps}
+use Rattle.sg_programs.specs.Points.{point_steps}
+use Rattle.sg_programs.specs.Shown.{both_bounds}
 use Rattle.sg_bounds.specs.SizeSteps.{size_steps}
 
 -- a program by its plays, their costs, and their entries in the rows from 0

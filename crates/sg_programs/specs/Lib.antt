@@ -2,7 +2,13 @@ pub mod Plays
 pub mod Enough
 pub mod Sparse
 pub mod Marks
+pub mod Points
 pub mod Shown
+pub mod NodeTests
+pub mod CauseRows
 pub mod Laws
 pub mod Examples
+pub mod Refusals
 pub mod FactLaws
+pub mod PointLaws
+pub mod NodeLaws

@@ -1,88 +1,66 @@
--- What is formed at the end of a node's run, as lists of operations in their order.
-use Rattle.std.specs.Prelude.{ℕ, zero, suc, ◌+◌, ◌-◌, ◌*◌, ◌/◌, ◌%◌, Bool, true, false, ◌&&◌, if◌then◌else◌, List, [], ◌∷◌, ◌++◌, map, length, flat_map, filter, ℤ, pos, ◌+ℤ◌, ◌-ℤ◌, ◌*ℤ◌, int_lt, nat_eq, unsigned_abs}
-use Rattle.std.specs.List.{range_with_len}
+-- What is formed at the end of a node's run, in its order, and the first operation there that doesn't fit.
+use Rattle.std.specs.Prelude.{◌≡◌, ◌⊎◌, ◌∷◌, ◌++◌, List, [], length, if◌then◌else◌, nat_eq, pos, ◌<ℤ◌, Option, Some, None}
 use Rattle.sg_num.specs.declared.step.Wide.{Wide}
-use Rattle.sg_frac.specs.Fractions.{Fraction}
-use Rattle.sg_model.specs.Sums.{numbers_from, total}
+use Rattle.sg_num.specs.Operations.{times}
+use Rattle.sg_model.specs.declared.ticket.Ticket.{Ticket}
+use Rattle.sg_model.specs.Commitments.{weight_total}
+use Rattle.sg_model.specs.Sums.{numbers}
 use Rattle.sg_model.specs.Games.{Game, prior_total}
-use Rattle.sg_model.specs.Payoffs.{greatest_of, shift_of}
+use Rattle.sg_commit.specs.Committed.{Committed, IsCommitted}
+use Rattle.sg_commit.specs.Parts.{AreMultiple}
+use Rattle.sg_commit.specs.SumSteps.{worth_steps}
 use Rattle.sg_search.specs.Results.{most_caps, least_caps}
 use Rattle.sg_tree.specs.declared.fact.Fact.{Fact}
 use Rattle.sg_tree.specs.declared.fix.Fix.{Fix}
-use Rattle.sg_tree.specs.declared.report.Cap.{Cap}
-use Rattle.sg_bounds.specs.Facts.{mu_of, rho_of}
-use Rattle.sg_bounds.specs.Leaves.{rest_of}
-use Rattle.sg_bounds.specs.Sizes.{attacker_most, defender_most, fixed_priors, multipliers_of}
-use Rattle.sg_bounds.specs.SizeSteps.{running_steps, bound_steps}
-use Rattle.sg_rows.specs.Rows.{dot_steps, place}
-use Rattle.sg_num.specs.Operations.{plus, times}
-use Rattle.sg_lp.specs.declared.column.Enter.{Enter}
-use Rattle.sg_lp.specs.declared.column.Enter.TheVariants.{Slack, Col}
-use Rattle.sg_lp.specs.Programs.{Program}
-use Rattle.sg_lp.specs.Moves.{entries_of, product_with}
-use Rattle.sg_lp.specs.States.{Tableau, member_at, row_at}
-
--- ---- sizes and bounds of facts
+use Rattle.sg_bounds.specs.SizeSteps.{bound_steps, size_steps}
+use Rattle.sg_rows.specs.Rows.{place}
+use Rattle.sg_lp.specs.Moves.{NamedStep, first_shown, under_name}
+use Rattle.sg_lp.specs.States.{Tableau}
+use Rattle.sg_programs.specs.Marks.{plays_fact}
+use Rattle.sg_programs.specs.Plays.{plays_program}
+use Rattle.sg_programs.specs.Points.{point_steps, point_tickets}
 
 -- of a prefix the bound under the greatest caps, and then under the least; of a cap's node none
 abbrev pub both_bounds : Game → Fix → Fact → List Wide
 both_bounds g fix f = if nat_eq fix.first 1 then (bound_steps g (most_caps g) (length fix.acts) f ++ bound_steps g (least_caps g) (length fix.acts) f) else []
 
--- ---- points
+-- the size sum and the bounds of a fact
+abbrev pub fact_values : Game → Fix → Fact → List NamedStep
+fact_values g fix f = under_name 4 (size_steps g fix f ++ both_bounds g fix f)
 
--- Euclid's method of remainders, in at most n steps
-abbrev pub euclid : ℕ → ℕ → ℕ → ℕ
-euclid zero a b = a
-euclid (suc n) a zero = a
-euclid (suc n) a (suc b) = euclid n (suc b) (a % suc b)
+-- the worth of a commitment, and then its total times the sum of the priors
+abbrev pub commitment_values : Game → List Ticket → List NamedStep
+commitment_values g k = under_name 6 (worth_steps g k (pos 0) (numbers (length g.types))) ++ under_name 7 (times (weight_total k) (prior_total g) ∷ [])
 
--- the greatest common divisor
-abbrev pub gcd_of : ℕ → ℕ → ℕ
-gcd_of a b = euclid (suc b) a b
+-- the fact of a final state: its multipliers
+abbrev pub fact_at : Game → Fix → Tableau → Fact
+fact_at g fix t = plays_fact g fix t.y t.rho
 
--- the quotient of two numbers above 0 in lowest terms
-abbrev pub lowest_of : ℤ → ℤ → Fraction
-lowest_of n d = record { num = pos (unsigned_abs n / gcd_of (unsigned_abs n) (unsigned_abs d)); den = pos (unsigned_abs d / gcd_of (unsigned_abs n) (unsigned_abs d)) }
+-- the commitment of a final state: that of its point
+abbrev pub IsCommitmentAt : Game → Fix → Tableau → Committed → Type 0
+IsCommitmentAt g fix t k = IsCommitted k × AreMultiple (point_tickets (plays_program g fix) t) k.tickets
 
--- whether a member is a column
-abbrev pub is_column : Enter → Bool
-is_column (Slack i) = false
-is_column (Col c) = true
+-- the same where there is a point, that is where the multiplier of the whole isn't 0
+abbrev pub IsPointAt : Game → Fix → Tableau → Option Committed → Type 0
+IsPointAt g fix t None = place t.y 0 ≡ pos 0
+IsPointAt g fix t (Some k) = (pos 0 <ℤ place t.y 0) × IsCommitmentAt g fix t k
 
--- the rows of the point, rising: those of columns with a first place above 0
-abbrev pub point_rows : Program → Tableau → List ℕ
-point_rows p t = filter (λ (i : ℕ). is_column (member_at t i) && int_lt (pos 0) (place (row_at t i) 0)) (range_with_len 0 p.height)
+-- what a first list of values shows is shown, and else what later ones do
+abbrev pub ShowsOr : Option NamedStep → Type 0 → Option NamedStep → Type 0
+ShowsOr (Some s) Later shown = shown ≡ Some s
+ShowsOr None Later shown = Later
 
--- the weight of a row's column, over 1: the first place of the row's list over the list's product with the column
-abbrev pub weight_at : Program → Tableau → ℕ → Fraction
-weight_at p t i = lowest_of (place (row_at t i) 0) (product_with p (member_at t i) (row_at t i))
+-- of the commitment of the point
+abbrev pub CommitmentShows : Game → Fix → Tableau → Option NamedStep → Type 0
+CommitmentShows g fix t shown = (k : Committed) × (IsCommitmentAt g fix t k × (first_shown (commitment_values g k.tickets) ≡ shown))
 
--- the weights in their order
-abbrev pub weights_of : Program → Tableau → List Fraction
-weights_of p t = map (weight_at p t) (point_rows p t)
+-- of the point, if there is one, and then of its commitment
+abbrev pub PointShows : Game → Fix → Tableau → Option NamedStep → Type 0
+PointShows g fix t shown =
+    ((place t.y 0 ≡ pos 0) × (shown ≡ None))
+    ⊎ ((pos 0 <ℤ place t.y 0) × ShowsOr (first_shown (under_name 5 (point_steps (plays_program g fix) t))) (CommitmentShows g fix t shown) shown)
 
--- the least common multiple so far and each next denominator: the quotient of the multiple by their common divisor, times the denominator
-abbrev pub multiple_steps : ℕ → List Fraction → List Wide
-multiple_steps m [] = []
-multiple_steps m (f ∷ fs) =
-    times (pos (m / gcd_of m (unsigned_abs f.den))) f.den ∷ multiple_steps (m / gcd_of m (unsigned_abs f.den) * unsigned_abs f.den) fs
-
--- and the last multiple
-abbrev pub common_multiple : ℕ → List Fraction → ℕ
-common_multiple m [] = m
-common_multiple m (f ∷ fs) = common_multiple (m / gcd_of m (unsigned_abs f.den) * unsigned_abs f.den) fs
-
--- a weight over a whole that its denominator divides, and how it is formed: numerator times quotient
-abbrev pub whole_weight : ℕ → Fraction → ℤ
-whole_weight m f = f.num *ℤ pos (m / unsigned_abs f.den)
-
-abbrev pub weight_step : ℕ → Fraction → Wide
-weight_step m f = times f.num (pos (m / unsigned_abs f.den))
-
--- the values under a point: the products by row; the multiples of the denominators; the weights over the last; their running total
-abbrev pub point_steps : Program → Tableau → List Wide
-point_steps p t =
-    flat_map (λ (i : ℕ). dot_steps (pos 0) (row_at t i) (entries_of p (member_at t i))) (point_rows p t)
-    ++ (multiple_steps 1 (weights_of p t)
-    ++ (map (weight_step (common_multiple 1 (weights_of p t))) (weights_of p t)
-    ++ running_steps (pos 0) (map (whole_weight (common_multiple 1 (weights_of p t))) (weights_of p t))))
+-- what the end of a node's run shows: the first operation that doesn't fit of the size sum and the bounds of its fact, of its point, of the worth
+-- of its commitment and of the total times the priors, with the number of the value; or nothing
+abbrev pub EndShows : Game → Fix → Tableau → Option NamedStep → Type 0
+EndShows g fix t shown = ShowsOr (first_shown (fact_values g fix (fact_at g fix t))) (PointShows g fix t shown) shown

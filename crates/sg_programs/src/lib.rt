@@ -1,6 +1,6 @@
 //! The linear programs of the nodes of a game, and what holds of them; no code.
 //!
-//! The definitions stand in `specs/`: `Plays` (the program over all legal plays), `Marks` (the fact that multipliers are), `Shown` (what is formed at the end of a run),
+//! The definitions stand in `specs/`: `Plays` (the program over all legal plays), `Marks` (the fact that multipliers are), `Points` (the point of a state and what is formed under it), `Shown` (what is formed at the end of a run), `NodeTests` (when a run ends, what closes a node and what stops it), `CauseRows` (what each cause of a gap says),
 //! `Enough` (how many nodes, looks and pivots are enough) and `Sparse` (products of rows with many zeros). The functions
 //! below carry laws about them: each has an empty body, and its contract is a statement of `specs/Laws.antt`.
 #![tactic(auto)]
@@ -8,10 +8,20 @@
 mod examples;
 mod fact_laws;
 mod laws;
+mod node_laws;
+mod point_laws;
 
-pub use examples::worked_programs;
+pub use examples::{worked_programs, worked_refusals};
 pub use fact_laws::{final_is_fact, marks_rise};
 pub use laws::{
     columns_are_plays, looks_are_enough, program_is_bounded, program_is_sized,
     rows_are_comparisons, zeros_change_nothing,
+};
+pub use node_laws::{
+    closed_is_result, listing_is_method, node_end_is_one, node_stop_is_one, pivots_are_few,
+    stop_is_cause,
+};
+pub use point_laws::{
+    formed_point_has_no_fault, kept_reaches, multiples_are_least, no_point_means_empty,
+    point_reaches_fact, point_reaches_value, weights_are_shares,
 };

@@ -1,0 +1,10 @@
+-- Each operation is the first that doesn't fit.
+use Rattle.std.proofs.Common.{refl}
+use Rattle.sg_programs.specs.Refusals.{WorkedRefusals}
+
+pub worked_refusals : WorkedRefusals
+worked_refusals = record {
+  size = record { prior = refl; payoff = refl; marks = refl; twice = refl; both = refl };
+  bounds = record { rest = refl; sum = refl; priors = refl };
+  point = record { product = refl; running = refl; multiple = refl; weight = refl; total = refl };
+}
