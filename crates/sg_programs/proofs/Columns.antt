@@ -1,8 +1,7 @@
 -- The columns of a program of plays.
 use Rattle.std.proofs.Common.{◌≡◌, ℕ, ◌≤◌, Bool, true, false, List, length, map, replicate, sym, ap, subst, refl, arith, inl, inr, Option, Some, None, MatchBool, slice_index_or}
-use Rattle.std.specs.List.{All, Contains}
+use Rattle.std.specs.List.{All}
 use Rattle.std.specs.Prelude.{ℤ, pos, int_lt, ◌-◌}
-use Rattle.std.proofs.lemmas.Int.{ints}
 use Rattle.std.proofs.lemmas.List.Elements.{All-map}
 use Rattle.std.proofs.Math.Seq.{take-append_seam}
 use Rattle.sg_model.specs.Games.{Game, is_matrix, resource_count}
@@ -13,8 +12,8 @@ use Rattle.sg_model.proofs.LegalPlays.{legal_plays-complete, legal_plays-legal}
 use Rattle.sg_model.proofs.Payoffs.{Contains-map}
 use Rattle.sg_model.proofs.Promises.{game_cases}
 use Rattle.sg_lp.specs.declared.column.Column.{Column}
-use Rattle.sg_programs.specs.Plays.{column_of, play_of, plays_program}
-use Rattle.sg_programs.specs.Laws.{ColumnsArePlays, ListsPlays}
+use Rattle.sg_programs.specs.Plays.{column_of, play_of}
+use Rattle.sg_programs.specs.Laws.{ColumnsArePlays}
 
 few : (g : Game) (o : Option ℕ) → g.patrols ≡ o → IsDefended g o → is_scaled g ≡ false → resource_count g ≤ 32
 few g (Some n) e d f = let is : resource_count g ≡ n = rw e refl in let low = rw f at d.few in omega (arith, is, low)

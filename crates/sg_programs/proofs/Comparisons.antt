@@ -1,5 +1,5 @@
 -- The comparisons of a node, in their order.
-use Rattle.std.proofs.Common.{◌≡◌, ◌≢◌, ℕ, zero, suc, ◌+◌, ◌-◌, ◌<◌, ◌≤◌, Bool, true, false, cond, List, [], ◌∷◌, ◌++◌, length, map, sym, ◌∙◌, ap, subst, refl, arith, inl, inr, not, eqb, slice_index, slice_index_or, flat_map}
+use Rattle.std.proofs.Common.{◌≡◌, ◌≢◌, ℕ, zero, suc, ◌+◌, ◌-◌, ◌<◌, ◌≤◌, Bool, true, false, cond, List, [], ◌∷◌, length, sym, ◌∙◌, ap, subst, refl, arith, inl, inr, not, eqb, slice_index, slice_index_or, flat_map}
 use Rattle.std.specs.Prelude.{nat_eq}
 use Rattle.std.specs.List.{All, AllPairs, Contains, filter, zip}
 use Rattle.std.proofs.lemmas.Bool.{cases_eq}
@@ -14,10 +14,10 @@ use Rattle.sg_model.proofs.Lists.{All-flat_map}
 use Rattle.sg_model.proofs.Numbers.{All-numbers, All-numbers_from}
 use Rattle.sg_model.proofs.Payoffs.{Contains-flat_map, Contains-map}
 use Rattle.sg_tree.specs.declared.fix.Fix.{Fix}
-use Rattle.sg_bounds.specs.Regions.{IsFix, act_of, fixed}
+use Rattle.sg_bounds.specs.Regions.{act_of, fixed}
 use Rattle.sg_bounds.proofs.Cover.{fixed_pairs}
-use Rattle.sg_bounds.specs.PlayRows.{comparisons, other_actions}
-use Rattle.sg_programs.specs.Laws.{AreComparisons, ComesBefore, IsComparison, RowsAreComparisons}
+use Rattle.sg_bounds.specs.PlayRows.{other_actions}
+use Rattle.sg_programs.specs.Laws.{ComesBefore, IsComparison, RowsAreComparisons}
 
 abbrev pub apart : ℕ → ℕ → Bool
 apart a b = not (nat_eq a b)

@@ -1,5 +1,5 @@
 -- How many rows the program of a node has: no more than the largest program of its game.
-use Rattle.std.proofs.Common.{◌≡◌, ℕ, zero, suc, ◌+◌, ◌-◌, ◌*◌, ◌<◌, ◌≤◌, Bool, true, false, List, [], ◌∷◌, ◌++◌, length, map, sym, ◌∙◌, ap, refl, arith, inl, inr, eqb, flat_map, length-append, slice_index_or}
+use Rattle.std.proofs.Common.{◌≡◌, ℕ, zero, suc, ◌+◌, ◌-◌, ◌*◌, ◌<◌, ◌≤◌, true, false, List, [], ◌∷◌, ◌++◌, length, ◌∙◌, ap, refl, arith, inl, inr, eqb, flat_map, length-append}
 use Rattle.std.specs.List.{All, filter, sum_by, zip}
 use Rattle.std.specs.Prelude.{pos}
 use Rattle.std.proofs.lemmas.Bool.{cases_eq}
@@ -8,13 +8,12 @@ use Rattle.std.proofs.lemmas.List.{length-map}
 use Rattle.std.proofs.lemmas.List.Elements.{All-head, All-tail}
 use Rattle.std.proofs.lemmas.List.Sums.{sum_by-append, sum_by-cons}
 use Rattle.sg_model.specs.Sums.{nth, numbers, numbers_from}
-use Rattle.sg_model.specs.Games.{Attacker, Game, action_count, attacker, is_matrix, nobody, resource_count}
+use Rattle.sg_model.specs.Games.{Attacker, Game, action_count, nobody, resource_count}
 use Rattle.sg_model.specs.Limits.{IsGame, program_rows}
 use Rattle.sg_model.proofs.Forms.{no_matrix}
-use Rattle.sg_model.proofs.Numbers.{length-numbers_from}
 use Rattle.sg_model.proofs.Promises.{game_cases, yes_matrix}
 use Rattle.sg_tree.specs.declared.fix.Fix.{Fix}
-use Rattle.sg_bounds.specs.Regions.{IsFix, fixed}
+use Rattle.sg_bounds.specs.Regions.{IsFix}
 use Rattle.sg_bounds.specs.PlayRows.{comparisons, other_actions}
 use Rattle.sg_programs.proofs.Comparisons.{apart}
 

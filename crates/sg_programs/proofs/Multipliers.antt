@@ -1,14 +1,12 @@
 -- The multipliers of a final state are a fact.
-use Rattle.std.proofs.Common.{◌≡◌, ◌∙◌, ℕ, zero, suc, ◌+◌, ◌<◌, ◌≤◌, Bool, true, false, cond, List, [], ◌∷◌, length, map, drop, sym, ap, subst, refl, arith, slice_index_or, get_or}
-use Rattle.std.specs.Prelude.{ℤ, pos, ◌+ℤ◌, ◌-ℤ◌, ◌*ℤ◌, ◌≤ℤ◌, ◌<ℤ◌, int_lt, if◌then◌else◌}
-use Rattle.std.specs.List.{All, AllPairs, Contains}
+use Rattle.std.proofs.Common.{◌≡◌, ◌∙◌, ℕ, zero, suc, ◌+◌, ◌<◌, Bool, true, false, cond, List, [], ◌∷◌, length, drop, sym, ap, subst, refl, arith, slice_index_or, get_or}
+use Rattle.std.specs.Prelude.{ℤ, pos, ◌+ℤ◌, ◌*ℤ◌, ◌≤ℤ◌, ◌<ℤ◌, int_lt}
+use Rattle.std.specs.List.{All, AllPairs}
 use Rattle.std.proofs.lemmas.Int.{ints}
 use Rattle.std.proofs.lemmas.List.Elements.{All-cons, All-contains, All-head, All-nil, All-tail}
 use Rattle.std.proofs.lemmas.List.Kept.{AllPairs-cons}
 use Rattle.sg_num.proofs.Laws.{mul-comm, one-mul, zero-mul}
 use Rattle.sg_model.specs.Games.{Game}
-use Rattle.sg_model.specs.Payoffs.{shift_of}
-use Rattle.sg_model.specs.Plays.{IsLegal}
 use Rattle.sg_model.specs.PlayLists.{legal_plays}
 use Rattle.sg_model.specs.Sums.{total}
 use Rattle.sg_model.proofs.Before.{pairs-head, pairs-none, pairs-tail}
@@ -16,18 +14,16 @@ use Rattle.sg_model.proofs.LegalPlays.{legal_plays-complete}
 use Rattle.sg_model.proofs.Payoffs.{Contains-map}
 use Rattle.sg_tree.specs.declared.fact.Mark.{Mark}
 use Rattle.sg_tree.specs.declared.fix.Fix.{Fix}
-use Rattle.sg_bounds.specs.Regions.{IsFix}
 use Rattle.sg_bounds.specs.Facts.{IsMarkOf, cost, regret}
 use Rattle.sg_linear.specs.Sums.{dot, sum_below}
 use Rattle.sg_rows.specs.Rows.{place}
 use Rattle.sg_lp.specs.declared.column.Column.{Column}
-use Rattle.sg_lp.specs.Points.{IsDual}
 use Rattle.sg_lp.proofs.Values.{final_dual}
 use Rattle.sg_programs.specs.FactLaws.{FinalIsFact, MarksRise}
 use Rattle.sg_programs.specs.Laws.{ComesBefore, IsComparison}
 use Rattle.sg_programs.specs.Marks.{marks_of}
-use Rattle.sg_programs.specs.Plays.{column_of, play_of, plays_program}
-use Rattle.sg_bounds.specs.PlayRows.{comparison_at, comparisons, gain, play_entry}
+use Rattle.sg_programs.specs.Plays.{column_of, plays_program}
+use Rattle.sg_bounds.specs.PlayRows.{comparisons, gain, play_entry}
 use Rattle.sg_programs.proofs.Columns.{play-column}
 use Rattle.sg_programs.proofs.Comparisons.{rows_are_comparisons}
 

@@ -10,7 +10,7 @@ use Rattle.sg_num.proofs.Laws.{mul-comm, one-mul, zero-mul}
 use Rattle.sg_model.specs.Sums.{least, nth, numbers, numbers_from}
 use Rattle.sg_model.specs.Games.{Game, action_count, attacker, nobody, payoff, resource_count, resource_schedules}
 use Rattle.sg_model.specs.Limits.{IsGame, IsMatrixType, IsPay, IsSecurityType}
-use Rattle.sg_model.specs.Plays.{IsLegal, pay_a, pay_d}
+use Rattle.sg_model.specs.Plays.{IsLegal, pay_d}
 use Rattle.sg_model.specs.PlayLists.{legal_plays}
 use Rattle.sg_model.specs.Payoffs.{payoffs_at, payoffs_of, shift_of}
 use Rattle.sg_model.proofs.Forms.{no_matrix}
@@ -25,7 +25,7 @@ use Rattle.sg_bounds.proofs.Cover.{fixed_pairs}
 use Rattle.sg_bounds.proofs.SizeBounds.{play_sums}
 use Rattle.sg_linear.specs.Sums.{dot}
 use Rattle.sg_linear.proofs.SumLaws.{sum_below-one}
-use Rattle.sg_lp.specs.Programs.{Bounds, IsWithinLimits}
+use Rattle.sg_lp.specs.Programs.{Bounds}
 use Rattle.sg_num.specs.Exact.{IsAtMost}
 use Rattle.sg_programs.specs.Plays.{column_of, play_of, plays_program}
 use Rattle.sg_bounds.specs.PlayRows.{comparison_at, comparisons, play_entry}

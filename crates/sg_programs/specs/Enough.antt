@@ -1,5 +1,5 @@
 -- How many nodes and looks are enough, whatever the numbers of a game are. How many pivots are, `enough_pivots` says of any program.
-use Rattle.std.specs.Prelude.{ℕ, zero, suc, ◌+◌, ◌*◌, if◌then◌else◌, List, [], ◌∷◌, length, nat_eq, sum_by}
+use Rattle.std.specs.Prelude.{ℕ, zero, suc, ◌+◌, ◌*◌, if◌then◌else◌, List, [], ◌∷◌, length, sum_by}
 use Rattle.sg_model.specs.Sums.{numbers}
 use Rattle.sg_model.specs.Games.{Game, action_count, is_matrix, resource_count, resource_schedules}
 

@@ -1,6 +1,5 @@
 -- What holds of the program of a node over all legal plays.
-use Rattle.std.specs.Prelude.{◌≡◌, ◌≢◌, ◌↔◌, ℕ, zero, suc, ◌+◌, ◌<◌, ◌≤◌, ◌⊎◌, List, length, ℤ, pos, ◌*ℤ◌, All, AllPairs, Contains, Some, None, IsTrue, slice_index_or}
-use Rattle.sg_num.specs.Exact.{fits}
+use Rattle.std.specs.Prelude.{◌≡◌, ◌≢◌, ℕ, zero, suc, ◌+◌, ◌<◌, ◌≤◌, ◌⊎◌, List, length, ℤ, pos, ◌*ℤ◌, All, AllPairs, Contains}
 use Rattle.sg_model.specs.Games.{Game, action_count}
 use Rattle.sg_model.specs.Limits.{IsGame}
 use Rattle.sg_model.specs.Plays.{IsLegal}

@@ -1,15 +1,11 @@
 -- The program of a node over all legal plays.
 -- It asks for the greatest cost of a combination of plays, not below 0, that is at most 1 in row 0 and at most 0 in each other row: there
 -- a play has what a type gains by an action other than the fixed one.
-use Rattle.std.specs.Prelude.{ℕ, zero, suc, ◌+◌, ◌-◌, List, [], ◌∷◌, ◌++◌, map, length, replicate, take, flat_map, filter, ℤ, pos, ◌-ℤ◌, slice_index_or, nat_eq, not}
-use Rattle.sg_model.specs.Sums.{numbers}
-use Rattle.sg_model.specs.Games.{Game, action_count}
-use Rattle.sg_model.specs.Plays.{pay_a}
-use Rattle.sg_model.specs.Payoffs.{shift_of}
+use Rattle.std.specs.Prelude.{ℕ, ◌+◌, ◌-◌, List, ◌++◌, map, length, replicate, take}
+use Rattle.sg_model.specs.Games.{Game}
 use Rattle.sg_tree.specs.declared.fix.Fix.{Fix}
-use Rattle.sg_bounds.specs.Regions.{act_of, fixed}
 use Rattle.sg_bounds.specs.Facts.{cost}
-use Rattle.sg_bounds.specs.PlayRows.{other_actions, comparisons, comparison_at, play_entry}
+use Rattle.sg_bounds.specs.PlayRows.{comparisons, play_entry}
 use Rattle.sg_lp.specs.declared.column.Column.{Column}
 use Rattle.sg_lp.specs.Programs.{Program}
 use Rattle.sg_model.specs.PlayLists.{legal_plays}

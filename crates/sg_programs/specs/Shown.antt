@@ -1,21 +1,15 @@
 -- What is formed at the end of a node's run, as lists of operations in their order.
-use Rattle.std.specs.Prelude.{ℕ, zero, suc, ◌+◌, ◌-◌, ◌*◌, ◌/◌, ◌%◌, Bool, true, false, ◌&&◌, if◌then◌else◌, List, [], ◌∷◌, ◌++◌, map, length, flat_map, filter, ℤ, pos, ◌+ℤ◌, ◌-ℤ◌, ◌*ℤ◌, int_lt, nat_eq, unsigned_abs}
+use Rattle.std.specs.Prelude.{ℕ, zero, suc, ◌*◌, ◌/◌, ◌%◌, Bool, true, false, ◌&&◌, if◌then◌else◌, List, [], ◌∷◌, ◌++◌, map, length, flat_map, filter, ℤ, pos, ◌*ℤ◌, int_lt, nat_eq, unsigned_abs}
 use Rattle.std.specs.List.{range_with_len}
 use Rattle.sg_num.specs.declared.step.Wide.{Wide}
 use Rattle.sg_frac.specs.Fractions.{Fraction}
-use Rattle.sg_model.specs.Sums.{numbers_from, total}
-use Rattle.sg_model.specs.Games.{Game, prior_total}
-use Rattle.sg_model.specs.Payoffs.{greatest_of, shift_of}
+use Rattle.sg_model.specs.Games.{Game}
 use Rattle.sg_search.specs.Results.{most_caps, least_caps}
 use Rattle.sg_tree.specs.declared.fact.Fact.{Fact}
 use Rattle.sg_tree.specs.declared.fix.Fix.{Fix}
-use Rattle.sg_tree.specs.declared.report.Cap.{Cap}
-use Rattle.sg_bounds.specs.Facts.{mu_of, rho_of}
-use Rattle.sg_bounds.specs.Leaves.{rest_of}
-use Rattle.sg_bounds.specs.Sizes.{attacker_most, defender_most, fixed_priors, multipliers_of}
 use Rattle.sg_bounds.specs.SizeSteps.{running_steps, bound_steps}
 use Rattle.sg_rows.specs.Rows.{dot_steps, place}
-use Rattle.sg_num.specs.Operations.{plus, times}
+use Rattle.sg_num.specs.Operations.{times}
 use Rattle.sg_lp.specs.declared.column.Enter.{Enter}
 use Rattle.sg_lp.specs.declared.column.Enter.TheVariants.{Slack, Col}
 use Rattle.sg_lp.specs.Programs.{Program}

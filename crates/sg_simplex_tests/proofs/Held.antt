@@ -1,7 +1,7 @@
 -- What the columns of a table are: their costs and entries, and that the program is within its limits and bounded.
-use Rattle.std.proofs.Common.{◌≡◌, ◌≢◌, ◌∙◌, ℕ, zero, suc, ◌+◌, ◌<◌, ◌≤◌, ◌^◌, ◌⊎◌, inl, inr, List, [], ◌∷◌, ◌++◌, length, map, slice_index_or, ap, arith, sym, subst, refl, length-append}
+use Rattle.std.proofs.Common.{◌≡◌, ◌≢◌, ◌∙◌, ℕ, zero, suc, ◌+◌, ◌<◌, ◌≤◌, ◌^◌, ◌⊎◌, inl, inr, List, [], ◌∷◌, ◌++◌, length, slice_index_or, ap, arith, sym, subst, refl, length-append}
 use Rattle.std.specs.Prelude.{ℤ, pos, ◌*ℤ◌, ◌≤ℤ◌, All}
-use Rattle.std.specs.List.{Contains, range_with_len}
+use Rattle.std.specs.List.{Contains}
 use Rattle.std.proofs.lemmas.List.{get_or_append_left, get_or-append-add}
 use Rattle.std.proofs.lemmas.List.FromFn.{fill_by_all, get_or-map-range_with_len, length-map-range_with_len}
 use Rattle.std.proofs.lemmas.Int.{ints}
@@ -70,10 +70,13 @@ module _ (v : TableView) (is : IsBoundedTable v) where
   }
 
   pub is_bounded : IsBounded (table_program v)
-  is_bounded = (bounding, record {
-    nonnegative = λ j lt. bounding-nonneg j;
-    allows = of_all (λ c. (table_program v).cost c ≤ℤ dot v.height bounding ((table_program v).entry c)) (λ k lt. allowed v.height (place v.costs k) (slice_index_or v.entries k []) is.some (is.columns k lt));
-  })
+  is_bounded = (
+    bounding,
+    record {
+      nonnegative = λ j lt. bounding-nonneg j;
+      allows = of_all (λ c. (table_program v).cost c ≤ℤ dot v.height bounding ((table_program v).entry c)) (λ k lt. allowed v.height (place v.costs k) (slice_index_or v.entries k []) is.some (is.columns k lt));
+    },
+  )
 
 -- what is kept, as the table is seen
 pub table-by : (v inner : TableView) → inner ≡ v → IsBoundedTable inner → IsBoundedTable v
