@@ -1,12 +1,11 @@
 -- What the tables of a listing hold: the costs and entries of the node's program.
 use Rattle.std.proofs.Common.{◌≡◌, ◌∙◌, ℕ, zero, suc, ◌+◌, ◌<◌, ◌≤◌, List, [], length, map, sym, ap, subst, refl, arith, slice_index_or, get_or}
-use Rattle.std.specs.Prelude.{ℤ, pos}
+use Rattle.std.specs.Prelude.{ℤ}
 use Rattle.std.specs.List.{Contains}
 use Rattle.std.proofs.lemmas.List.{get_or-map, length-map}
 use Rattle.std.proofs.lemmas.Slice.Zip.{AllZip-long}
 use Rattle.sg_model.specs.Games.{Game}
 use Rattle.sg_model.specs.Limits.{IsGame}
-use Rattle.sg_model.specs.Payoffs.{shift_of}
 use Rattle.sg_model.specs.PlayLists.{legal_plays, play_count}
 use Rattle.sg_model.proofs.LegalPlays.{legal_plays_are_counted}
 use Rattle.sg_tree.specs.declared.fix.Fix.{Fix}
@@ -18,7 +17,7 @@ use Rattle.sg_lp.specs.Pricing.{Answer, clean, found, spent, wide}
 use Rattle.sg_lp.specs.Programs.{IsBounded, IsWithinLimits}
 use Rattle.sg_programs.specs.Laws.{bounding}
 use Rattle.sg_programs.specs.Plays.{column_of, play_of, plays_program}
-use Rattle.sg_bounds.specs.PlayRows.{comparison_at, comparisons, gain, play_entry}
+use Rattle.sg_bounds.specs.PlayRows.{comparison_at, comparisons, play_entry}
 use Rattle.sg_programs.proofs.Columns.{play-column}
 use Rattle.sg_programs.proofs.Heights.{height-few}
 use Rattle.sg_programs.proofs.Sized.{program_is_bounded, program_is_sized}

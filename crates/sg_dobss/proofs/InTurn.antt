@@ -4,7 +4,7 @@ use Rattle.std.specs.Prelude.{ℤ, pos, ◌*ℤ◌, int_lt, if◌then◌else◌}
 use Rattle.std.proofs.lemmas.List.FromFn.{get_or-map-range_with_len, length-map-range_with_len}
 use Rattle.sg_num.specs.declared.step.Wide.{Wide}
 use Rattle.sg_num.specs.Operations.{first_wide, is_formed, times}
-use Rattle.sg_rows.specs.Rows.{dot_from, dot_steps, place}
+use Rattle.sg_rows.specs.Rows.{place}
 use Rattle.sg_lp.specs.declared.column.Column.{Column}
 use Rattle.sg_lp.specs.declared.column.Enter.TheVariants.{Col}
 use Rattle.sg_lp.specs.Programs.{Program}

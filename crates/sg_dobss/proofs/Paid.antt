@@ -1,5 +1,5 @@
 -- What actions pay, play by play.
-use Rattle.std.proofs.Common.{◌≡◌, ◌∙◌, ℕ, suc, ◌+◌, ◌-◌, ◌<◌, ◌≤◌, Bool, true, false, cond, List, [], ◌∷◌, length, map, sym, ap, subst, refl, arith, slice_index_or, get_or}
+use Rattle.std.proofs.Common.{◌≡◌, ◌∙◌, ℕ, ◌+◌, ◌-◌, ◌<◌, ◌≤◌, Bool, true, false, cond, List, [], ◌∷◌, length, map, sym, ap, subst, refl, arith, slice_index_or, get_or}
 use Rattle.std.specs.Prelude.{ℤ, pos}
 use Rattle.std.specs.List.{Contains}
 use Rattle.std.proofs.lemmas.List.{get_or-map, length-map}
@@ -7,7 +7,7 @@ use Rattle.sg_model.specs.declared.kind.Kind.TheVariants.{Matrix}
 use Rattle.sg_model.specs.Games.{Game, is_kind_matrix, is_matrix}
 use Rattle.sg_model.specs.Limits.{IsGame, IsPay}
 use Rattle.sg_model.specs.Sums.{nth, numbers}
-use Rattle.sg_model.specs.Plays.{covers, pay_a, pay_d}
+use Rattle.sg_model.specs.Plays.{covers}
 use Rattle.sg_model.specs.PlayLists.{legal_plays, play_count}
 use Rattle.sg_model.proofs.Numbers.{length-numbers_from, nth-is, nth-numbers_from}
 use Rattle.sg_model.proofs.Promises.{pay_a-in_range, pay_d-in_range}

@@ -1,5 +1,5 @@
 -- Joint schedules by their places: numbers in mixed radix.
-use Rattle.std.proofs.Common.{◌≡◌, ◌∙◌, ℕ, zero, suc, ◌+◌, ◌-◌, ◌*◌, ◌/◌, ◌%◌, ◌<◌, ◌≤◌, false, List, [], ◌∷◌, ◌++◌, length, map, drop, replicate, flat_map, sym, ap, subst, refl, arith, slice_index, slice_index_or, get_or, length-append, set, append_assoc}
+use Rattle.std.proofs.Common.{◌≡◌, ◌∙◌, ℕ, zero, suc, ◌+◌, ◌-◌, ◌*◌, ◌/◌, ◌%◌, ◌<◌, ◌≤◌, false, List, [], ◌∷◌, ◌++◌, length, map, drop, replicate, flat_map, sym, ap, subst, refl, arith, slice_index, get_or, length-append, set, append_assoc}
 use Rattle.std.specs.List.{Contains}
 use Rattle.std.proofs.lemmas.List.{append-nil, get_or-drop, get_or-map, get_or_append_left, get_or-append-add, length-map}
 use Rattle.std.proofs.lemmas.Nat.{div-mul-add}
@@ -7,7 +7,7 @@ use Rattle.std.proofs.Math.Nat.{div-le_self, div-lt_iff_lt-mul}
 use Rattle.std.proofs.Math.Seq.{set-append_seam}
 use Rattle.sg_model.specs.Games.{Game, is_matrix, resource_count, resource_schedules}
 use Rattle.sg_model.specs.Sums.{numbers_from}
-use Rattle.sg_model.specs.PlayLists.{choices_from, choices_of, joint_plays, legal_plays, play_count}
+use Rattle.sg_model.specs.PlayLists.{choices_from, joint_plays, legal_plays, play_count}
 use Rattle.sg_model.proofs.LegalPlays.{legal_plays_are_counted}
 use Rattle.sg_model.proofs.Lists.{length-flat_map-same}
 use Rattle.sg_model.proofs.Numbers.{length-numbers_from, nth-numbers_from}

@@ -1,5 +1,5 @@
 -- Sums of products at some places, formed one after another.
-use Rattle.std.proofs.Common.{◌≡◌, ◌∙◌, ℕ, ◌+◌, ◌<◌, List, [], ◌∷◌, drop, length, sym, ap, arith, get_or, Result, Ok, Err}
+use Rattle.std.proofs.Common.{◌≡◌, ◌∙◌, ℕ, ◌+◌, ◌<◌, List, drop, length, sym, ap, get_or, Result, Ok, Err}
 use Rattle.std.specs.Prelude.{ℤ, ◌+ℤ◌, ◌*ℤ◌}
 use Rattle.std.proofs.lemmas.List.{drop_more}
 use Rattle.sg_num.specs.declared.step.Wide.{Wide}

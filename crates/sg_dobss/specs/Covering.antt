@@ -1,5 +1,5 @@
 -- What plays cover, for all plays of a game at once.
-use Rattle.std.specs.Prelude.{◌≡◌, ℕ, ◌-◌, ◌≤◌, Bool, false, List, [], map, length, nat_eq, slice_index_or}
+use Rattle.std.specs.Prelude.{◌≡◌, ℕ, ◌≤◌, Bool, false, List, [], map, length, nat_eq}
 use Rattle.std.specs.List.{list_any}
 use Rattle.sg_model.specs.Games.{Game, is_matrix, resource_schedules, schedule_targets}
 use Rattle.sg_model.specs.PlayLists.{legal_plays}

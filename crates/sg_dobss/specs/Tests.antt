@@ -1,5 +1,5 @@
 -- What the test of a column says, and what pricing answers by places.
-use Rattle.std.specs.Prelude.{◌≡◌, ℕ, zero, suc, ◌<◌, Bool, true, false, List, length, ℤ, pos, negsuc, Some, None, slice_index_or}
+use Rattle.std.specs.Prelude.{◌≡◌, zero, suc, ◌<◌, Bool, true, false, List, length, ℤ, pos, negsuc, Some, None, slice_index_or}
 use Rattle.sg_num.specs.declared.step.Wide.{Wide}
 use Rattle.sg_num.specs.Operations.{first_wide}
 use Rattle.sg_lp.specs.declared.column.Column.{Column}

@@ -1,5 +1,5 @@
 -- A play written into a column, choice by choice.
-use Rattle.std.proofs.Common.{◌≡◌, ◌∙◌, ℕ, suc, ◌+◌, ◌-◌, ◌<◌, ◌≤◌, List, [], ◌∷◌, ◌++◌, length, take, replicate, slice_index_or, slice_set, ap, arith, sym, refl, append_assoc}
+use Rattle.std.proofs.Common.{◌≡◌, ◌∙◌, ℕ, suc, ◌+◌, ◌-◌, ◌<◌, ◌≤◌, List, [], ◌∷◌, ◌++◌, length, take, replicate, slice_index_or, slice_set, ap, arith, sym, append_assoc}
 use Rattle.std.proofs.lemmas.List.{length-take, set-append_right, take_all, take_more}
 
 pub written : (p code : List ℕ) (i v : ℕ) → i < length p → length p ≤ 32 → v ≡ slice_index_or p i 0 → code ≡ take i p ++ replicate (32 - i) 0 → slice_set code i v ≡ take (i + 1) p ++ replicate (32 - (i + 1)) 0

@@ -1,6 +1,6 @@
 -- Two states with the same basis are the same.
-use Rattle.std.proofs.Common.{◌≡◌, ◌≢◌, ℕ, suc, ◌<◌, ◌⊎◌, inl, inr, [], ◌∷◌, length, slice_index_or, ap, arith, sym, ◌∙◌, subst}
-use Rattle.std.specs.Prelude.{ℤ, pos, ◌-ℤ◌, ◌*ℤ◌, ◌<ℤ◌, List}
+use Rattle.std.proofs.Common.{◌≡◌, ℕ, suc, ◌<◌, ◌⊎◌, inl, inr, [], ◌∷◌, length, slice_index_or, ap, arith, sym, ◌∙◌, subst}
+use Rattle.std.specs.Prelude.{ℤ, pos, ◌-ℤ◌, ◌*ℤ◌, List}
 use Rattle.std.proofs.lemmas.Int.{ints}
 use Rattle.sg_num.proofs.Ring.{var, num, ◌⊖◌, ◌⊗◌, ring}
 use Rattle.sg_linear.specs.Sums.{combined, dot}

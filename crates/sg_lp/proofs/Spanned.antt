@@ -1,6 +1,6 @@
 -- The members of a state with the places of its lists as factors make the unit lists.
 use Rattle.std.proofs.Common.{◌≡◌, ℕ, ◌<◌, [], ◌∷◌, ap, sym, ◌∙◌}
-use Rattle.std.specs.Prelude.{ℤ, pos, ◌*ℤ◌, ◌<ℤ◌}
+use Rattle.std.specs.Prelude.{ℤ, ◌*ℤ◌}
 use Rattle.sg_num.proofs.Ring.{var, ◌⊗◌, ring}
 use Rattle.sg_num.proofs.Signs.{cancel}
 use Rattle.sg_linear.specs.Sums.{dot, sum_below, unit}

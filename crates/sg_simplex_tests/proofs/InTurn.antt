@@ -1,13 +1,11 @@
 -- Testing the columns of a table in turn.
-use Rattle.std.proofs.Common.{◌≡◌, ◌∙◌, ℕ, ◌+◌, ◌<◌, ◌≤◌, Bool, true, false, List, [], ◌∷◌, drop, length, slice_index_or, refl, ap, arith, sym, Option, Some, None}
+use Rattle.std.proofs.Common.{◌≡◌, ◌∙◌, ℕ, ◌+◌, ◌<◌, ◌≤◌, Bool, true, false, List, [], ◌∷◌, drop, length, slice_index_or, refl, ap, arith, sym, Some, None}
 use Rattle.std.specs.Prelude.{ℤ, pos, ◌*ℤ◌, int_lt}
 use Rattle.sg_num.specs.declared.step.Wide.{Wide}
 use Rattle.sg_num.specs.Operations.{first_wide, times}
 use Rattle.sg_rows.specs.Rows.{dot_from, dot_steps, place}
 use Rattle.sg_lp.specs.declared.column.Column.{Column}
-use Rattle.sg_lp.specs.declared.column.Enter.TheVariants.{Col}
 use Rattle.sg_lp.specs.Programs.{Program}
-use Rattle.sg_lp.specs.Moves.{entries_of}
 use Rattle.sg_lp.specs.Pricing.{Answer, clean, found, spent, wide}
 use Rattle.sg_lp.specs.Listing.{enters, listing_answer, price_steps}
 use Rattle.sg_lp.proofs.InTurn as turn

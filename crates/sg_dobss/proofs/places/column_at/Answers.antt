@@ -1,5 +1,4 @@
-use Rattle.std.proofs.Common.{◌∙◌, ap, sym, ◌∷◌, []}
-use Rattle.sg_programs.specs.Plays.{column_of}
+use Rattle.std.proofs.Common.{◌∙◌}
 use Rattle.sg_dobss.proofs.Paid.{row-column}
 use Rattle.sg_dobss.proofs.places.column_at.Goals as goal
 

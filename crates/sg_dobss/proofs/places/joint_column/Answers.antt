@@ -1,4 +1,4 @@
-use Rattle.std.proofs.Common.{◌∙◌, arith, ap, length}
+use Rattle.std.proofs.Common.{arith, ap, length}
 use Rattle.sg_programs.proofs.Columns.{few_resources}
 use Rattle.sg_dobss.proofs.Ranks.{digit-small, size-some, unrank-begin, unrank-column, unrank-step}
 use Rattle.sg_dobss.proofs.places.joint_column.Goals as goal

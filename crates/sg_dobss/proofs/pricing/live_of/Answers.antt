@@ -1,4 +1,3 @@
-use Rattle.std.proofs.Common.{◌∙◌}
 use Rattle.sg_dobss.proofs.Living.{living-all, living-more-by, living-zero-by}
 use Rattle.sg_dobss.proofs.pricing.live_of.Goals as goal
 use Rattle.sg_dobss.proofs.pricing.live_of.Goals.{then-is_live, else-is_live}

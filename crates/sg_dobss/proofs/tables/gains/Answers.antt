@@ -1,6 +1,4 @@
-use Rattle.std.proofs.Common.{subst}
 use Rattle.sg_model.specs.Plays.{pay_a}
-use Rattle.sg_dobss.specs.Paying.{AreByPlay, AreNumbers}
 use Rattle.sg_dobss.proofs.Gains.{gained}
 use Rattle.sg_dobss.proofs.tables.gains.Goals as goal
 

@@ -1,4 +1,3 @@
-use Rattle.std.proofs.Common.{subst, sym, ◌∙◌, arith}
 use Rattle.sg_dobss.proofs.Gains.{type-more-by, type-same-by}
 use Rattle.sg_dobss.proofs.tables.type_rows.Goals as goal
 use Rattle.sg_dobss.proofs.tables.type_rows.Goals.{then-i-act+in_ok-row+in_ok-push, else-i-act}

@@ -1,5 +1,5 @@
 use Rattle.std.proofs.Common.{refl}
-use Rattle.sg_dobss_tests.proofs.Written.{all_written, written}
+use Rattle.sg_dobss_tests.proofs.Written.{written}
 use Rattle.sg_dobss_tests.proofs.asking.column.Goals as goal
 
 pub loop-i-preserved : goal.loop-i-preserved
