@@ -1,7 +1,7 @@
-//! The tests of commitments, of the splitting of counts, of fillings and of tables, over public calls alone.
+//! The tests of commitments, of the splitting of counts and of fillings, over public calls alone.
 //!
 //! Expected values were worked out by hand, or by a script that shares nothing with the program. The tests stand apart
-//! from the crates that they test (`sg_commit`, `sg_split`, `sg_origami`, `sg_report`) so that each of those is proved
+//! from the crates that they test (`sg_commit`, `sg_split`, `sg_origami`) so that each of those is proved
 //! once: a crate with tests is proved a second time with them.
 #![tactic(auto)]
 
@@ -15,7 +15,5 @@ mod fillings;
 mod games;
 #[cfg(test)]
 mod making;
-#[cfg(test)]
-mod tables;
 #[cfg(test)]
 mod wraps;

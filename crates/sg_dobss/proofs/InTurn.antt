@@ -1,10 +1,7 @@
--- Testing columns in turn.
-use Rattle.std.proofs.Common.{◌≡◌, ◌∙◌, ℕ, ◌+◌, ◌<◌, ◌≤◌, Bool, true, false, List, [], ◌∷◌, drop, length, map, slice_index_or, refl, ap, arith, sym, Option, Some, None}
-use Rattle.std.specs.Prelude.{ℤ, pos, ◌*ℤ◌, int_lt, nat_le, if◌then◌else◌}
-use Rattle.std.specs.List.{range_with_len}
-use Rattle.std.proofs.lemmas.List.{drop_all, drop_more}
+-- Testing plays in turn: what is formed at the multipliers other than 0 decides as the whole sum does.
+use Rattle.std.proofs.Common.{◌≡◌, ◌∙◌, ℕ, ◌+◌, ◌<◌, ◌≤◌, Bool, true, false, List, ◌∷◌, drop, length, slice_index_or, refl, ap, arith, sym, Option, Some, None}
+use Rattle.std.specs.Prelude.{ℤ, pos, ◌*ℤ◌, int_lt, if◌then◌else◌}
 use Rattle.std.proofs.lemmas.List.FromFn.{get_or-map-range_with_len, length-map-range_with_len}
-use Rattle.std.proofs.lemmas.Bool.Decides.{nat_tests}
 use Rattle.sg_num.specs.declared.step.Wide.{Wide}
 use Rattle.sg_num.specs.Operations.{first_wide, is_formed, times}
 use Rattle.sg_rows.specs.Rows.{dot_from, dot_steps, place}
@@ -12,8 +9,9 @@ use Rattle.sg_lp.specs.declared.column.Column.{Column}
 use Rattle.sg_lp.specs.declared.column.Enter.TheVariants.{Col}
 use Rattle.sg_lp.specs.Programs.{Program}
 use Rattle.sg_lp.specs.Moves.{entries_of}
-use Rattle.sg_lp.specs.Pricing.{Answer, clean, found, spent, wide}
-use Rattle.sg_lp.specs.Listing.{enters, listing_answer, price_steps, tested}
+use Rattle.sg_lp.specs.Pricing.{found, spent, wide}
+use Rattle.sg_lp.specs.Listing.{enters, listing_answer, price_steps}
+use Rattle.sg_lp.proofs.InTurn as turn
 use Rattle.sg_programs.specs.Sparse.{AreKept, steps_at, sum_at}
 use Rattle.sg_programs.proofs.Kept.{gives-self, kept-steps, kept-sum}
 use Rattle.sg_dobss.specs.Tables.{AreTablesOf, entry_in}
@@ -22,9 +20,6 @@ module _ (p : Program) (costs : List ℤ) (rows : List (List ℤ)) (t : AreTable
     (kept : (ys : List ℤ) → length ys ≡ length y → AreKept 0 y ys js) (rho : ℤ) (budget i : ℕ) (d : Column) (lt : i < length p.columns) where
   abbrev here : Column
   here = slice_index_or p.columns i d
-
-  abbrev rest : Answer
-  rest = listing_answer p y rho budget (i + 1) (drop (i + 1) p.columns)
 
   -- what is formed at the places kept
   abbrev steps : List Wide
@@ -53,30 +48,14 @@ module _ (p : Program) (costs : List ℤ) (rows : List (List ℤ)) (t : AreTable
       ap (λ (k : ℤ). int_lt (sum_at (place y) (λ j. entry_in rows j i) (pos 0) js) (rho *ℤ k)) (t.cost_at i d lt)
       ∙ ap (λ (z : ℤ). int_lt z (rho *ℤ p.cost here)) (sym (kept-sum (place y) (λ j. entry_in rows j i) 0 (pos 0) y (entries_of p (Col here)) js (gives-self y) gives (kept (entries_of p (Col here)) entries-long)))
 
-  opened : listing_answer p y rho budget i (drop i p.columns) ≡ (if nat_le budget i then spent else tested (first_wide steps) test here rest)
-  opened =
-      ap (listing_answer p y rho budget i) (drop_more p.columns i d lt)
-      ∙ ap (λ (o : Option Wide). if nat_le budget i then spent else tested o (enters p y rho here) here rest) (sym steps-are)
-      ∙ ap (λ (b : Bool). if nat_le budget i then spent else tested (first_wide steps) b here rest) (sym test-is)
-
   pub spent_at : budget ≤ i → listing_answer p y rho budget i (drop i p.columns) ≡ spent
-  spent_at h = opened ∙ (let e : nat_le budget i ≡ true = grind (arith, nat_tests) in rw e refl)
-
-  left : i < budget → nat_le budget i ≡ false
-  left h = grind (arith, nat_tests)
+  spent_at h = turn.spent_at p y rho budget i d lt h
 
   pub enters_at : i < budget → first_wide steps ≡ None → test ≡ true → listing_answer p y rho budget i (drop i p.columns) ≡ found here
-  enters_at h f e = opened ∙ ap (λ (b : Bool). if b then spent else tested (first_wide steps) test here rest) (left h) ∙ ap (λ (o : Option Wide). tested o test here rest) f ∙ ap (λ (b : Bool). tested None b here rest) e
+  enters_at h f e = turn.enters_at p y rho budget i d lt steps test steps-are test-is h f e
 
-  pub stays_at : i < budget → first_wide steps ≡ None → test ≡ false → listing_answer p y rho budget i (drop i p.columns) ≡ rest
-  stays_at h f e = opened ∙ ap (λ (b : Bool). if b then spent else tested (first_wide steps) test here rest) (left h) ∙ ap (λ (o : Option Wide). tested o test here rest) f ∙ ap (λ (b : Bool). tested None b here rest) e
+  pub stays_at : i < budget → first_wide steps ≡ None → test ≡ false → listing_answer p y rho budget i (drop i p.columns) ≡ listing_answer p y rho budget (i + 1) (drop (i + 1) p.columns)
+  stays_at h f e = turn.stays_at p y rho budget i d lt steps test steps-are test-is h f e
 
   pub fails_at : (w : Wide) → i < budget → first_wide steps ≡ Some w → listing_answer p y rho budget i (drop i p.columns) ≡ wide 2 w
-  fails_at w h f = opened ∙ ap (λ (b : Bool). if b then spent else tested (first_wide steps) test here rest) (left h) ∙ ap (λ (o : Option Wide). tested o test here rest) f
-
--- all columns were tested
-pub clean_at : (p : Program) (y : List ℤ) (rho : ℤ) (budget n i : ℕ) → n ≡ length p.columns → n ≤ i → i ≤ n → listing_answer p y rho budget i (drop i p.columns) ≡ clean (length p.columns)
-clean_at p y rho budget n i e le ge =
-    let same : i ≡ length p.columns = omega (arith, e, le, ge) in
-    let none : drop i p.columns ≡ [] = drop_all i p.columns (omega (arith, same)) in
-    ap (listing_answer p y rho budget i) none ∙ ap clean same
+  fails_at w h f = turn.fails_at p y rho budget i d lt steps test steps-are test-is w h f

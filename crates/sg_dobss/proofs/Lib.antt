@@ -7,6 +7,5 @@ pub mod Costs
 pub mod Ranks
 pub mod Living
 pub mod Summed
-pub mod Testing
 pub mod InTurn
 pub mod Held

@@ -5,3 +5,4 @@ pub mod Sized
 pub mod Kept
 pub mod Worked
 pub mod Multipliers
+pub mod Looks

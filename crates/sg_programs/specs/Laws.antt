@@ -10,6 +10,8 @@ use Rattle.sg_bounds.specs.Sizes.{defender_most, fixed_priors}
 use Rattle.sg_rows.specs.Rows.{dot_from, dot_steps, place}
 use Rattle.sg_num.specs.Operations.{first_wide}
 use Rattle.sg_lp.specs.Programs.{Bounds, IsWithinLimits, Program}
+use Rattle.sg_lp.specs.Listing.{listing_looks}
+use Rattle.sg_programs.specs.Enough.{enough_looks}
 use Rattle.sg_programs.specs.Plays.{column_of, play_of, plays_program}
 use Rattle.sg_bounds.specs.PlayRows.{comparisons}
 use Rattle.sg_programs.specs.Sparse.{AreKept, steps_at, sum_at}
@@ -58,6 +60,10 @@ bounding g fix (suc j) = pos 0
 -- these multipliers, over 1, bound every play
 abbrev pub ProgramIsBounded : Type 0
 ProgramIsBounded = (g : Game) → IsGame g → g.scale ≡ pos 0 → (fix : Fix) → IsFix g fix → Bounds (plays_program g fix) (bounding g fix)
+
+-- where plays are listed, pricing takes no more looks than are enough
+abbrev pub LooksAreEnough : Type 0
+LooksAreEnough = (g : Game) (fix : Fix) (y : List ℤ) (rho : ℤ) → listing_looks (plays_program g fix) y rho (plays_program g fix).columns ≤ enough_looks g
 
 -- products of 0 form operations that fit and change nothing: the first operation that doesn't fit, and the value, are those of the places kept
 abbrev pub ZerosChangeNothing : Type 0

@@ -2,6 +2,7 @@
 
 ghost use Rattle.sg_programs.specs.Laws.{
   ColumnsArePlays,
+  LooksAreEnough,
   ProgramIsBounded,
   ProgramIsSized,
   RowsAreComparisons,
@@ -26,6 +27,11 @@ pub fn program_is_sized()
 /// Some multipliers over 1 bound every play.
 pub fn program_is_bounded()
     ensures { ProgramIsBounded }
+{}
+
+/// Where plays are listed, pricing takes no more looks than are enough for the game.
+pub fn looks_are_enough()
+    ensures { LooksAreEnough }
 {}
 
 /// Products of 0 change neither the value of a sum nor the first operation that doesn't fit.

@@ -12,6 +12,6 @@ mod laws;
 pub use examples::worked_programs;
 pub use fact_laws::{final_is_fact, marks_rise};
 pub use laws::{
-    columns_are_plays, program_is_bounded, program_is_sized, rows_are_comparisons,
-    zeros_change_nothing,
+    columns_are_plays, looks_are_enough, program_is_bounded, program_is_sized,
+    rows_are_comparisons, zeros_change_nothing,
 };

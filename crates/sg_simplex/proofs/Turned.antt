@@ -1,5 +1,5 @@
 -- What a turn comes to.
-use Rattle.std.proofs.Common.{◌≡◌, ℕ, ◌+◌, ◌<◌, ◌≤◌, refl, arith, sym, ◌∙◌, subst, add-one, None, ap, inr}
+use Rattle.std.proofs.Common.{◌≡◌, ℕ, ◌+◌, ◌<◌, ◌≤◌, refl, arith, sym, ◌∙◌, subst, add-one, None, ap, inl, inr}
 use Rattle.std.specs.Prelude.{ℤ, List}
 use Rattle.sg_linear.proofs.MoveLaws.{leaves-unique}
 use Rattle.sg_rows.specs.Rows.{place}
@@ -18,8 +18,9 @@ use Rattle.sg_simplex.specs.declared.turn.Turn.TheVariants as turn
 use Rattle.sg_simplex.specs.Nodes.{IsKept, IsProgramNode, NodeView}
 use Rattle.sg_simplex.specs.Trying.{IsMisfit, MayExchange}
 use Rattle.sg_simplex.specs.declared.trying.Misfit.{Misfit}
-use Rattle.sg_simplex.specs.Turns.{EntersBy, HasMoved, IsAtEnd, Pricer, Turns}
-use Rattle.sg_simplex.proofs.Causes.{entering_of}
+use Rattle.sg_simplex.specs.Choices.{EndsWith}
+use Rattle.sg_simplex.specs.Turns.{EntersBy, HasCause, HasMoved, IsAtEnd, Pricer, Turns}
+use Rattle.sg_simplex.proofs.Causes.{cause_one, entering_of}
 
 -- ---- pricing
 -- an answer as it is told
@@ -61,6 +62,30 @@ module _ (p : Program) (price : Pricer) (t u : Tableau) (s : Enter) (q : List �
   pub next_node : Runs p steps t → IsProgramNode p t steps → IsProgramNode p u (steps + 1)
   next_node run node = record { sized = node.sized; bounded = node.bounded; run = rw add-one (t, run, next); state = next.state }
 
+-- ---- causes
+-- what an answer comes of
+caused_of : {F : Type 0} (program : F → Program) (price : F → Pricer) (v u : NodeView F) (a : Turn) → Turns program price v u a → HasCause (program v.family) (price v.family) v.tableau v.steps v.pivots v.looks a
+caused_of {F} program price v u turn.Moved h = (u.tableau, h.0)
+caused_of {F} program price v u turn.Done h = h.0
+caused_of {F} program price v u turn.PivotsSpent h = h.0
+caused_of {F} program price v u turn.LooksSpent h = h.0
+caused_of {F} program price v u (turn.Wide name w) h = h.0
+
+stays_of : {F : Type 0} (program : F → Program) (price : F → Pricer) (v u : NodeView F) (a : Turn) → Turns program price v u a → (a ≡ turn.Moved → ⊥) → u ≡ v
+stays_of {F} program price v u turn.Moved h ne = absurd (ne refl)
+stays_of {F} program price v u turn.Done h ne = h.1
+stays_of {F} program price v u turn.PivotsSpent h ne = h.1
+stays_of {F} program price v u turn.LooksSpent h ne = h.1
+stays_of {F} program price v u (turn.Wide name w) h ne = h.1
+
+-- where pricing ends a turn
+pub turned_end : {F : Type 0} (program : F → Program) (price : F → Pricer) (v : NodeView F) (a : Turn) → EndsWith (program v.family) (price v.family) v.tableau v.looks a → Turns program price v v a
+turned_end {F} program price v turn.Moved h = absurd h
+turned_end {F} program price v turn.Done h = (h, refl)
+turned_end {F} program price v turn.PivotsSpent h = absurd h
+turned_end {F} program price v turn.LooksSpent h = (h, refl)
+turned_end {F} program price v (turn.Wide name w) h = (inl h, refl)
+
 -- ---- of nodes
 module _ {F : Type 0} (program : F → Program) (price : F → Pricer) (v u : NodeView F) (node : IsProgramNode (program v.family) v.tableau v.steps) where
   pub node_of : (a : Turn) → Turns program price v u a → IsProgramNode (program u.family) u.tableau u.steps
@@ -85,6 +110,12 @@ module _ {F : Type 0} (program : F → Program) (price : F → Pricer) (v u : No
       let short = short-run (program v.family) node.sized v.steps v.tableau node.run in
       let all = m.0.spent_all in
       omega arith
+
+  -- after any answer but a move a later turn answers the same
+  pub again_of : (a : Turn) → Turns program price v u a → ¬ (a ≡ turn.Moved) → (w : NodeView F) (b : Turn) → Turns program price u w b → b ≡ a
+  again_of a h ne w b k =
+      let there = subst (λ (x : NodeView F). Turns program price x w b) (stays_of program price v u a h ne) k in
+      cause_one (program v.family) (price v.family) v.tableau v.steps v.pivots v.looks b a node.state (caused_of program price v w b there) (caused_of program price v u a h)
 
   -- but for the state and the number of moves all stays
   pub lasting_of : (a : Turn) → Turns program price v u a → u ≡ record v { tableau = u.tableau; steps = u.steps }

@@ -4,7 +4,9 @@ ghost use Rattle.std.specs.Prelude.{◌≡◌, ℕ, ◌<◌, ◌≤◌};
 ghost use Rattle.sg_lp.specs.Programs.{enough_pivots};
 ghost use Rattle.sg_lp.specs.States.{HaveSameBasis, StandsAbove, Tableau};
 ghost use Rattle.sg_lp.specs.Moves.{Runs};
+ghost use Rattle.sg_simplex.specs.Nodes.{NodeView};
 ghost use Rattle.sg_simplex.specs.Turns.{EntersBy, Turns};
+ghost use Rattle.sg_simplex.specs.declared.turn.Turn.{Turn};
 
 use crate::choosing::{Choice, choose};
 use crate::node::Node;
@@ -44,6 +46,7 @@ impl<F: Family + Drop> Node<F> {
         ensures run { Runs (F.program self.new.family) self.new.steps self.new.tableau }
         ensures rises { result ≡ Turn.Moved → StandsAbove (F.program self.old.family) self.new.tableau self.old.tableau }
         ensures fresh { result ≡ Turn.Moved → (k : ℕ) (t : Tableau) → k ≤ self.old.steps → Runs (F.program self.old.family) k t → ¬ (HaveSameBasis (F.program self.old.family) t self.new.tableau) }
+        ensures again { ¬ (result ≡ Turn.Moved) → (later : NodeView F) (answer : Turn) → Turns F.program F.answer self.new later answer → answer ≡ result }
         ensures few { result ≡ Turn.PivotsSpent → self.old.pivots < enough_pivots (F.program self.old.family) }
     {
         match choose(&self.family, &self.state, self.looks) {

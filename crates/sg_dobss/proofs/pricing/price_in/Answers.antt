@@ -3,7 +3,8 @@ use Rattle.std.specs.Int.{w128}
 use Rattle.std.specs.Prelude.{FitsSigned}
 use Rattle.std.proofs.lemmas.Int.{to_z-of_z}
 use Rattle.sg_lp.specs.declared.column.Column.{Column}
-use Rattle.sg_dobss.proofs.InTurn.{clean_at, enters_at, fails_at, spent_at, stays_at}
+use Rattle.sg_lp.proofs.InTurn.{clean_at}
+use Rattle.sg_dobss.proofs.InTurn.{enters_at, fails_at, spent_at, stays_at}
 use Rattle.sg_dobss.proofs.pricing.price_in.Goals as goal
 
 no_column : Column

@@ -5,7 +5,7 @@ use Rattle.std.proofs.lemmas.Int.{to_z-of_z, ints}
 use Rattle.sg_rows.specs.Rows.{place}
 use Rattle.sg_programs.specs.Sparse.{steps_at, sum_at}
 use Rattle.sg_dobss.specs.Tables.{entry_in}
-use Rattle.sg_dobss.proofs.Testing.{fails_second, test_false, test_true}
+use Rattle.sg_lp.proofs.Testing.{fails_second, test_false, test_true}
 use Rattle.sg_dobss.proofs.pricing.test_at.Goals as goal
 
 pub returns-then-allowed-worth : goal.returns-then-allowed-worth

@@ -1,8 +1,8 @@
-//! Tables worked out by hand.
+//! Tables for people, worked out by hand.
 
-use crate::cases::{Wanted, are_met};
-use crate::games::{Drawn, GATE_AND_HALL, HALF, Player, Shares, commitment, game};
+use crate::tickets::{HALF, Shares, commitment};
 use sg_commit::{Commitment, are_legal};
+use sg_file::read_game;
 use sg_frac::Frac;
 use sg_game::Game;
 use sg_num::{Op, Wide};
@@ -10,49 +10,32 @@ use sg_report::{ShowFault, answers_are_first, show_text, table_is_one, tables_ar
 use std::alloc::Global;
 use std::test::Fail;
 
-/// Tickets and an upper bound, and the table or the fault that is wanted of them.
+/// A game, tickets and an upper bound, and the table or the fault that is wanted of them.
 #[derive(Drop)]
 struct Case {
-    game: &'static Drawn,
-    priors: &'static [i64],
+    game: &'static str,
     tickets: Shares,
     upper: (i128, i128),
     shown: Result<&'static [u8], ShowFault>,
 }
 
+/// Two targets and one patrol.
+const GATE_AND_HALL: &'static str =
+    "version = 1\nform = \"security\"\nscale = 4\npatrols = 1\ntargets = [\"gate\", \"hall\"]\n\n[[type]]\nname = \"thief\"\nprior = 1\npayoffs = [[2, -2, 0, 4], [1, -1, 0, 2]]\n";
+
 /// Three targets; both resources may take the second.
-const NEIGHBOURS: &'static Drawn = &Drawn::Guarded {
-    goals: &["a", "b", "c"],
-    schedules: &[("a", &[1]), ("b", &[2]), ("c", &[3])],
-    resources: &[("r1", &[1, 2]), ("r2", &[2, 3])],
-    payoffs: &[&[0, -1, 0, 1], &[0, -1, 0, 1], &[0, -1, 0, 1]],
-};
+const NEIGHBOURS: &'static str =
+    "version = 1\nform = \"security\"\ntargets = [\"a\", \"b\", \"c\"]\n\n[[schedule]]\nname = \"a\"\ntargets = [\"a\"]\n\n[[schedule]]\nname = \"b\"\ntargets = [\"b\"]\n\n[[schedule]]\nname = \"c\"\ntargets = [\"c\"]\n\n[[resource]]\nname = \"r1\"\nschedules = [\"a\", \"b\"]\n\n[[resource]]\nname = \"r2\"\nschedules = [\"b\", \"c\"]\n\n[[type]]\nname = \"thief\"\nprior = 1\npayoffs = [[0, -1, 0, 1], [0, -1, 0, 1], [0, -1, 0, 1]]\n";
 
 /// Three rows, two players.
-const THREE_ROWS: &'static Drawn = &Drawn::Rows {
-    goals: &["A", "B", "C"],
-    players: &[
-        Player {
-            name: "first",
-            actions: &["x", "y"],
-            leader: &[&[2, 4], &[0, 0], &[1, 3]],
-            follower: &[&[1, 0], &[0, 0], &[0, 2]],
-        },
-        Player {
-            name: "second",
-            actions: &["x", "y"],
-            leader: &[&[2, 4], &[0, 0], &[1, 3]],
-            follower: &[&[3, 0], &[0, 0], &[0, 2]],
-        },
-    ],
-};
+const THREE_ROWS: &'static str =
+    "version = 1\nform = \"matrix\"\nrows = [\"A\", \"B\", \"C\"]\n\n[[type]]\nname = \"first\"\nprior = 1\nactions = [\"x\", \"y\"]\nleader = [[2, 4], [0, 0], [1, 3]]\nfollower = [[1, 0], [0, 0], [0, 2]]\n\n[[type]]\nname = \"second\"\nprior = 1\nactions = [\"x\", \"y\"]\nleader = [[2, 4], [0, 0], [1, 3]]\nfollower = [[3, 0], [0, 0], [0, 2]]\n";
 
 /// Tables of each form.
 fn tables() -> &'static [Case] {
     const CASES: &'static [Case] = &[
         Case {
             game: GATE_AND_HALL,
-            priors: &[1],
             tickets: &[(2, &[1]), (1, &[2])],
             upper: (2, 3),
             shown: Ok(
@@ -62,7 +45,6 @@ fn tables() -> &'static [Case] {
         // Both resources at the second target count once; of two best actions alike it is the first.
         Case {
             game: NEIGHBOURS,
-            priors: &[1],
             tickets: &[(3, &[2, 1]), (1, &[1, 2])],
             upper: (0, 5),
             shown: Ok(
@@ -79,7 +61,6 @@ fn others() -> &'static [Case] {
         // A row without tickets; both actions are best for the first player, and the second gives the defender more.
         Case {
             game: THREE_ROWS,
-            priors: &[1, 1],
             tickets: &[(1, &[3]), (2, &[1])],
             upper: (4, 1),
             shown: Ok(
@@ -89,7 +70,6 @@ fn others() -> &'static [Case] {
         // A wide value is not shown.
         Case {
             game: GATE_AND_HALL,
-            priors: &[1],
             tickets: &[(HALF, &[1]), (HALF - 1, &[2])],
             upper: (0, 1),
             shown: Err(ShowFault::Wide(Wide {
@@ -116,15 +96,23 @@ fn is_shown(alloc: Global, game: &Game, k: &Commitment, upper: Frac, case: &Case
     }
 }
 
-impl Wanted for Case {
-    /// Whether the case is met.
-    fn is_met(&self, alloc: Global) -> Result<bool, Fail> {
-        let (num, den) = self.upper;
-        let upper = Frac::of(num, den).ok_or("a fraction")?;
-        let game = game(alloc, self.game, self.priors)?;
-        let k = commitment(alloc, self.tickets)?;
-        Ok(is_shown(alloc, &game, &k, upper, self))
+/// Whether a case is met.
+fn is_met(alloc: Global, case: &Case) -> Result<bool, Fail> {
+    let (num, den) = case.upper;
+    let upper = Frac::of(num, den).ok_or("a fraction")?;
+    let game = read_game(alloc, case.game.as_bytes())?;
+    let k = commitment(alloc, case.tickets)?;
+    Ok(is_shown(alloc, &game, &k, upper, case))
+}
+
+/// Whether all are.
+fn are_met(alloc: Global, cases: &[Case]) -> Result<bool, Fail> {
+    for case in cases {
+        if !is_met(alloc, case)? {
+            return Ok(false);
+        }
     }
+    Ok(true)
 }
 
 #[test]

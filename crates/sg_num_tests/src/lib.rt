@@ -1,4 +1,4 @@
-//! Tests of numbers, fractions and words (`sg_num`, `sg_frac`, `sg_words`), over their public calls alone.
+//! Tests of numbers and fractions (`sg_num`, `sg_frac`), over their public calls alone.
 //!
 //! They stand apart so that the gate proves each of these libraries once: a crate with tests is proved a second time
 //! with them.
@@ -8,5 +8,3 @@
 mod frac;
 #[cfg(test)]
 mod num;
-#[cfg(test)]
-mod words;

@@ -1,27 +1,11 @@
--- The test of one column.
-use Rattle.std.proofs.Common.{◌≡◌, ◌∙◌, ap, refl, arith, Bool, true, false, cond, List, [], ◌∷◌, Option, Some, None}
+-- The test of one column: its worth, then its product with the multipliers.
+use Rattle.std.proofs.Common.{◌≡◌, ◌∙◌, ap, refl, arith, Bool, true, false, cond, List, ◌∷◌, Option, Some, None}
 use Rattle.std.specs.Prelude.{ℤ, ◌*ℤ◌, ◌<ℤ◌, ◌≤ℤ◌, Result, Ok, Err, int_lt, if◌then◌else◌}
 use Rattle.std.proofs.lemmas.Int.{ints}
 use Rattle.sg_num.specs.declared.step.Wide.{Wide}
 use Rattle.sg_num.specs.Exact.{exact_times, fits}
 use Rattle.sg_num.specs.Operations.{first_wide, formed, is_formed, times}
-
--- what is formed has the value that was meant
-forms : {A : Type 0} (steps : List Wide) (v u : A) → Ok u ≡ formed steps v → (first_wide steps ≡ None) × (u ≡ v)
-forms {A} [] v u e = (refl, cc)
-forms {A} (s ∷ ss) v u e = go (is_formed s) (λ q. forms ss v u q) e
-  where
-    go : (t : Bool) → (Ok u ≡ formed ss v → (first_wide ss ≡ None) × (u ≡ v)) → ◌≡◌ {A = Result A Wide} (Ok u) (cond t (formed ss v) (Err s)) → (cond t (first_wide ss) (Some s) ≡ None) × (u ≡ v)
-    go true rec q = rec q
-    go false rec q = cc
-
-stops : {A : Type 0} (steps : List Wide) (v : A) (w : Wide) → Err w ≡ formed steps v → first_wide steps ≡ Some w
-stops {A} [] v w e = cc
-stops {A} (s ∷ ss) v w e = go (is_formed s) (λ q. stops ss v w q) e
-  where
-    go : (t : Bool) → (Err w ≡ formed ss v → first_wide ss ≡ Some w) → ◌≡◌ {A = Result A Wide} (Err w) (cond t (formed ss v) (Err s)) → cond t (first_wide ss) (Some s) ≡ Some w
-    go true rec q = rec q
-    go false rec q = cc
+use Rattle.sg_rows.proofs.Fitting.{Err-stops, Ok-fits, Ok-value}
 
 -- a product that fits, and its value
 product : (a b v : ℤ) → Ok v ≡ exact_times a b → (is_formed (times a b) ≡ true) × (v ≡ a *ℤ b)
@@ -43,15 +27,15 @@ module _ (steps : List Wide) (sum rho cost worth : ℤ) where
 
   pub test_true : (allowed : ℤ) → Ok worth ≡ exact_times rho cost → Ok allowed ≡ formed steps sum → allowed <ℤ worth → (first_wide (times rho cost ∷ steps) ≡ None) × (int_lt sum (rho *ℤ cost) ≡ true)
   test_true allowed e f h =
-      let d = forms steps sum allowed f in
+      let v = Ok-value steps sum allowed f in
       let w = product rho cost worth e in
-      (first e None d.0, less_true sum (rho *ℤ cost) (omega (arith, ints, d.1, w.1, h)))
+      (first e None (Ok-fits steps sum allowed f), less_true sum (rho *ℤ cost) (omega (arith, ints, v, w.1, h)))
 
   pub test_false : (allowed : ℤ) → Ok worth ≡ exact_times rho cost → Ok allowed ≡ formed steps sum → worth ≤ℤ allowed → (first_wide (times rho cost ∷ steps) ≡ None) × (int_lt sum (rho *ℤ cost) ≡ false)
   test_false allowed e f h =
-      let d = forms steps sum allowed f in
+      let v = Ok-value steps sum allowed f in
       let w = product rho cost worth e in
-      (first e None d.0, less_false sum (rho *ℤ cost) (omega (arith, ints, d.1, w.1, h)))
+      (first e None (Ok-fits steps sum allowed f), less_false sum (rho *ℤ cost) (omega (arith, ints, v, w.1, h)))
 
   pub fails_second : (wide : Wide) → Ok worth ≡ exact_times rho cost → Err wide ≡ formed steps sum → first_wide (times rho cost ∷ steps) ≡ Some wide
-  fails_second wide e f = first e (Some wide) (stops steps sum wide f)
+  fails_second wide e f = first e (Some wide) (Err-stops steps sum wide f)
