@@ -5,7 +5,7 @@ use Rattle.std.specs.Cmp.Lexicographic.{bytes_decides}
 use Rattle.std.specs.List.{All, AllPairs, Contains}
 use Rattle.std.proofs.lemmas.Cmp.{nat_list_eq_equiv}
 use Rattle.std.proofs.lemmas.Int.{ints, by_lt_z}
-use Rattle.std.proofs.lemmas.List.{length-map}
+use Rattle.std.proofs.lemmas.List.{get_or_default, length-map}
 use Rattle.std.proofs.lemmas.List.Elements.{All-cons, All-contains, All-map, All-nil}
 use Rattle.std.proofs.lemmas.Map.Made.{IsDistinct-from_AllPairs, length-le_from_is_member}
 use Rattle.std.proofs.lemmas.Map.Views.{Contains-from_any, list_any-from_Contains}
@@ -18,6 +18,7 @@ use Rattle.sg_model.proofs.Ints.{mul-le}
 use Rattle.sg_model.proofs.Numbers.{All-numbers_from}
 use Rattle.sg_split.specs.Laws.{LaidTicketsAreFew}
 use Rattle.sg_split.specs.Laying.{ends_from, moment_tickets, play_at}
+use Rattle.sg_commit.specs.Parts.{AreMultiple}
 use Rattle.sg_commit.proofs.Kept.{has_weight, scaled-passing}
 use Rattle.sg_split.proofs.CutPlaces.{plays_stay}
 use Rattle.sg_split.proofs.Ends.{length-ends_from}
@@ -73,7 +74,7 @@ ends_at counts d = map (λ end. int_rem end d) (ends_from (pos 0) counts)
 abbrev cut_plays : List ℤ → ℕ → ℤ → List (List ℕ)
 cut_plays counts patrols d = map (play_at (ends_from (pos 0) counts) patrols d) (pos 0 ∷ ends_at counts d)
 
-Contains-map : {X Y : Type 0} (f : X → Y) (xs : List X) (x : X) → Contains xs x → Contains (map f xs) (f x)
+pub Contains-map : {X Y : Type 0} (f : X → Y) (xs : List X) (x : X) → Contains xs x → Contains (map f xs) (f x)
 Contains-map f xs x h = (h.0, omega (arith, h.1, length-map xs f), get_or-map f xs h.0 x ∙ ap f h.2)
 
 play_is_cut : (counts : List ℤ) (patrols : ℕ) (d : ℤ) → pos 1 ≤ℤ d → All (IsWithin (pos 0) d) counts → (m : ℤ) → pos 0 ≤ℤ m → m <ℤ d
@@ -110,6 +111,25 @@ codes_apart k apart i j d before within same =
     let code = λ (x : Ticket). x.play.code in
     let t : Ticket = ticket_of d (pos 0) in
     apart i j t before (omega (arith, within, length-map k code)) (sym (get_or-map code k i t) ∙ (same ∙ get_or-map code k j t))
+
+-- tickets of different plays, all of which some others give weight, are no more than these
+pub few_plays : (all k : List Ticket) → All (λ (x : Ticket). pos 1 ≤ℤ x.weight) k → AllPairs (λ (x y : Ticket). x.play.code ≢ y.play.code) k → AreMultiple all k → length k ≤ length all
+few_plays all k weights distinct multiple =
+    let code = λ (x : Ticket). x.play.code in
+    let plays : List (List ℕ) = map code all in
+    let c : ℤ = multiple.0 in
+    let among : All (λ (x : Ticket). Contains plays x.play.code) all = λ i x lt. Contains-map code all (get_or all i x) (i, lt, get_or_default all i (get_or all i x) x lt) in
+    let each : All (λ (x : Ticket). Contains plays x.play.code) k = λ i x lt.
+    let play : List ℕ = (get_or k i x).play.code in
+    let on : weight_on all play ≡ c *ℤ weight_on k play = multiple.2 play ∙ scaled-passing (λ p. bytes_eq p play) c k in
+    let some : pos 1 ≤ℤ weight_on k play = has_weight k weights i x lt in
+    let more = mul-le (pos 1) c (weight_on k play) multiple.1 (omega (arith, ints, some)) in
+    holds-weighed (Contains plays) all among play (λ e. absurd (omega (arith, ints, on, some, more, e))) in
+    let few : length (map code k) ≤ length plays =
+    length-le_from_is_member nat_list_eq_equiv (map code k) plays (IsDistinct-from_AllPairs bytes_decides (map code k) (codes_apart k distinct)) (λ q inside.
+    list_any-from_Contains nat_list_eq_equiv q plays
+    (All-contains (Contains plays) (map code k) q (All-map (Contains plays) code k each) (Contains-from_any (λ x y. (bytes_decides x y).0) q (map code k) inside))) in
+    omega (arith, few, length-map k code, length-map all code)
 
 pub laid_few : LaidTicketsAreFew
 laid_few counts patrols d positive within k weights distinct multiple =

@@ -1,3 +1,4 @@
+mod CutExamples
 pub mod Commits
 pub mod Counted
 pub mod Covered
@@ -7,7 +8,11 @@ pub mod Few
 pub mod Firsts
 pub mod Kept
 pub mod Legal
+pub mod Matches
 pub mod Mixes
 pub mod Moments
+pub mod Served
+pub mod Shares
+pub mod Singles
+pub mod TargetRows
 pub mod Tickets
-mod CutExamples

@@ -16,10 +16,16 @@
 mod laws;
 mod laying;
 mod line;
+mod matching;
 mod place;
+mod serving;
+mod table;
+mod targeting;
 mod wrapping;
 
 pub use laws::{
     cut_places_are_worked, laid_tickets_are_few, moments_cover_counts, plays_stay_between_cuts,
 };
+pub use matching::matchings;
+pub use table::Table;
 pub use wrapping::wrap;

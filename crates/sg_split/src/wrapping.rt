@@ -51,7 +51,7 @@ fn parts_of(
 }
 
 /// The commitment of parts that have no fault.
-fn joined(parts: Vec<Ticket>) -> Commitment
+pub(crate) fn joined(parts: Vec<Ticket>) -> Commitment
     requires { part_fault parts.items ≡ None }
     ensures shares { AreMultiple parts.items result.tickets }
     ensures rules { IsCommitted result }
