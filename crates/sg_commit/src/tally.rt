@@ -1,13 +1,13 @@
 //! Counts of the tickets that cover each target, made in one walk over the tickets.
 
-ghost use Rattle.std.specs.Prelude.{◌≡◌, ◌≤◌, ◌<◌, ◌^◌, false, length, pos, ◌≤ℤ◌, All, replicate, slice_index_or};
+ghost use Rattle.std.specs.Prelude.{◌≡◌, ◌≤◌, ◌<◌, ◌^◌, false, length, pos, ◌≤ℤ◌, All, ℕ, replicate, slice_index_or};
 ghost use Rattle.sg_model.specs.declared.limit.TheConstants.{SCALED_TARGET_LIMIT};
 ghost use Rattle.sg_model.specs.Games.{is_matrix, payoff, resource_schedules, schedule_targets};
 ghost use Rattle.sg_model.specs.Plays.{IsLegal};
 ghost use Rattle.sg_model.specs.Sums.{nth};
 ghost use Rattle.sg_game.specs.Tallies.{IsTally, marked, no_cell, tallied, touched, touched_all, touched_from};
 ghost use Rattle.sg_game.specs.Counts.{IsActionOf, IsGoalOf, IsResourceOf, IsTypeOf};
-ghost use Rattle.sg_model.specs.Commitments.{AreLegal};
+ghost use Rattle.sg_model.specs.Commitments.{cover_count, AreLegal};
 ghost use Rattle.sg_commit.specs.Sides.{covered_pay, exact_sum_to, uncovered_pay};
 ghost use Rattle.sg_commit.specs.Tallies.{counted_sum};
 
@@ -97,6 +97,20 @@ fn tally(game: &Game, tickets: &[Ticket], cells: &mut [Cell])
             ticket.weight,
         );
     }
+}
+
+/// Counts the tickets that cover each target of a game in security form, in one walk over the tickets, in cells in which
+/// nothing is counted yet: those of target `t` at place `t`.
+pub fn count_covers(game: &Game, k: &Commitment, cells: &mut [Cell])
+    requires security { is_matrix game.now ≡ false }
+    requires legal { AreLegal game.now k.now.tickets }
+    requires room { length game.now.goals < length cells.old }
+    requires fresh { cells.old ≡ replicate (length cells.old) no_cell }
+    ensures size { length cells.new ≡ length cells.old }
+    ensures counts { (t : ℕ) → t < length cells.old → (slice_index_or cells.new t no_cell).count ≡ cover_count game.now k.now.tickets t }
+{
+    let _total = k.total();
+    tally(game, k.tickets(), cells);
 }
 
 /// Counts all tickets of the commitment in cells in which nothing is counted yet.

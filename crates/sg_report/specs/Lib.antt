@@ -1,4 +1,3 @@
-pub mod Counts
 pub mod Tables
 pub mod Lines
 pub mod Laws

@@ -17,7 +17,6 @@
 //! made in one pass over the tickets, and the answers are those of `sg_commit::answer`.
 #![tactic(auto)]
 
-mod counts;
 mod laws;
 mod show;
 mod text;

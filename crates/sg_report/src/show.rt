@@ -10,7 +10,6 @@ ghost use Rattle.sg_num.specs.declared.step.Wide.{Wide};
 ghost use Rattle.sg_report.specs.Lines.{head_text};
 ghost use Rattle.sg_report.specs.Tables.{IsReportTable, table_text, type_line};
 
-use crate::counts::counts_of;
 use crate::text::{put_answer_line, put_fraction_line, put_goal_lines, put_tickets_line};
 use sg_commit::{Commitment, answer, value};
 use sg_frac::Frac;
@@ -74,10 +73,10 @@ fn table(
     requires fits { IsOk (exact_base game.now k.now.tickets) }
     ensures { IfOk result (λ text. text.items ≡ table_text game.now k.now.tickets value.now upper.now) }
 {
-    let counts = counts_of(alloc, game, k.tickets(), k.total())?;
+    let _tickets = k.tickets();
     let mut text = Vec::new(alloc);
-    put_head(&mut text, alloc, value, upper, &counts.total)?;
-    put_goal_lines(&mut text, game, counts.cells.as_slice())?;
+    put_head(&mut text, alloc, value, upper, &k.total())?;
+    put_goal_lines(&mut text, alloc, game, k)?;
     put_type_lines(&mut text, game, k)?;
     Ok(text)
 }

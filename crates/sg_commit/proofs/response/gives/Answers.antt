@@ -12,7 +12,7 @@ use Rattle.sg_commit.proofs.response.gives.Goals as goal
 pub unreachable-requires : goal.unreachable-requires
 unreachable-requires c =
     let taken_fits : FitsSigned w128 c.args.taken = c.ranges.taken in
-    let take = simp to_z-of_z at c.requires.taken in
+    let take = c.requires.taken in
     not_err (exact_sum_d c.args.game.now c.args.k.now.tickets c.args.l c.args.a) c.in-Err.field-0
     (best_formed c.args.game.now c.args.k.now.tickets c.args.l c.args.taken take c.args.a c.requires.known_action.0 c.requires.known_action.1 c.requires.best)
     (sym c.table_sum.ensures ∙ c.in-Err.is)
@@ -21,7 +21,7 @@ pub returns : goal.returns
 returns c =
     let taken_fits : FitsSigned w128 c.args.taken = c.ranges.taken in
     let sum_fits : FitsSigned w128 c.in-Ok.sum = search rules in
-    let take = simp to_z-of_z at c.requires.taken in
+    let take = c.requires.taken in
     let sum : c.in-Ok.sum ≡ sum_d c.args.game.now c.args.k.now.tickets c.args.l c.args.a =
     sum_d-is c.args.game.now c.args.k.now.tickets c.args.l c.args.a c.in-Ok.sum (sym c.table_sum.ensures ∙ c.in-Ok.is) in
     let taken : c.args.taken ≡ take_of c.args.game.now c.args.k.now.tickets c.args.l = taken-is c.args.game.now c.args.k.now.tickets c.args.l c.args.taken take in
