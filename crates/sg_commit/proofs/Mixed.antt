@@ -19,7 +19,7 @@ use Rattle.sg_game.specs.Tallies.{IsCounted, IsTally, no_cell}
 use Rattle.sg_commit.specs.Tallies.{counted_sum}
 use Rattle.sg_commit.specs.declared.side.Side.{Side}
 use Rattle.sg_commit.specs.declared.side.Side.TheVariants.{Defender, Attacker}
-use Rattle.sg_commit.specs.Sides.{covered_pay, exact_sum_to, uncovered_pay}
+use Rattle.sg_commit.specs.Sides.{covered_to, exact_sum_to, uncovered_to}
 use Rattle.sg_model.proofs.Spans.{Within, product-within}
 use Rattle.sg_commit.proofs.Small.{dot_step-ok, exact_ok, few-sum_a, few-sum_d}
 use Rattle.sg_model.proofs.Covers.{ArePositive}
@@ -89,6 +89,6 @@ module _ (g : Game) (h : IsGame g) (k : List Ticket) (positive : ArePositive k) 
       ∙ (ap (λ (b : Bool). Ok (total (λ (x : Ticket). x.weight *ℤ cond b (nth (nth (attacker g l).follower (slice_index x.play.code 0) []) a (pos 0)) (cond (covers g x.play.code a) (payoff g l a).ac (payoff g l a).au)) k)) (sym c.security)
       ∙ sym (few-sum_a g h k positive many l a))
 
-  pub counted_to-is : (side : Side) → counted_sum whole count (covered_pay side (payoff g l a)) (uncovered_pay side (payoff g l a)) ≡ exact_sum_to side g k l a
+  pub counted_to-is : (side : Side) → counted_sum whole count (covered_to side (payoff g l a)) (uncovered_to side (payoff g l a)) ≡ exact_sum_to side g k l a
   counted_to-is Defender = counted_d-is
   counted_to-is Attacker = counted_a-is

@@ -14,13 +14,13 @@ pay_to Defender g l play a = pay_d g l play a
 pay_to Attacker g l play a = pay_a g l play a
 
 -- what a target pays it where it is covered, and where it isn't
-abbrev pub covered_pay : Side → Payoff → ℤ
-covered_pay Defender p = p.dc
-covered_pay Attacker p = p.ac
+abbrev pub covered_to : Side → Payoff → ℤ
+covered_to Defender p = p.dc
+covered_to Attacker p = p.ac
 
-abbrev pub uncovered_pay : Side → Payoff → ℤ
-uncovered_pay Defender p = p.du
-uncovered_pay Attacker p = p.au
+abbrev pub uncovered_to : Side → Payoff → ℤ
+uncovered_to Defender p = p.du
+uncovered_to Attacker p = p.au
 
 -- its sum over the tickets, by rising ticket
 abbrev pub exact_sum_to : Side → Game → List Ticket → ℕ → ℕ → Result ℤ Wide

@@ -183,6 +183,13 @@ fn table_take(game: &Game, k: &Commitment, table: &[Cell], l: u8) -> Result<i128
     }
 }
 
+// Whether two sums are one.
+fn is_same(a: i128, b: i128) -> bool
+    ensures { result ≡ int_eq a b }
+{
+    a == b
+}
+
 // Whether the best action `a` gives the defender what is taken, where it is known to be formed.
 fn gives(game: &Game, k: &Commitment, table: &[Cell], l: u8, a: u16, taken: i128) -> bool
     requires legal { AreLegal game.now k.now.tickets }
@@ -194,7 +201,7 @@ fn gives(game: &Game, k: &Commitment, table: &[Cell], l: u8, a: u16, taken: i128
     ensures { result ≡ int_eq (sum_d game.now k.now.tickets l a) (take_of game.now k.now.tickets l) }
 {
     match table_sum(Side::Defender, game, k, table, l, a) {
-        Ok(sum) => sum == taken,
+        Ok(sum) => is_same(sum, taken),
         Err(_) => unreachable!(),
     }
 }

@@ -4,7 +4,7 @@ ghost use Rattle.std.specs.Prelude.{◌≡◌, false};
 ghost use Rattle.sg_model.specs.Games.{is_matrix, payoff};
 ghost use Rattle.sg_model.specs.Plays.{IsLegal};
 ghost use Rattle.sg_game.specs.Counts.{IsActionOf, IsGoalOf, IsTypeOf};
-ghost use Rattle.sg_commit.specs.Sides.{covered_pay, pay_to, uncovered_pay};
+ghost use Rattle.sg_commit.specs.Sides.{covered_to, pay_to, uncovered_to};
 
 use sg_game::{Game, pay_a, pay_d};
 
@@ -43,8 +43,8 @@ impl Side {
         requires security { is_matrix game.now ≡ false }
         requires known_type { IsTypeOf game.now l }
         requires known_target { IsGoalOf game.now t }
-        ensures covered { result.covered ≡ covered_pay self (payoff game.now l t) }
-        ensures uncovered { result.uncovered ≡ uncovered_pay self (payoff game.now l t) }
+        ensures covered { result.covered ≡ covered_to self (payoff game.now l t) }
+        ensures uncovered { result.uncovered ≡ uncovered_to self (payoff game.now l t) }
     {
         let [d_covered, d_uncovered, a_covered, a_uncovered] = game.payoffs(l, t);
         match self {

@@ -8,7 +8,7 @@ ghost use Rattle.sg_model.specs.Sums.{nth};
 ghost use Rattle.sg_game.specs.Tallies.{IsTally, marked, no_cell, tallied, touched, touched_all, touched_from};
 ghost use Rattle.sg_game.specs.Counts.{IsActionOf, IsGoalOf, IsResourceOf, IsTypeOf};
 ghost use Rattle.sg_model.specs.Commitments.{cover_count, AreLegal};
-ghost use Rattle.sg_commit.specs.Sides.{covered_pay, exact_sum_to, uncovered_pay};
+ghost use Rattle.sg_commit.specs.Sides.{covered_to, exact_sum_to, uncovered_to};
 ghost use Rattle.sg_commit.specs.Tallies.{counted_sum};
 
 use crate::commitment::Commitment;
@@ -157,7 +157,7 @@ fn counted(
     requires security { is_matrix game.now ≡ false }
     requires known_type { IsTypeOf game.now l }
     requires known_target { IsGoalOf game.now t }
-    ensures { result ≡ counted_sum total count (covered_pay side (payoff game.now l t)) (uncovered_pay side (payoff game.now l t)) }
+    ensures { result ≡ counted_sum total count (covered_to side (payoff game.now l t)) (uncovered_to side (payoff game.now l t)) }
 {
     let pays = side.pays(game, l, t);
     mixed(total, count, pays.covered, pays.uncovered)

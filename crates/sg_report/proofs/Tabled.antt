@@ -5,7 +5,7 @@ use Rattle.std.proofs.lemmas.Grind.{flat_map-append}
 use Rattle.std.proofs.lemmas.List.Folds.{flat_map-map}
 use Rattle.std.proofs.lemmas.List.Elements.{All-head, All-tail}
 use Rattle.sg_model.specs.declared.ticket.Ticket.{Ticket}
-use Rattle.sg_model.specs.Games.{Game, is_matrix}
+use Rattle.sg_model.specs.Games.{Game}
 use Rattle.sg_model.specs.Commitments.{cover_count, weight_total}
 use Rattle.sg_model.specs.TextLines.{field_line}
 use Rattle.sg_model.specs.Sums.{numbers}
@@ -15,7 +15,7 @@ use Rattle.sg_frac.specs.Fractions.{Fraction, fraction_text}
 use Rattle.sg_game.specs.declared.cell.Cell.{Cell}
 use Rattle.sg_game.specs.Tallies.{no_cell}
 use Rattle.sg_report.specs.Lines.{head_text, target_text}
-use Rattle.sg_report.specs.Tables.{goal_line, row_line, table_text, target_line, type_line}
+use Rattle.sg_report.specs.Tables.{goal_line, table_text, target_line, type_line}
 
 flat_map-same : (f h : ℕ → List ℕ) (xs : List ℕ) → All (λ n. f n ≡ h n) xs → flat_map f xs ≡ flat_map h xs
 flat_map-same f h [] same = refl
@@ -28,13 +28,6 @@ target_lines g k cells room counts =
     flat_map-same (λ n. target_text g n (slice_index_or cells n no_cell).count) (target_line g k) (numbers (length g.goals))
     (All-numbers (λ n. target_text g n (slice_index_or cells n no_cell).count ≡ target_line g k n) (length g.goals)
     (λ n low high. ap (λ (z : ℤ). target_text g n z) (counts n (omega (arith, room, high)))))
-
--- those of the goals, by the form
-pub goals_by_targets : (g : Game) (k : List Ticket) → is_matrix g ≡ false → flat_map (goal_line g k) (numbers (length g.goals)) ≡ flat_map (target_line g k) (numbers (length g.goals))
-goals_by_targets g k e = rw e refl
-
-pub goals_by_rows : (g : Game) (k : List Ticket) → is_matrix g ≡ true → flat_map (goal_line g k) (numbers (length g.goals)) ≡ flat_map (row_line g k) (numbers (length g.goals))
-goals_by_rows g k e = rw e refl
 
 module _ (g : Game) (k : List Ticket) where
   lines_text : flat_map (λ (text : List ℕ). text) (map (goal_line g k) (numbers (length g.goals)) ++ map (type_line g k) (numbers (length g.types)))

@@ -1,13 +1,13 @@
 //! The lines of the table.
 
-ghost use Rattle.std.specs.Prelude.{◌≡◌, ◌<◌, ◌++◌, slice_index_or, [], ◌∷◌, true, false, IfSome, OnOk, codes, flat_map, length};
+ghost use Rattle.std.specs.Prelude.{◌≡◌, ◌<◌, ◌++◌, slice_index_or, [], ◌∷◌, true, false, ℕ, IfOk, IfSome, OnOk, codes, flat_map, length};
 ghost use Rattle.std.specs.Fmt.{signed_decimal};
 ghost use Rattle.sg_model.specs.Games.{attacker, is_matrix};
 ghost use Rattle.sg_model.specs.TextLines.{field_line};
-ghost use Rattle.sg_model.specs.Commitments.{AreLegal};
+ghost use Rattle.sg_model.specs.Commitments.{cover_count, AreLegal};
 ghost use Rattle.sg_model.specs.Sums.{numbers};
 ghost use Rattle.sg_frac.specs.Fractions.{fraction_text};
-ghost use Rattle.sg_game.specs.Counts.{IsActionOf, IsTypeOf, action_name};
+ghost use Rattle.sg_game.specs.Counts.{IsActionOf, IsGoalOf, IsTypeOf, action_name};
 ghost use Rattle.sg_game.specs.Tallies.{no_cell};
 ghost use Rattle.sg_report.specs.Tables.{goal_line, row_line, target_line};
 ghost use Rattle.sg_report.specs.Lines.{answer_line, target_text};
@@ -78,6 +78,48 @@ fn put_count_line(
     Ok(())
 }
 
+/// How many targets there are.
+fn targets_of(game: &Game) -> u16
+    requires { is_matrix game.now ≡ false }
+    ensures { result ≡ length game.now.goals }
+{
+    game.targets()
+}
+
+/// How many rows there are.
+fn rows_of(game: &Game) -> u16
+    requires { is_matrix game.now ≡ true }
+    ensures { result ≡ length game.now.goals }
+{
+    game.rows()
+}
+
+/// How many tickets cover each target: those of target `t` at place `t`.
+fn covers_of(alloc: Global, game: &Game, k: &Commitment) -> Result<Vec<Cell>, AllocError>
+    requires security { is_matrix game.now ≡ false }
+    requires legal { AreLegal game.now k.now.tickets }
+    ensures room { IfOk result (λ cells. length game.now.goals < length cells.items) }
+    ensures counts { IfOk result (λ cells. (t : ℕ) → t < length cells.items → (slice_index_or cells.items t no_cell).count ≡ cover_count game.now k.now.tickets t) }
+{
+    let mut cells = vec![in alloc; Cell { mark: 0, count: 0 }; targets_of(game) as usize + 1]?;
+    count_covers(game, k, cells.as_mut_slice());
+    Ok(cells)
+}
+
+/// Adds the line of a target with its count.
+fn put_target_line(
+    text: &mut Vec<u8>,
+    game: &Game,
+    t: u16,
+    cell: &Cell,
+) -> Result<(), AllocError>
+    requires security { is_matrix game.now ≡ false }
+    requires known { IsGoalOf game.now t }
+    ensures { OnOk result (text.new.items ≡ text.old.items ++ target_text game.now t cell.now.count) }
+{
+    put_count_line(text, b"target", game.target_name(t), &cell.count)
+}
+
 /// Adds the lines of all targets, by the counts of the cells: that of target `t` at place `t`.
 fn put_counts(text: &mut Vec<u8>, game: &Game, cells: &[Cell]) -> Result<(), AllocError>
     requires security { is_matrix game.now ≡ false }
@@ -85,9 +127,8 @@ fn put_counts(text: &mut Vec<u8>, game: &Game, cells: &[Cell]) -> Result<(), All
     ensures { OnOk result (text.new.items ≡ text.old.items
         ++ flat_map (λ n. target_text game.now n (slice_index_or cells.now n no_cell).count) (numbers (length game.now.goals))) }
 {
-    for n in 0..game.targets() {
-        let cell = &cells[n as usize + 1];
-        put_count_line(text, b"target", game.target_name(n + 1), &cell.count)?;
+    for n in 0..targets_of(game) {
+        put_target_line(text, game, n + 1, &cells[n as usize + 1])?;
     }
     Ok(())
 }
@@ -103,9 +144,24 @@ fn put_target_lines(
     requires legal { AreLegal game.now k.now.tickets }
     ensures { OnOk result (text.new.items ≡ text.old.items ++ flat_map (target_line game.now k.now.tickets) (numbers (length game.now.goals))) }
 {
-    let mut cells = vec![in alloc; Cell { mark: 0, count: 0 }; game.targets() as usize + 1]?;
-    count_covers(game, k, cells.as_mut_slice());
-    put_counts(text, game, cells.as_slice())
+    let cells = covers_of(alloc, game, k)?;
+    put_counts(text, game, cells.as_slice())?;
+    Ok(())
+}
+
+/// Adds the line of a row with the tickets that play it.
+fn put_row_line(
+    text: &mut Vec<u8>,
+    game: &Game,
+    k: &Commitment,
+    i: u16,
+) -> Result<(), AllocError>
+    requires matrix { is_matrix game.now ≡ true }
+    requires known { IsGoalOf game.now i }
+    ensures { OnOk result (text.new.items ≡ text.old.items ++ row_line game.now k.now.tickets i) }
+{
+    let count = played_count(k, i);
+    put_count_line(text, b"row", game.row_name(i), &count)
 }
 
 /// Adds the lines of all rows.
@@ -113,9 +169,8 @@ fn put_row_lines(text: &mut Vec<u8>, game: &Game, k: &Commitment) -> Result<(), 
     requires { is_matrix game.now ≡ true }
     ensures { OnOk result (text.new.items ≡ text.old.items ++ flat_map (row_line game.now k.now.tickets) (numbers (length game.now.goals))) }
 {
-    for n in 0..game.rows() {
-        let count = played_count(k, n + 1);
-        put_count_line(text, b"row", game.row_name(n + 1), &count)?;
+    for n in 0..rows_of(game) {
+        put_row_line(text, game, k, n + 1)?;
     }
     Ok(())
 }

@@ -25,4 +25,4 @@ returns c =
     let sum : c.in-Ok.sum ≡ sum_d c.args.game.now c.args.k.now.tickets c.args.l c.args.a =
     sum_d-is c.args.game.now c.args.k.now.tickets c.args.l c.args.a c.in-Ok.sum (sym c.table_sum.ensures ∙ c.in-Ok.is) in
     let taken : c.args.taken ≡ take_of c.args.game.now c.args.k.now.tickets c.args.l = taken-is c.args.game.now c.args.k.now.tickets c.args.l c.args.taken take in
-    simp to_z-of_z (ap₂ int_eq sum taken)
+    (simp to_z-of_z at c.is_same.ensures) ∙ ap₂ int_eq sum taken

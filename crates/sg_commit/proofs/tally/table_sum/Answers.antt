@@ -5,7 +5,7 @@ use Rattle.std.proofs.lemmas.Int.{to_z-of_z}
 use Rattle.sg_model.specs.Games.{payoff}
 use Rattle.sg_model.specs.Commitments.{weight_total}
 use Rattle.sg_commit.specs.Tallies.{counted_sum}
-use Rattle.sg_commit.specs.Sides.{covered_pay, uncovered_pay}
+use Rattle.sg_commit.specs.Sides.{covered_to, uncovered_to}
 use Rattle.sg_game.proofs.Tallied.{action-target}
 use Rattle.sg_commit.proofs.Mixed.{counted_to-is, from_table}
 use Rattle.sg_commit.proofs.tally.table_sum.Goals as goal
@@ -32,6 +32,6 @@ returns c =
     let total_fits : FitsSigned w128 c.total.result = record { sfits = c.total.type_inv } in
     let count_fits : FitsSigned w128 c.count_at-count.result = record { sfits = c.count_at-count.type_inv } in
     let total_is : c.total.result ≡ weight_total c.args.k.now.tickets = c.total.ensures ∙ rules.sum in
-    let sum : c.counted.result ≡ counted_sum c.total.result c.count_at-count.result (covered_pay c.args.side (payoff c.args.game.now c.args.l c.args.a)) (uncovered_pay c.args.side (payoff c.args.game.now c.args.l c.args.a)) = simp to_z-of_z at c.counted.ensures in
+    let sum : c.counted.result ≡ counted_sum c.total.result c.count_at-count.result (covered_to c.args.side (payoff c.args.game.now c.args.l c.args.a)) (uncovered_to c.args.side (payoff c.args.game.now c.args.l c.args.a)) = simp to_z-of_z at c.counted.ensures in
     sum
     ∙ counted_to-is c.args.game.now c.promises.ensures c.args.k.now.tickets rules.positive c.args.table.now counted c.total.result c.count_at-count.result c.args.l c.args.a c.requires.known_action.0 target.0 total_is c.count_at-count.ensures c.args.side
