@@ -120,7 +120,8 @@ def line_of(text, path):
             value = found.get(path[:cut] + ("=",))
             break
     if best is None:
-        return None
+        best = found.get(path + (0,)) if len(path) == 1 else None  # a table where an array of tables is due: its header
+        return None if best is None else text.count("\n", 0, best) + 1
     for number in rest:
         if value is None or not isinstance(number, int):
             break
@@ -140,7 +141,8 @@ def kind_of(value):
 
 def need_kind(value, kind, place, path, what):
     if type(value) is not kind:
-        raise Refused(4, place, path, f"{what} is {kind_of(value)}: it must be {KINDS[kind]}")
+        header = f", which `[[{path[0]}]]` begins" if kind is list and type(value) is dict else ""
+        raise Refused(4, place, path, f"{what} is {kind_of(value)}: it must be {KINDS[kind]}{header}")
 
 
 def need_keys(table, keys, place, path, what):
@@ -422,6 +424,7 @@ CASES = [
     (PLAIN, "prior = 1\n", "", 3, "type 1", 7, "prior"),
     (PLAIN, "patrols = 1", 'patrols = "one"', 4, "document", 4, "text in quotes"),
     (PLAIN, "[1, -1, 0, 2]", "[1, -1, 0.5, 2]", 4, "type 1", 12, "number 3"),
+    (PLAIN, "[[type]]", "[type]", 4, "document", 7, "`[[type]]` begins"),
     (PLAIN, "patrols = 1", 'patrols = 1\ncolour = "red"', 5, "document", 5, "colour"),
     (PLAIN, "patrols = 1", "patrols = 1\nschedule = []", 5, "document", 5, "beside `patrols`"),
     (TABLES, "follower = [[1, 0], [0, 2]]", "follower = [[1, 0], [0, 2]]\npayoffs = []", 5, "type 1", 11, "matrix form"),

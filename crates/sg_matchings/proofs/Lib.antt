@@ -1,0 +1,15 @@
+pub mod Counts
+pub mod Full
+pub mod Hall
+pub mod Least
+pub mod Lowered
+pub mod MirrorMatchings
+pub mod PadSteps
+pub mod PaddedSums
+pub mod Paths
+pub mod Perfect
+pub mod Places
+pub mod Steps
+pub mod Parts
+pub mod Turning
+pub mod WorkedTables
