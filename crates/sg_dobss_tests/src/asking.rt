@@ -50,12 +50,7 @@ pub fn entry_of(game: &Game, listed: &Listed, play: &[u16], row: usize) -> Optio
 }
 
 /// What pricing answers, with the column that it leaves behind; `None` where there are not as many multipliers as rows.
-pub fn answer_of(
-    listed: &Listed,
-    y: &[i128],
-    rho: i128,
-    budget: u64,
-) -> Option<(Priced, Column)> {
+pub fn answer_of(listed: &Listed, y: &[i128], rho: i128, budget: u64) -> Option<(Priced, Column)> {
     if y.len() != listed.rows() {
         return None;
     }

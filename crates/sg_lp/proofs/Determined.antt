@@ -43,8 +43,8 @@ module _ {B : Type 0} (n : ℕ) (A : B → ℕ → ℤ) (c : B → ℤ) (b : ℕ
 
   multipliers_along : (j : ℕ) → j < n → rho' *ℤ y j ≡ rho *ℤ y' j
   multipliers_along j hj = equal_from _ _ (nothing (combined rho' rho y y') (λ k hk.
-    dot-combined n rho' rho y y' (A (b k)) ∙ two (λ x z. rho' *ℤ x -ℤ rho *ℤ z) (st.prices k hk) (st'.prices k hk)
-    ∙ ring (rho' ∷ rho ∷ c (b k) ∷ []) (var 0 ⊗ (var 1 ⊗ var 2) ⊖ var 1 ⊗ (var 0 ⊗ var 2)) (num (pos 0)) tt) j hj)
+      dot-combined n rho' rho y y' (A (b k)) ∙ two (λ x z. rho' *ℤ x -ℤ rho *ℤ z) (st.prices k hk) (st'.prices k hk)
+      ∙ ring (rho' ∷ rho ∷ c (b k) ∷ []) (var 0 ⊗ (var 1 ⊗ var 2) ⊖ var 1 ⊗ (var 0 ⊗ var 2)) (num (pos 0)) tt) j hj)
 
 last : (n k : ℕ) → k < suc n → (k < n) ⊎ (k ≡ n)
 last n k h = grind arith
@@ -62,11 +62,11 @@ determined p t u st su e =
     let p1 : (k : ℕ) → k < n → Primitive n (M k) = λ k h. primitive_row n (row_at t k) (row1 k h) (st.lowest k [] (let l = st.shaped.rows_long in omega arith)) in
     let p2 : (k : ℕ) → k < n → Primitive n (M' k) = λ k h. primitive_row n (row_at u k) (row2 k h) (su.lowest k [] (let l = su.shaped.rows_long in omega arith)) in
     let all = primitive-unique (suc n) (with_last n (place t.y) t.rho) (with_last n (place u.y) u.rho) u.rho t.rho su.state.scaled st.state.scaled
-        (primitive_last n t.y t.rho st.shaped.y_long st.y_lowest) (primitive_last n u.y u.rho su.shaped.y_long su.y_lowest)
-        (λ j h. elim (last n j h) [
-          | inl lt ↦ ap (λ z. u.rho *ℤ z) (other_is n j t.y t.rho lt) ∙ multipliers_along n A c (member_at t) M M' (place t.y) (place u.y) t.rho u.rho st.state s' j lt ∙ ap (λ z. t.rho *ℤ z) (sym (other_is n j u.y u.rho lt))
-          | inr same ↦ rw same (ap (λ z. u.rho *ℤ z) (last_is n t.y t.rho) ∙ ring (u.rho ∷ t.rho ∷ []) (var 0 ⊗ var 1) (var 1 ⊗ var 0) tt ∙ ap (λ z. t.rho *ℤ z) (sym (last_is n u.y u.rho)))
-        ]) in
+    (primitive_last n t.y t.rho st.shaped.y_long st.y_lowest) (primitive_last n u.y u.rho su.shaped.y_long su.y_lowest)
+    (λ j h. elim (last n j h) [
+      | inl lt ↦ ap (λ z. u.rho *ℤ z) (other_is n j t.y t.rho lt) ∙ multipliers_along n A c (member_at t) M M' (place t.y) (place u.y) t.rho u.rho st.state s' j lt ∙ ap (λ z. t.rho *ℤ z) (sym (other_is n j u.y u.rho lt))
+      | inr same ↦ rw same (ap (λ z. u.rho *ℤ z) (last_is n t.y t.rho) ∙ ring (u.rho ∷ t.rho ∷ []) (var 0 ⊗ var 1) (var 1 ⊗ var 0) tt ∙ ap (λ z. t.rho *ℤ z) (sym (last_is n u.y u.rho)))
+    ]) in
     same_parts t u e
     (same_lists [] t.rows u.rows (st.shaped.rows_long ∙ sym su.shaped.rows_long) (λ k h. let hk : k < n = (let l = st.shaped.rows_long in omega arith) in
     same_lists (pos 0) (row_at t k) (row_at u k) (row1 k hk ∙ sym (row2 k hk)) (λ j l. same_row n A c (member_at t) M M' (place t.y) (place u.y) t.rho u.rho st.state s' k hk (p1 k hk) (p2 k hk) j (let d = row1 k hk in omega arith))))

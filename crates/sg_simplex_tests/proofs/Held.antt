@@ -70,10 +70,13 @@ module _ (v : TableView) (is : IsBoundedTable v) where
   }
 
   pub is_bounded : IsBounded (table_program v)
-  is_bounded = (bounding, record {
-    nonnegative = λ j lt. bounding-nonneg j;
-    allows = of_all (λ c. (table_program v).cost c ≤ℤ dot v.height bounding ((table_program v).entry c)) (λ k lt. allowed v.height (place v.costs k) (slice_index_or v.entries k []) is.some (is.columns k lt));
-  })
+  is_bounded = (
+    bounding,
+    record {
+      nonnegative = λ j lt. bounding-nonneg j;
+      allows = of_all (λ c. (table_program v).cost c ≤ℤ dot v.height bounding ((table_program v).entry c)) (λ k lt. allowed v.height (place v.costs k) (slice_index_or v.entries k []) is.some (is.columns k lt));
+    },
+  )
 
 -- what is kept, as the table is seen
 pub table-by : (v inner : TableView) → inner ≡ v → IsBoundedTable inner → IsBoundedTable v

@@ -59,20 +59,90 @@ const LONG_PRICE: Columns = &[
 
 /// Ends by budgets.
 static BUDGETS: [Case; 5] = [
-    Case { height: 2, columns: TWO_ROWS, pivots: 1, looks: 100, moves: 1, end: Turn::PivotsSpent },
-    Case { height: 2, columns: TWO_ROWS, pivots: 2, looks: 100, moves: 2, end: Turn::Done },
-    Case { height: 2, columns: TWO_ROWS, pivots: 6, looks: 2, moves: 2, end: Turn::Done },
-    Case { height: 2, columns: THREE_COLUMNS, pivots: 100, looks: 2, moves: 2, end: Turn::LooksSpent },
-    Case { height: 2, columns: THREE_COLUMNS, pivots: 100, looks: 3, moves: 2, end: Turn::Done },
+    Case {
+        height: 2,
+        columns: TWO_ROWS,
+        pivots: 1,
+        looks: 100,
+        moves: 1,
+        end: Turn::PivotsSpent,
+    },
+    Case {
+        height: 2,
+        columns: TWO_ROWS,
+        pivots: 2,
+        looks: 100,
+        moves: 2,
+        end: Turn::Done,
+    },
+    Case {
+        height: 2,
+        columns: TWO_ROWS,
+        pivots: 6,
+        looks: 2,
+        moves: 2,
+        end: Turn::Done,
+    },
+    Case {
+        height: 2,
+        columns: THREE_COLUMNS,
+        pivots: 100,
+        looks: 2,
+        moves: 2,
+        end: Turn::LooksSpent,
+    },
+    Case {
+        height: 2,
+        columns: THREE_COLUMNS,
+        pivots: 100,
+        looks: 3,
+        moves: 2,
+        end: Turn::Done,
+    },
 ];
 
 /// Ends where budgets come together: pricing is asked before the moves are counted, unless a slack enters.
 static ORDERS: [Case; 5] = [
-    Case { height: 2, columns: TWO_ROWS, pivots: 1, looks: 1, moves: 1, end: Turn::LooksSpent },
-    Case { height: 2, columns: TWO_ROWS, pivots: 0, looks: 0, moves: 0, end: Turn::LooksSpent },
-    Case { height: 2, columns: TWO_ROWS, pivots: 0, looks: 1, moves: 0, end: Turn::PivotsSpent },
-    Case { height: 2, columns: &[(1, &[1, 1]), (3, &[1, -1])], pivots: 2, looks: 2, moves: 2, end: Turn::PivotsSpent },
-    Case { height: 6, columns: LONG_PRODUCTS, pivots: 4, looks: 100, moves: 4, end: Turn::PivotsSpent },
+    Case {
+        height: 2,
+        columns: TWO_ROWS,
+        pivots: 1,
+        looks: 1,
+        moves: 1,
+        end: Turn::LooksSpent,
+    },
+    Case {
+        height: 2,
+        columns: TWO_ROWS,
+        pivots: 0,
+        looks: 0,
+        moves: 0,
+        end: Turn::LooksSpent,
+    },
+    Case {
+        height: 2,
+        columns: TWO_ROWS,
+        pivots: 0,
+        looks: 1,
+        moves: 0,
+        end: Turn::PivotsSpent,
+    },
+    Case {
+        height: 2,
+        columns: &[(1, &[1, 1]), (3, &[1, -1])],
+        pivots: 2,
+        looks: 2,
+        moves: 2,
+        end: Turn::PivotsSpent,
+    },
+    Case {
+        height: 6,
+        columns: LONG_PRODUCTS,
+        pivots: 4,
+        looks: 100,
+        moves: 4,
+        end: Turn::PivotsSpent,
+    },
 ];
 
 /// Ends by a value that doesn't fit.
@@ -83,7 +153,14 @@ static MISFITS: [Case; 4] = [
         pivots: 100,
         looks: 100,
         moves: 4,
-        end: Turn::Wide(2, Wide { op: Op::Times, left: HUGE, right: -9 }),
+        end: Turn::Wide(
+            2,
+            Wide {
+                op: Op::Times,
+                left: HUGE,
+                right: -9,
+            },
+        ),
     },
     Case {
         height: 7,
@@ -91,7 +168,14 @@ static MISFITS: [Case; 4] = [
         pivots: 100,
         looks: 100,
         moves: 4,
-        end: Turn::Wide(3, Wide { op: Op::Times, left: -2147483648, right: HUGE }),
+        end: Turn::Wide(
+            3,
+            Wide {
+                op: Op::Times,
+                left: -2147483648,
+                right: HUGE,
+            },
+        ),
     },
     Case {
         height: 6,
@@ -99,7 +183,14 @@ static MISFITS: [Case; 4] = [
         pivots: 100,
         looks: 100,
         moves: 5,
-        end: Turn::Wide(2, Wide { op: Op::Times, left: 21267647942462174285355641184253378561, right: 9 }),
+        end: Turn::Wide(
+            2,
+            Wide {
+                op: Op::Times,
+                left: 21267647942462174285355641184253378561,
+                right: 9,
+            },
+        ),
     },
     Case {
         height: 6,

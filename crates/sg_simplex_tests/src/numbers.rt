@@ -12,11 +12,7 @@ const HALF: i128 = 85070591730234615865843651857942052864; // 2^126
 type Misfit = (Op, i128, i128);
 
 /// A row, as many small numbers, and the sum of their products.
-type Sum = (
-    &'static [i128],
-    &'static [i64],
-    Result<i128, Misfit>,
-);
+type Sum = (&'static [i128], &'static [i64], Result<i128, Misfit>);
 
 /// Sums of products.
 static SUMS: [Sum; 9] = [
@@ -84,12 +80,26 @@ static COMBINATIONS: [Combination; 10] = [
     ([0, 0], 1, 1, [MOST, MOST], [-MOST, -MOST], Ok(())),
     ([-1, 0], 1, 1, [MOST, 1], [LEAST, -1], Ok(())),
     // the first place that doesn't fit is the second; the first is not written
-    ([5, HALF], 2, 1, [1, 0], [5, HALF], Err((Op::Times, HALF, 2))),
+    (
+        [5, HALF],
+        2,
+        1,
+        [1, 0],
+        [5, HALF],
+        Err((Op::Times, HALF, 2)),
+    ),
     ([5, 1], 1, 2, [1, HALF], [5, 1], Err((Op::Times, 2, HALF))),
     // -2 * 2^126 fits
     ([5, 1], 1, -2, [1, HALF], [5, 1], Err((Op::Less, 1, LEAST))),
     ([5, -2], 1, 1, [1, MOST], [5, -2], Err((Op::Less, -2, MOST))),
-    ([0, 1], 1, 1, [LEAST, MOST], [0, 1], Err((Op::Less, 0, LEAST))),
+    (
+        [0, 1],
+        1,
+        1,
+        [LEAST, MOST],
+        [0, 1],
+        Err((Op::Less, 0, LEAST)),
+    ),
 ];
 
 /// Whether a combination is as it should be.
@@ -125,11 +135,27 @@ type Divided = ([i128; 3], u128, [i128; 3]);
 static DIVIDED: [Divided; 8] = [
     ([4, -6, 10], 2, [2, -3, 5]),
     ([0, 0, 0], 0, [0, 0, 0]),
-    ([0, LEAST, 0], 170141183460469231731687303715884105728, [0, -1, 0]),
-    ([LEAST, LEAST, LEAST], 170141183460469231731687303715884105728, [-1, -1, -1]),
-    ([LEAST, HALF, 0], 85070591730234615865843651857942052864, [-2, 1, 0]),
+    (
+        [0, LEAST, 0],
+        170141183460469231731687303715884105728,
+        [0, -1, 0],
+    ),
+    (
+        [LEAST, LEAST, LEAST],
+        170141183460469231731687303715884105728,
+        [-1, -1, -1],
+    ),
+    (
+        [LEAST, HALF, 0],
+        85070591730234615865843651857942052864,
+        [-2, 1, 0],
+    ),
     ([LEAST, MOST, 0], 1, [LEAST, MOST, 0]),
-    ([MOST, 0, -MOST], 170141183460469231731687303715884105727, [1, 0, -1]),
+    (
+        [MOST, 0, -MOST],
+        170141183460469231731687303715884105727,
+        [1, 0, -1],
+    ),
     // only the last place keeps the divisor from being 6
     ([12, -18, 4], 2, [6, -9, 2]),
 ];

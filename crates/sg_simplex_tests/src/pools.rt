@@ -72,7 +72,11 @@ fn end_in_turn(one: &mut Node<Table>, other: &mut Node<Table>) -> bool
     let first = one.turn() == Turn::Moved && other.turn() == Turn::Moved;
     let second = one.turn() == Turn::Moved && other.turn() == Turn::Moved;
     let third = one.turn() == Turn::Done && other.turn() == Turn::Done;
-    first && second && third && one.state().multipliers() == [3].as_slice() && other.state().multipliers() == [11, 1].as_slice()
+    first
+        && second
+        && third
+        && one.state().multipliers() == [3].as_slice()
+        && other.state().multipliers() == [11, 1].as_slice()
 }
 
 #[test]
