@@ -5,6 +5,7 @@ use Rattle.sg_format.specs.GameFiles.{game_of_bytes}
 use Rattle.sg_tree.specs.declared.report.Report.{Report}
 use Rattle.sg_cert.specs.Reading.{report_of}
 use Rattle.sg_shelf.specs.Files.{Files, HandsOver, Reads}
+use Rattle.sg_cli.specs.declared.input.TheConstants.{GAME_LIMIT, REPORT_LIMIT}
 use Rattle.sg_cli.specs.declared.input.InputKind.{InputKind}
 use Rattle.sg_cli.specs.declared.input.InputKind.TheVariants as kinds
 use Rattle.sg_cli.specs.declared.input.InputFault.{InputFault}
@@ -23,8 +24,8 @@ report_file name = record { kind = kinds.Report; name = name }
 
 -- the most bytes that a file may have: 4 MiB for a game, 512 MiB for a report
 abbrev pub input_limit : InputKind → ℕ
-input_limit kinds.Game = 4194304
-input_limit kinds.Report = 536870912
+input_limit kinds.Game = GAME_LIMIT
+input_limit kinds.Report = REPORT_LIMIT
 
 -- what a file holds
 pub data Content : Type 0 where

@@ -5,6 +5,13 @@ ghost use Rattle.sg_cli.specs.Inputs.{input_limit};
 
 use sg_cert::ReportFault;
 use sg_model::GameFault;
+use sg_shelf::READ_LIMIT;
+
+/// The most bytes of a game file: 4 MiB.
+pub const GAME_LIMIT: usize = 4_194_304;
+
+/// The most bytes of a report: 512 MiB, as many as may be asked of a read.
+pub const REPORT_LIMIT: usize = READ_LIMIT;
 
 /// A kind of file.
 #[derive(Clone, Copy, Debug, PartialEq, Eq)]
@@ -30,8 +37,8 @@ impl InputKind {
         ensures { result ≡ input_limit self }
     {
         match self {
-            InputKind::Game => 4_194_304,
-            InputKind::Report => 536_870_912,
+            InputKind::Game => GAME_LIMIT,
+            InputKind::Report => REPORT_LIMIT,
         }
     }
 }

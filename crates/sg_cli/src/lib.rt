@@ -24,7 +24,7 @@ mod solving;
 mod telling;
 
 pub use call::run;
-pub use input::{InputFault, InputKind};
+pub use input::{GAME_LIMIT, InputFault, InputKind, REPORT_LIMIT};
 pub use laws::{
     checks_are_worked, limits_are_worked, one_status_is_due, refusals_are_worked,
     right_reports_are_short, solved_is_checked,

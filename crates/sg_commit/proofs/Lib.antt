@@ -7,6 +7,7 @@ pub mod SharedTotals
 pub mod ExactSums
 pub mod SumSteps
 pub mod Responses
+pub mod Answering
 pub mod Worths
 pub mod Counting
 pub mod Small

@@ -17,6 +17,9 @@ use Rattle.sg_commit.specs.ExactSums.{exact_sum_a, exact_sum_d}
 use Rattle.sg_game.specs.declared.cell.Cell.{Cell}
 use Rattle.sg_game.specs.Tallies.{IsCounted, IsTally, no_cell}
 use Rattle.sg_commit.specs.Tallies.{counted_sum}
+use Rattle.sg_commit.specs.declared.side.Side.{Side}
+use Rattle.sg_commit.specs.declared.side.Side.TheVariants.{Defender, Attacker}
+use Rattle.sg_commit.specs.Sides.{covered_to, exact_sum_to, uncovered_to}
 use Rattle.sg_model.proofs.Spans.{Within, product-within}
 use Rattle.sg_commit.proofs.Small.{dot_step-ok, exact_ok, few-sum_a, few-sum_d}
 use Rattle.sg_model.proofs.Covers.{ArePositive}
@@ -72,16 +75,20 @@ module _ (g : Game) (h : IsGame g) (k : List Ticket) (positive : ArePositive k) 
   many : weight_total k ≤ℤ pos (2 ^ 96)
   many = omega (arith, ints, c.few)
 
-  pub counted_d-is : counted_sum whole count (payoff g l a).dc (payoff g l a).du ≡ exact_sum_d g k l a
+  counted_d-is : counted_sum whole count (payoff g l a).dc (payoff g l a).du ≡ exact_sum_d g k l a
   counted_d-is =
       let r = payoff-in_range g h l a in
       by_counts (payoff g l a).dc (payoff g l a).du r.dc r.du
       ∙ (ap (λ (b : Bool). Ok (total (λ (x : Ticket). x.weight *ℤ cond b (nth (nth (attacker g l).leader (slice_index x.play.code 0) []) a (pos 0)) (cond (covers g x.play.code a) (payoff g l a).dc (payoff g l a).du)) k)) (sym c.security)
       ∙ sym (few-sum_d g h k positive many l a))
 
-  pub counted_a-is : counted_sum whole count (payoff g l a).ac (payoff g l a).au ≡ exact_sum_a g k l a
+  counted_a-is : counted_sum whole count (payoff g l a).ac (payoff g l a).au ≡ exact_sum_a g k l a
   counted_a-is =
       let r = payoff-in_range g h l a in
       by_counts (payoff g l a).ac (payoff g l a).au r.ac r.au
       ∙ (ap (λ (b : Bool). Ok (total (λ (x : Ticket). x.weight *ℤ cond b (nth (nth (attacker g l).follower (slice_index x.play.code 0) []) a (pos 0)) (cond (covers g x.play.code a) (payoff g l a).ac (payoff g l a).au)) k)) (sym c.security)
       ∙ sym (few-sum_a g h k positive many l a))
+
+  pub counted_to-is : (side : Side) → counted_sum whole count (covered_to side (payoff g l a)) (uncovered_to side (payoff g l a)) ≡ exact_sum_to side g k l a
+  counted_to-is Defender = counted_d-is
+  counted_to-is Attacker = counted_a-is

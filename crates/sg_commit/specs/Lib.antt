@@ -3,8 +3,10 @@ pub mod Parts
 pub mod Joining
 pub mod Rising
 pub mod ExactSums
+pub mod Sides
 pub mod SumSteps
 pub mod SumExamples
 pub mod Responses
+pub mod Answers
 pub mod CommitmentLaws
 pub mod Tallies

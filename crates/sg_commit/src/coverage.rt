@@ -1,10 +1,10 @@
-//! How many tickets of a commitment cover a target.
+//! How many tickets of a commitment cover a target, or play a row.
 
-ghost use Rattle.std.specs.Prelude.{◌≡◌, ◌-◌, ◌^◌, false, if◌then◌else◌, pos, ◌≤ℤ◌, All};
+ghost use Rattle.std.specs.Prelude.{◌≡◌, ◌-◌, ◌^◌, false, if◌then◌else◌, [], ◌∷◌, bytes_eq, pos, ◌≤ℤ◌, All};
 ghost use Rattle.sg_model.specs.declared.ticket.Ticket.{Ticket};
 ghost use Rattle.sg_model.specs.Games.{is_matrix};
 ghost use Rattle.sg_model.specs.Plays.{IsLegal, covers};
-ghost use Rattle.sg_model.specs.Commitments.{cover_count, weight_total, AreLegal};
+ghost use Rattle.sg_model.specs.Commitments.{cover_count, weight_on, weight_total, AreLegal};
 ghost use Rattle.sg_game.specs.Counts.{IsGoalOf};
 
 use crate::commitment::Commitment;
@@ -54,4 +54,36 @@ pub fn cover_count(game: &Game, k: &Commitment, target: u16) -> i128
 {
     let _total = k.total();
     count_in(game, k.tickets(), target)
+}
+
+// The weight of a ticket of this row, and 0 of another.
+fn played(ticket: &Ticket, row: u16) -> i128
+    ensures { result ≡ (if bytes_eq ticket.now.play.code (row ∷ []) then ticket.now.weight else pos 0) }
+{
+    if ticket.play.code.as_slice() == [row].as_slice() {
+        ticket.weight
+    } else {
+        0
+    }
+}
+
+// The weights of those of the tickets that play the row.
+fn played_in(tickets: &[Ticket], row: u16) -> i128
+    requires positive { All (λ (x : Ticket). pos 1 ≤ℤ x.weight) tickets.now }
+    requires fits { weight_total tickets.now ≤ℤ pos (2 ^ 127 - 1) }
+    ensures { result ≡ weight_on tickets.now (row ∷ []) }
+{
+    let mut count = 0;
+    for ticket in tickets {
+        count += played(ticket, row);
+    }
+    count
+}
+
+/// The weights of the tickets that play the row, in matrix form.
+pub fn played_count(k: &Commitment, row: u16) -> i128
+    ensures { result ≡ weight_on k.now.tickets (row ∷ []) }
+{
+    let _total = k.total();
+    played_in(k.tickets(), row)
 }

@@ -1,5 +1,6 @@
 //! Laws about commitments, each as the contract of a function that does nothing.
 
+ghost use Rattle.sg_commit.specs.Answers.{AnswersAreFirst};
 ghost use Rattle.sg_commit.specs.CommitmentLaws.{KeptIsCommitment, LegalPartsStayLegal, ScaledIsSmall, SharesFixKept, SmallIsFormed};
 ghost use Rattle.sg_commit.specs.SumExamples.{AreWorkedSums};
 ghost use Rattle.sg_commit.specs.SumSteps.{SumsAreFormed};
@@ -32,6 +33,11 @@ pub fn scaled_is_small()
 /// Each sum comes where all operations under it fit, and else the first that doesn't is told, with its operands.
 pub fn sums_are_formed()
     ensures { SumsAreFormed }
+{}
+
+/// Each type has an answer: a best action that gives the defender the most, and the first such action.
+pub fn answers_are_first()
+    ensures { AnswersAreFirst }
 {}
 
 /// The operations under the value of a small commitment, and the first that doesn't fit, worked out by hand.

@@ -1,17 +1,20 @@
 //! How a type of attacker answers a commitment, and what that leaves the defender.
 
-ghost use Rattle.std.specs.Prelude.{◌≡◌, ◌≤◌, ◌-◌, ◌^◌, false, pos, ◌≤ℤ◌, None, Ok, IfOk, IsTrue};
+ghost use Rattle.std.specs.Prelude.{◌≡◌, ◌≤◌, ◌-◌, ◌^◌, false, true, pos, ◌≤ℤ◌, None, Ok, IfOk, IfSome, IsTrue};
+ghost use Rattle.std.specs.Ordering.{int_eq};
 ghost use Rattle.std.specs.Int.{int_max};
 ghost use Rattle.sg_model.specs.Sums.{numbers, numbers_from};
 ghost use Rattle.sg_model.specs.Games.{action_count, is_matrix};
-ghost use Rattle.sg_model.specs.Commitments.{is_best, take_of, AreLegal};
+ghost use Rattle.sg_model.specs.Commitments.{is_best, sum_d, take_of, AreLegal};
 ghost use Rattle.sg_game.specs.Counts.{IsActionOf, IsTypeOf};
+ghost use Rattle.sg_commit.specs.Answers.{IsExactAnswer, answer, is_answer};
 ghost use Rattle.sg_commit.specs.ExactSums.{compared, exact_is_best, exact_take, unless};
 ghost use Rattle.sg_game.specs.Tallies.{IsTally};
 ghost use Rattle.sg_commit.specs.Responses.{settled, take_from, take_step, taken_with, top_from, top_sum};
 
 use crate::commitment::Commitment;
-use crate::tally::{ROOM, count_all, table_sum_a, table_sum_d};
+use crate::side::Side;
+use crate::tally::{ROOM, count_all, table_sum};
 use sg_game::{Cell, Game, Kind};
 use sg_num::Wide;
 
@@ -34,7 +37,7 @@ fn top_after(game: &Game, k: &Commitment, table: &[Cell], l: u8, first: i128) ->
 {
     let mut top = first;
     for i in 1..game.actions(l) {
-        match table_sum_a(game, k, table, l, i + 1) {
+        match table_sum(Side::Attacker, game, k, table, l, i + 1) {
             Ok(sum) => top = greater(top, sum),
             Err(wide) => return Err(wide),
         }
@@ -58,7 +61,7 @@ fn top_of(game: &Game, k: &Commitment, table: &[Cell], l: u8) -> Result<i128, Wi
     ensures { result ≡ unless (compared game.now k.now.tickets l) (Ok (top_sum game.now k.now.tickets l)) }
 {
     has_action(game, l);
-    match table_sum_a(game, k, table, l, 1) {
+    match table_sum(Side::Attacker, game, k, table, l, 1) {
         Ok(first) => top_after(game, k, table, l, first),
         Err(wide) => Err(wide),
     }
@@ -74,7 +77,7 @@ fn attains(game: &Game, k: &Commitment, table: &[Cell], l: u8, a: u16, top: i128
     requires top { top ≡ top_sum game.now k.now.tickets l }
     ensures { result ≡ is_best game.now k.now.tickets l a }
 {
-    match table_sum_a(game, k, table, l, a) {
+    match table_sum(Side::Attacker, game, k, table, l, a) {
         Ok(sum) => top <= sum,
         Err(_) => unreachable!(),
     }
@@ -111,7 +114,7 @@ fn look(
     if !attains(game, k, table, l, a, top) {
         return Ok(taken);
     }
-    match table_sum_d(game, k, table, l, a) {
+    match table_sum(Side::Defender, game, k, table, l, a) {
         Ok(sum) => Ok(Some(taken_with(taken, sum))),
         Err(wide) => Err(wide),
     }
@@ -180,6 +183,115 @@ fn table_take(game: &Game, k: &Commitment, table: &[Cell], l: u8) -> Result<i128
     }
 }
 
+// Whether two sums are one.
+fn is_same(a: i128, b: i128) -> bool
+    ensures { result ≡ int_eq a b }
+{
+    a == b
+}
+
+// Whether the best action `a` gives the defender what is taken, where it is known to be formed.
+fn gives(game: &Game, k: &Commitment, table: &[Cell], l: u8, a: u16, taken: i128) -> bool
+    requires legal { AreLegal game.now k.now.tickets }
+    requires table { IsTally game.now k.now.tickets table.now }
+    requires known_type { IsTypeOf game.now l }
+    requires known_action { IsActionOf game.now l a }
+    requires best { is_best game.now k.now.tickets l a ≡ true }
+    requires taken { exact_take game.now k.now.tickets l ≡ Ok taken }
+    ensures { result ≡ int_eq (sum_d game.now k.now.tickets l a) (take_of game.now k.now.tickets l) }
+{
+    match table_sum(Side::Defender, game, k, table, l, a) {
+        Ok(sum) => is_same(sum, taken),
+        Err(_) => unreachable!(),
+    }
+}
+
+// Whether type `l` may answer by action `a`, where the greatest sum and what is taken are known.
+fn may_answer(
+    game: &Game,
+    k: &Commitment,
+    table: &[Cell],
+    l: u8,
+    a: u16,
+    top: i128,
+    taken: i128,
+) -> bool
+    requires legal { AreLegal game.now k.now.tickets }
+    requires table { IsTally game.now k.now.tickets table.now }
+    requires known_type { IsTypeOf game.now l }
+    requires known_action { IsActionOf game.now l a }
+    requires compared { compared game.now k.now.tickets l ≡ None }
+    requires top { top ≡ top_sum game.now k.now.tickets l }
+    requires taken { exact_take game.now k.now.tickets l ≡ Ok taken }
+    ensures { result ≡ is_answer game.now k.now.tickets l a }
+{
+    if attains(game, k, table, l, a, top) {
+        gives(game, k, table, l, a, taken)
+    } else {
+        false
+    }
+}
+
+// The answer of type `l`, where the greatest sum and what is taken are known.
+fn first_answer(
+    game: &Game,
+    k: &Commitment,
+    table: &[Cell],
+    l: u8,
+    top: i128,
+    taken: i128,
+) -> Option<u16>
+    requires legal { AreLegal game.now k.now.tickets }
+    requires table { IsTally game.now k.now.tickets table.now }
+    requires known_type { IsTypeOf game.now l }
+    requires compared { compared game.now k.now.tickets l ≡ None }
+    requires top { top ≡ top_sum game.now k.now.tickets l }
+    requires taken { exact_take game.now k.now.tickets l ≡ Ok taken }
+    ensures answer { result ≡ answer game.now k.now.tickets l }
+    ensures known { IfSome result (IsActionOf game.now l) }
+{
+    for i in 0..game.actions(l) {
+        if may_answer(game, k, table, l, i + 1, top, taken) {
+            return Some(i + 1);
+        }
+    }
+    None
+}
+
+// The answer of type `l`, where the greatest sum is known.
+fn answer_under(
+    game: &Game,
+    k: &Commitment,
+    table: &[Cell],
+    l: u8,
+    top: i128,
+) -> Result<Option<u16>, Wide>
+    requires legal { AreLegal game.now k.now.tickets }
+    requires table { IsTally game.now k.now.tickets table.now }
+    requires known_type { IsTypeOf game.now l }
+    requires compared { compared game.now k.now.tickets l ≡ None }
+    requires top { top ≡ top_sum game.now k.now.tickets l }
+    ensures { IsExactAnswer game.now k.now.tickets l result }
+{
+    match settle(look_at_all(game, k, table, l, top)) {
+        Ok(taken) => Ok(first_answer(game, k, table, l, top, taken)),
+        Err(wide) => Err(wide),
+    }
+}
+
+// `answer`, by the table of counts where there is one.
+fn table_answer(game: &Game, k: &Commitment, table: &[Cell], l: u8) -> Result<Option<u16>, Wide>
+    requires legal { AreLegal game.now k.now.tickets }
+    requires table { IsTally game.now k.now.tickets table.now }
+    requires known_type { IsTypeOf game.now l }
+    ensures { IsExactAnswer game.now k.now.tickets l result }
+{
+    match top_of(game, k, table, l) {
+        Ok(top) => answer_under(game, k, table, l, top),
+        Err(wide) => Err(wide),
+    }
+}
+
 // Whether the sums can come from counts: in security form, with a total of at most 2^95.
 fn is_countable(game: &Game, k: &Commitment) -> bool
     ensures security { IsTrue result → is_matrix game.now ≡ false }
@@ -218,6 +330,19 @@ fn counted_take(game: &Game, k: &Commitment, l: u8) -> Result<i128, Wide>
     table_take(game, k, &cells, l)
 }
 
+// `answer`, by counts.
+fn counted_answer(game: &Game, k: &Commitment, l: u8) -> Result<Option<u16>, Wide>
+    requires security { is_matrix game.now ≡ false }
+    requires few { k.now.total ≤ℤ pos (2 ^ 95) }
+    requires legal { AreLegal game.now k.now.tickets }
+    requires known_type { IsTypeOf game.now l }
+    ensures { IsExactAnswer game.now k.now.tickets l result }
+{
+    let mut cells = [Cell { mark: 0, count: 0 }; ROOM];
+    count_all(game, k, &mut cells);
+    table_answer(game, k, &cells, l)
+}
+
 /// Whether action `a` is best for type `l`: no action has a greater sum.
 ///
 /// # Errors
@@ -253,5 +378,22 @@ pub fn take(game: &Game, k: &Commitment, l: u8) -> Result<i128, Wide>
         counted_take(game, k, l)
     } else {
         table_take(game, k, &[], l)
+    }
+}
+
+/// The action by which type `l` answers: the first of its best actions that give the defender the most. There always is one.
+///
+/// # Errors
+///
+/// As `take`: the first operation that does not fit.
+pub fn answer(game: &Game, k: &Commitment, l: u8) -> Result<Option<u16>, Wide>
+    requires legal { AreLegal game.now k.now.tickets }
+    requires known_type { IsTypeOf game.now l }
+    ensures { IsExactAnswer game.now k.now.tickets l result }
+{
+    if is_countable(game, k) {
+        counted_answer(game, k, l)
+    } else {
+        table_answer(game, k, &[], l)
     }
 }

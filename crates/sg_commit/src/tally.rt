@@ -1,17 +1,19 @@
 //! Counts of the tickets that cover each target, made in one walk over the tickets.
 
-ghost use Rattle.std.specs.Prelude.{◌≡◌, ◌≤◌, ◌<◌, ◌^◌, false, length, pos, ◌≤ℤ◌, All, replicate, slice_index_or};
+ghost use Rattle.std.specs.Prelude.{◌≡◌, ◌≤◌, ◌<◌, ◌^◌, false, length, pos, ◌≤ℤ◌, All, ℕ, replicate, slice_index_or};
+ghost use Rattle.sg_model.specs.declared.limit.TheConstants.{SCALED_TARGET_LIMIT};
 ghost use Rattle.sg_model.specs.Games.{is_matrix, payoff, resource_schedules, schedule_targets};
 ghost use Rattle.sg_model.specs.Plays.{IsLegal};
 ghost use Rattle.sg_model.specs.Sums.{nth};
 ghost use Rattle.sg_game.specs.Tallies.{IsTally, marked, no_cell, tallied, touched, touched_all, touched_from};
 ghost use Rattle.sg_game.specs.Counts.{IsActionOf, IsGoalOf, IsResourceOf, IsTypeOf};
-ghost use Rattle.sg_model.specs.Commitments.{AreLegal};
-ghost use Rattle.sg_commit.specs.ExactSums.{exact_sum_a, exact_sum_d};
+ghost use Rattle.sg_model.specs.Commitments.{cover_count, AreLegal};
+ghost use Rattle.sg_commit.specs.Sides.{covered_to, exact_sum_to, uncovered_to};
 ghost use Rattle.sg_commit.specs.Tallies.{counted_sum};
 
 use crate::commitment::Commitment;
-use crate::sums::{sum_a, sum_d};
+use crate::side::Side;
+use crate::sums::sum_to;
 use sg_game::{Cell, Game};
 use sg_model::Ticket;
 use sg_num::{Wide, dot_step, times};
@@ -97,12 +99,26 @@ fn tally(game: &Game, tickets: &[Ticket], cells: &mut [Cell])
     }
 }
 
+/// Counts the tickets that cover each target of a game in security form, in one walk over the tickets, in cells in which
+/// nothing is counted yet: those of target `t` at place `t`.
+pub fn count_covers(game: &Game, k: &Commitment, cells: &mut [Cell])
+    requires security { is_matrix game.now ≡ false }
+    requires legal { AreLegal game.now k.now.tickets }
+    requires room { length game.now.goals < length cells.old }
+    requires fresh { cells.old ≡ replicate (length cells.old) no_cell }
+    ensures size { length cells.new ≡ length cells.old }
+    ensures counts { (t : ℕ) → t < length cells.old → (slice_index_or cells.new t no_cell).count ≡ cover_count game.now k.now.tickets t }
+{
+    let _total = k.total();
+    tally(game, k.tickets(), cells);
+}
+
 /// Counts all tickets of the commitment in cells in which nothing is counted yet.
 pub(crate) fn count_all(game: &Game, k: &Commitment, cells: &mut [Cell])
     requires security { is_matrix game.now ≡ false }
     requires few { k.now.total ≤ℤ pos (2 ^ 95) }
     requires legal { AreLegal game.now k.now.tickets }
-    requires room { 10000 < length cells.old }
+    requires room { SCALED_TARGET_LIMIT < length cells.old }
     requires fresh { cells.old ≡ replicate (length cells.old) no_cell }
     ensures { IsTally game.now k.now.tickets cells.new }
 {
@@ -129,30 +145,20 @@ fn mixed(total: i128, count: i128, covered: i64, uncovered: i64) -> Result<i128,
     }
 }
 
-// The defender's sum of a target, by its count.
-fn counted_d(game: &Game, total: i128, count: i128, l: u8, t: u16) -> Result<i128, Wide>
+// A side's sum of a target, by its count.
+fn counted(side: Side, game: &Game, total: i128, count: i128, l: u8, t: u16) -> Result<i128, Wide>
     requires security { is_matrix game.now ≡ false }
     requires known_type { IsTypeOf game.now l }
     requires known_target { IsGoalOf game.now t }
-    ensures { result ≡ counted_sum total count (payoff game.now l t).dc (payoff game.now l t).du }
+    ensures { result ≡ counted_sum total count (covered_to side (payoff game.now l t)) (uncovered_to side (payoff game.now l t)) }
 {
-    let [covered, uncovered, _, _] = game.payoffs(l, t);
-    mixed(total, count, covered, uncovered)
+    let pays = side.pays(game, l, t);
+    mixed(total, count, pays.covered, pays.uncovered)
 }
 
-// The attacker's sum of a target, by its count.
-fn counted_a(game: &Game, total: i128, count: i128, l: u8, t: u16) -> Result<i128, Wide>
-    requires security { is_matrix game.now ≡ false }
-    requires known_type { IsTypeOf game.now l }
-    requires known_target { IsGoalOf game.now t }
-    ensures { result ≡ counted_sum total count (payoff game.now l t).ac (payoff game.now l t).au }
-{
-    let [_, _, covered, uncovered] = game.payoffs(l, t);
-    mixed(total, count, covered, uncovered)
-}
-
-/// `sum_d`, by the table of counts where there is one.
-pub(crate) fn table_sum_d(
+/// `sum_to`, by the table of counts where there is one.
+pub(crate) fn table_sum(
+    side: Side,
     game: &Game,
     k: &Commitment,
     table: &[Cell],
@@ -163,36 +169,13 @@ pub(crate) fn table_sum_d(
     requires table { IsTally game.now k.now.tickets table.now }
     requires known_type { IsTypeOf game.now l }
     requires known_action { IsActionOf game.now l a }
-    ensures { result ≡ exact_sum_d game.now k.now.tickets l a }
+    ensures { result ≡ exact_sum_to side game.now k.now.tickets l a }
 {
     if table.is_empty() {
-        return sum_d(game, k, l, a);
+        return sum_to(side, game, k, l, a);
     }
     game.promises();
     let _tickets = k.tickets();
     let count = count_at(table, a);
-    counted_d(game, k.total(), count, l, a)
-}
-
-/// `sum_a`, by the table of counts where there is one.
-pub(crate) fn table_sum_a(
-    game: &Game,
-    k: &Commitment,
-    table: &[Cell],
-    l: u8,
-    a: u16,
-) -> Result<i128, Wide>
-    requires legal { AreLegal game.now k.now.tickets }
-    requires table { IsTally game.now k.now.tickets table.now }
-    requires known_type { IsTypeOf game.now l }
-    requires known_action { IsActionOf game.now l a }
-    ensures { result ≡ exact_sum_a game.now k.now.tickets l a }
-{
-    if table.is_empty() {
-        return sum_a(game, k, l, a);
-    }
-    game.promises();
-    let _tickets = k.tickets();
-    let count = count_at(table, a);
-    counted_a(game, k.total(), count, l, a)
+    counted(side, game, k.total(), count, l, a)
 }

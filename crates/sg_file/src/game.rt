@@ -17,7 +17,7 @@ use crate::types::{matrix_types, security_types};
 use crate::value::{integer, number};
 use sg_game::{Game, GameFault, Kind, Parts, Place};
 use sg_model::limit::{
-    PATROL_LIMIT, ROW_LIMIT, SCALED_PATROL_LIMIT, SCALED_TARGET_LIMIT, TARGET_LIMIT,
+    PATROL_LIMIT, ROW_LIMIT, SCALE_LIMIT, SCALED_PATROL_LIMIT, SCALED_TARGET_LIMIT, TARGET_LIMIT,
 };
 use sg_model::reason::{BAD_VERSION, MISSING_KEY, OUT_OF_RANGE, WRONG_KIND};
 use std::alloc::Global;
@@ -76,7 +76,7 @@ fn scale(table: &Table) -> Result<Option<i64>, GameFault>
 {
     match value_at(table, "scale") {
         Some(value) => {
-            let scale = number(Place::Document, 1, 4_294_967_296, value)?;
+            let scale = number(Place::Document, 1, SCALE_LIMIT, value)?;
             Ok(Some(scale))
         }
         None => Ok(None),

@@ -17,7 +17,7 @@ use crate::keys::{Section, known_keys};
 use crate::names::{Index, Listing, add_name, names};
 use crate::value::{items, number, some, table};
 use sg_game::{GameFault, Place, TypeParts};
-use sg_model::limit::{ACTION_LIMIT, TYPE_LIMIT};
+use sg_model::limit::{ACTION_LIMIT, PAYOFF_LIMIT, PRIOR_LIMIT, TYPE_LIMIT};
 use sg_model::reason::OUT_OF_RANGE;
 use std::alloc::Global;
 use std::collections::BTreeMap;
@@ -26,7 +26,7 @@ use toml::{Table, Value};
 fn pay(place: Place, value: &Value) -> Result<i64, GameFault>
     ensures { result ≡ pay_at place (data_of value.now) }
 {
-    number(place, -1_073_741_824, 1_073_741_824, value)
+    number(place, -PAYOFF_LIMIT, PAYOFF_LIMIT, value)
 }
 
 fn pays_of(alloc: Global, place: Place, values: &[Value]) -> Result<Vec<i64>, GameError>
@@ -87,9 +87,9 @@ fn pay_table(
 }
 
 fn greatest_prior(scaled: bool) -> i64
-    ensures { result ≡ (if scaled then pos 1 else pos (2 ^ 20)) }
+    ensures { result ≡ (if scaled then pos 1 else PRIOR_LIMIT) }
 {
-    if scaled { 1 } else { 1_048_576 }
+    if scaled { 1 } else { PRIOR_LIMIT }
 }
 
 fn prior(place: Place, scaled: bool, value: &Value) -> Result<i64, GameFault>

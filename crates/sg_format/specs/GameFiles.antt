@@ -2,7 +2,7 @@
 use Rattle.std.specs.Prelude.{ℕ, ◌^◌, ◌==◌, Bool, false, not, ◌&&◌, ◌||◌, nat_le, ℤ, pos, negsuc, int_lt, int_rem, List, [], length, Option, Some, None, is_some, unwrap_or, Result, Ok, codes, bytes_eq, if◌then◌else◌}
 use Rattle.std.specs.List.{list_all}
 use Rattle.toml.specs.Data.{Data, Members, get_member}
-use Rattle.sg_model.specs.declared.limit.TheConstants.{PATROL_LIMIT, PROGRAM_ROW_LIMIT, ROW_LIMIT, SCALED_PATROL_LIMIT, SCALED_TARGET_LIMIT, TARGET_LIMIT}
+use Rattle.sg_model.specs.declared.limit.TheConstants.{PATROL_LIMIT, PROGRAM_ROW_LIMIT, ROW_LIMIT, SCALED_PATROL_LIMIT, SCALED_TARGET_LIMIT, SCALE_LIMIT, TARGET_LIMIT}
 use Rattle.sg_model.specs.declared.fault.Place.TheVariants as place_of
 use Rattle.sg_model.specs.declared.fault.GameFault.{GameFault}
 use Rattle.sg_model.specs.declared.kind.Kind.{Kind}
@@ -59,7 +59,7 @@ is_matrix_key key = bytes_eq key (codes "version") || bytes_eq key (codes "form"
 unfoldable pub scale_at : Option Data → Result (Option ℤ) GameFault
 scale_at None = Ok None
 scale_at (Some value) = do
-  scale ← number_at place_of.Document (pos 1) (pos (2 ^ 32)) value
+  scale ← number_at place_of.Document (pos 1) SCALE_LIMIT value
   Ok (Some scale)
 
 -- the number is 0

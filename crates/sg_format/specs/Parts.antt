@@ -2,7 +2,7 @@
 use Rattle.sg_format.specs.Lists.{item_count}
 use Rattle.std.specs.Prelude.{◌≡◌, ◌≢◌, ◌<◌, is_some, true, bytes_eq, ℕ, zero, suc, ◌-◌, ◌^◌, Bool, false, if◌then◌else◌, List, [], ◌∷◌, map, length, take, ℤ, pos, ◌-ℤ◌, Option, Some, None, codes}
 use Rattle.toml.specs.Data.{Data, Items, Members, no_items, item, get_item, get_member, array, table}
-use Rattle.sg_model.specs.declared.limit.TheConstants.{ACTION_LIMIT, PATROL_LIMIT, RESOURCE_LIMIT, RESOURCE_SCHEDULE_LIMIT, ROW_LIMIT, SCALED_PATROL_LIMIT, SCALED_TARGET_LIMIT, SCHEDULE_LIMIT, SCHEDULE_TARGET_LIMIT, TARGET_LIMIT, TYPE_LIMIT}
+use Rattle.sg_model.specs.declared.limit.TheConstants.{ACTION_LIMIT, PATROL_LIMIT, PAYOFF_LIMIT, PRIOR_LIMIT, RESOURCE_LIMIT, RESOURCE_SCHEDULE_LIMIT, ROW_LIMIT, SCALED_PATROL_LIMIT, SCALED_TARGET_LIMIT, SCALE_LIMIT, SCHEDULE_LIMIT, SCHEDULE_TARGET_LIMIT, TARGET_LIMIT, TYPE_LIMIT}
 use Rattle.sg_model.specs.declared.fault.Place.{Place}
 use Rattle.sg_model.specs.declared.fault.Place.TheVariants as place_of
 use Rattle.sg_model.specs.declared.kind.Kind.{Kind}
@@ -172,13 +172,13 @@ members_rule limit known numbers (name n) = known_besides known (map (λ m. nth 
 abbrev pub pays_rule : ℕ → ℕ → PaysPart → Rule
 pays_rule rows columns pays = entries_exactly rows
 pays_rule rows columns (pay_row r) = entries_exactly columns
-pays_rule rows columns (pay r i) = number_within (pos 0 -ℤ pos (2 ^ 30)) (pos (2 ^ 30))
+pays_rule rows columns (pay r i) = number_within (pos 0 -ℤ PAYOFF_LIMIT) PAYOFF_LIMIT
 
 -- a type in security form, whose name is none of those before it, against so many targets; its prior is 1 where a scale is declared
 abbrev pub security_type_rule : Bool → ℕ → List (List ℕ) → TypePart → Rule
 security_type_rule scaled targets others whole_type = table_with (codes "name" ∷ codes "prior" ∷ codes "payoffs" ∷ [])
 security_type_rule scaled targets others type_name = name_besides others
-security_type_rule scaled targets others type_prior = number_within (pos 1) (if scaled then pos 1 else pos (2 ^ 20))
+security_type_rule scaled targets others type_prior = number_within (pos 1) (if scaled then pos 1 else PRIOR_LIMIT)
 security_type_rule scaled targets others (type_actions part) = no_rule
 security_type_rule scaled targets others (type_pays of_targets part) = pays_rule targets 4 part
 security_type_rule scaled targets others (type_pays of_leader part) = no_rule
@@ -188,7 +188,7 @@ security_type_rule scaled targets others (type_pays of_follower part) = no_rule
 abbrev pub matrix_type_rule : ℕ → List (List ℕ) → List (List ℕ) → TypePart → Rule
 matrix_type_rule rows actions others whole_type = table_with (codes "name" ∷ codes "prior" ∷ codes "actions" ∷ codes "leader" ∷ codes "follower" ∷ [])
 matrix_type_rule rows actions others type_name = name_besides others
-matrix_type_rule rows actions others type_prior = number_within (pos 1) (pos (2 ^ 20))
+matrix_type_rule rows actions others type_prior = number_within (pos 1) PRIOR_LIMIT
 matrix_type_rule rows actions others (type_actions part) = names_rule ACTION_LIMIT actions part
 matrix_type_rule rows actions others (type_pays of_targets part) = no_rule
 matrix_type_rule rows actions others (type_pays of_leader part) = pays_rule rows (length actions) part
@@ -221,7 +221,7 @@ matrix_rule g (typed n part) = matrix_type_rule (length g.goals) (attacker g n).
 -- the rule of a part of a game of identical patrols; a declared scale allows more targets and patrols, and one type
 abbrev pub patrols_rule : Bool → Game → Part → Rule
 patrols_rule scaled g (goals part) = names_rule (if scaled then SCALED_TARGET_LIMIT else TARGET_LIMIT) g.goals part
-patrols_rule scaled g scale = number_within (pos 1) (pos (2 ^ 32))
+patrols_rule scaled g scale = number_within (pos 1) SCALE_LIMIT
 patrols_rule scaled g patrols = number_within (pos 0) (pos (if scaled then SCALED_PATROL_LIMIT else PATROL_LIMIT))
 patrols_rule scaled g (groups group) = no_rule
 patrols_rule scaled g (grouped group n part) = no_rule

@@ -1,7 +1,7 @@
 -- The types of attacker of a game file, with their payoffs.
 use Rattle.std.specs.Prelude.{ℕ, ◌+◌, ◌^◌, ◌==◌, Bool, false, ◌||◌, List, [], map, length, ℤ, pos, ◌-ℤ◌, slice_index_or, Result, Ok, codes, bytes_eq, if◌then◌else◌}
 use Rattle.toml.specs.Data.{Data}
-use Rattle.sg_model.specs.declared.limit.TheConstants.{ACTION_LIMIT, TYPE_LIMIT}
+use Rattle.sg_model.specs.declared.limit.TheConstants.{ACTION_LIMIT, PAYOFF_LIMIT, PRIOR_LIMIT, TYPE_LIMIT}
 use Rattle.sg_model.specs.declared.fault.Place.{Place}
 use Rattle.sg_model.specs.declared.fault.Place.TheVariants as place_of
 use Rattle.sg_model.specs.declared.fault.GameFault.{GameFault}
@@ -14,7 +14,7 @@ use Rattle.sg_format.specs.Lists.{item_count, each, some_at, new_name, names_at}
 
 -- a payoff
 abbrev pub pay_at : Place → Data → Result ℤ GameFault
-pay_at place value = number_at place (pos 0 -ℤ pos (2 ^ 30)) (pos (2 ^ 30)) value
+pay_at place value = number_at place (pos 0 -ℤ PAYOFF_LIMIT) PAYOFF_LIMIT value
 
 -- so many payoffs
 unfoldable pub pays_at : Place → ℕ → Data → Result (List ℤ) GameFault
@@ -41,7 +41,7 @@ is_matrix_type_key key = bytes_eq key (codes "name") || bytes_eq key (codes "pri
 
 -- how often a type comes: 1 where a scale is declared, else up to 2^20
 abbrev pub prior_at : Place → Bool → Data → Result ℤ GameFault
-prior_at place scaled value = number_at place (pos 1) (if scaled then pos 1 else pos (2 ^ 20)) value
+prior_at place scaled value = number_at place (pos 1) (if scaled then pos 1 else PRIOR_LIMIT) value
 
 -- a type of attacker against so many targets
 unfoldable pub security_type_at : Place → Bool → ℕ → List Attacker → Data → Result Attacker GameFault

@@ -1,5 +1,5 @@
 -- The walk over the tickets counts what covers each target.
-use Rattle.std.proofs.Common.{◌≡◌, ℕ, ◌+◌, ◌<◌, ◌≤◌, ◌^◌, Bool, true, false, true≢false, cond, ◌||◌, List, [], ◌∷◌, length, ℤ, pos, ◌+ℤ◌, ◌≤ℤ◌, sym, ◌∙◌, ap, subst, refl, arith, inl, inr, slice_index_or, replicate}
+use Rattle.std.proofs.Common.{◌≡◌, ℕ, ◌+◌, ◌-◌, ◌<◌, ◌≤◌, ◌^◌, Bool, true, false, true≢false, cond, ◌||◌, List, [], ◌∷◌, length, ℤ, pos, ◌+ℤ◌, ◌≤ℤ◌, sym, ◌∙◌, ap, subst, refl, arith, inl, inr, slice_index_or, replicate}
 use Rattle.std.specs.List.{list_any}
 use Rattle.std.specs.Prelude.{nat_eq}
 use Rattle.std.specs.Int.{w128, int_wrapping_add}
@@ -80,7 +80,7 @@ record Counts (n : ℕ) (count : ℤ) (x : Cell) : Type 0 where
   mark : x.mark ≤ n
   is : x.count ≡ count
 
-counted : (b : Bool) (n : ℕ) (w : ℤ) (x : Cell) → x.mark < n → pos 0 ≤ℤ x.count → pos 0 ≤ℤ w → (x.count +ℤ w) ≤ℤ pos (2 ^ 126) → Counts n (x.count +ℤ cond b w (pos 0)) (tested b n w x)
+counted : (b : Bool) (n : ℕ) (w : ℤ) (x : Cell) → x.mark < n → pos 0 ≤ℤ x.count → pos 0 ≤ℤ w → (x.count +ℤ w) ≤ℤ pos (2 ^ 127 - 1) → Counts n (x.count +ℤ cond b w (pos 0)) (tested b n w x)
 counted false n w x lt low some room = record { mark = omega (arith, lt); is = omega (arith, ints) }
 counted true n w x lt low some room =
     let new : nat_eq x.mark n ≡ false = grind (arith, nat_tests) in
@@ -90,7 +90,7 @@ counted true n w x lt low some room =
     (record { mark = omega arith; is = sum })
 
 tallied-at : (g : Game) (cells : List Cell) (n t : ℕ) (k : List Ticket) → t < length cells → ArePositive k → (slice_index_or cells t no_cell).mark < n → pos 0 ≤ℤ (slice_index_or cells t no_cell).count
-    → ((slice_index_or cells t no_cell).count +ℤ weight_total k) ≤ℤ pos (2 ^ 126)
+    → ((slice_index_or cells t no_cell).count +ℤ weight_total k) ≤ℤ pos (2 ^ 127 - 1)
     → (slice_index_or (tallied g cells n k) t no_cell).count ≡ (slice_index_or cells t no_cell).count +ℤ cover_count g k t
 tallied-at g cells n t [] lt positive mark low room = omega (arith, ints)
 tallied-at g cells n t (x ∷ xs) lt positive mark low room =
@@ -111,11 +111,22 @@ tallied-at g cells n t (x ∷ xs) lt positive mark low room =
     within true w h = (h, omega (arith, ints))
     within false w h = (omega (arith, ints), h)
 
-length-tallied : (g : Game) (cells : List Cell) (n : ℕ) (k : List Ticket) → length (tallied g cells n k) ≡ length cells
+pub length-tallied : (g : Game) (cells : List Cell) (n : ℕ) (k : List Ticket) → length (tallied g cells n k) ≡ length cells
 length-tallied g cells n [] = refl
 length-tallied g cells n (x ∷ xs) = length-tallied g (touched_from g 1 cells x.play.code n x.weight) (n + 1) xs ∙ length-touched_from g 1 cells x.play.code n x.weight
 
--- from cells in which nothing is counted comes a table
+-- from cells in which nothing is counted come the counts
+pub tallied-counts : (g : Game) (k : List Ticket) (m : ℕ) (cells new : List Cell) → ArePositive k → weight_total k ≤ℤ pos (2 ^ 127 - 1)
+    → cells ≡ replicate m no_cell → new ≡ tallied g cells 1 k → (t : ℕ) → t < m → (slice_index_or new t no_cell).count ≡ cover_count g k t
+tallied-counts g k m cells new positive few fresh is t lt =
+    let in_range : t < length cells = omega (arith, lt, ap length fresh, length-replicate m no_cell) in
+    let first : slice_index_or cells t no_cell ≡ no_cell = ap (λ (xs : List Cell). slice_index_or xs t no_cell) fresh ∙ get_or-replicate m t no_cell no_cell lt in
+    let mark : (slice_index_or cells t no_cell).mark ≡ 0 = ap (λ (x : Cell). x.mark) first in
+    let count : (slice_index_or cells t no_cell).count ≡ pos 0 = ap (λ (x : Cell). x.count) first in
+    let all = tallied-at g cells 1 t k in_range positive (omega (arith, mark)) (omega (arith, ints, count)) (omega (arith, ints, count, few)) in
+    ap (λ (xs : List Cell). (slice_index_or xs t no_cell).count) is ∙ omega (arith, ints, all, count)
+
+-- and a table, where the tickets are few
 pub tallied-table : (g : Game) (k : List Ticket) (m : ℕ) (cells new : List Cell) → is_matrix g ≡ false → ArePositive k → weight_total k ≤ℤ pos (2 ^ 95) → length g.goals < m
     → cells ≡ replicate m no_cell → new ≡ tallied g cells 1 k → IsTally g k new
 tallied-table g k m cells new security positive few size fresh is =
@@ -124,14 +135,7 @@ tallied-table g k m cells new security positive few size fresh is =
       positive = positive;
       few = few;
       size = omega (arith, size, ap length is, length-tallied g cells 1 k, ap length fresh, length-replicate m no_cell);
-      counts = λ t low high.
-          let lt : t < m = omega (arith, high, size) in
-          let in_range : t < length cells = omega (arith, lt, ap length fresh, length-replicate m no_cell) in
-          let first : slice_index_or cells t no_cell ≡ no_cell = ap (λ (xs : List Cell). slice_index_or xs t no_cell) fresh ∙ get_or-replicate m t no_cell no_cell lt in
-          let mark : (slice_index_or cells t no_cell).mark ≡ 0 = ap (λ (x : Cell). x.mark) first in
-          let count : (slice_index_or cells t no_cell).count ≡ pos 0 = ap (λ (x : Cell). x.count) first in
-          let all = tallied-at g cells 1 t k in_range positive (omega (arith, mark)) (omega (arith, ints, count)) (omega (arith, ints, count, few)) in
-          ap (λ (xs : List Cell). (slice_index_or xs t no_cell).count) is ∙ omega (arith, ints, all, count);
+      counts = λ t low high. tallied-counts g k m cells new positive (omega (arith, ints, few)) fresh is t (omega (arith, high, size));
     }
 
 -- an action of a game in security form is a target, and has a cell

@@ -8,7 +8,7 @@ use Rattle.sg_model.specs.declared.kind.Kind.TheVariants.{Security, Matrix}
 use Rattle.sg_model.specs.declared.fault.GameFault.{GameFault}
 use Rattle.sg_model.specs.declared.fault.Place.{Place}
 use Rattle.sg_model.specs.declared.fault.Place.TheVariants.{Document, Target, Row, Schedule, Resource, Attacker}
-use Rattle.sg_model.specs.declared.limit.TheConstants.{ACTION_LIMIT, PATROL_LIMIT, PROGRAM_ROW_LIMIT, RESOURCE_LIMIT, RESOURCE_SCHEDULE_LIMIT, ROW_LIMIT, SCALED_PATROL_LIMIT, SCALED_TARGET_LIMIT, SCHEDULE_LIMIT, SCHEDULE_TARGET_LIMIT, TARGET_LIMIT, TYPE_LIMIT}
+use Rattle.sg_model.specs.declared.limit.TheConstants.{ACTION_LIMIT, PATROL_LIMIT, PAYOFF_LIMIT, PRIOR_LIMIT, PROGRAM_ROW_LIMIT, RESOURCE_LIMIT, RESOURCE_SCHEDULE_LIMIT, ROW_LIMIT, SCALED_PATROL_LIMIT, SCALED_TARGET_LIMIT, SCALE_LIMIT, SCHEDULE_LIMIT, SCHEDULE_TARGET_LIMIT, TARGET_LIMIT, TYPE_LIMIT}
 use Rattle.sg_model.specs.declared.reason.TheConstants.{BAD_SCALE, EMPTY_LIST, MISSING_KEY, OUT_OF_RANGE, REPEATED_NAME, TOO_LARGE, UNKNOWN_NAME}
 use Rattle.sg_model.specs.Games.{Game, Payoff}
 use Rattle.sg_model.specs.Games as model
@@ -73,9 +73,9 @@ lists_fault count limit members_limit place lists =
     fault_unless (nat_le (length lists) limit) TOO_LARGE Document
     orelse entries_fault (λ (x : ListParts). string_bytes x.name) (members_fault count members_limit) place [] lists
 
--- a payoff is from -2^30 to 2^30
+-- a payoff within the limit
 abbrev pub is_pay : ℤ → Bool
-is_pay z = is_within (pos 0 -ℤ pos (2 ^ 30)) (pos (2 ^ 30)) z
+is_pay z = is_within (pos 0 -ℤ PAYOFF_LIMIT) PAYOFF_LIMIT z
 
 -- a list for each of m rows, each with n payoffs
 abbrev pub is_table : ℕ → ℕ → List (Vec ℤ Global) → Bool
@@ -116,7 +116,7 @@ goals_fault p =
 
 -- how great a prior may be
 abbrev pub prior_limit : Bool → ℤ
-prior_limit is_scaled = if is_scaled then pos 1 else pos (2 ^ 20)
+prior_limit is_scaled = if is_scaled then pos 1 else PRIOR_LIMIT
 
 -- how many types there may be
 abbrev pub type_limit : Bool → ℕ
@@ -134,7 +134,7 @@ option_fault low high (Some z) = fault_unless (is_within low high z) OUT_OF_RANG
 -- the first fault of the scale and the patrols
 unfoldable pub numbers_fault : Parts → Option GameFault
 numbers_fault p =
-    option_fault (pos 1) (pos (2 ^ 32)) p.scale
+    option_fault (pos 1) SCALE_LIMIT p.scale
     orelse option_fault (pos 0) (patrol_limit (is_some p.scale)) p.patrols
 
 -- the first fault of the types: none of them, too many, or one of them

@@ -1,6 +1,7 @@
-ghost use Rattle.std.specs.Prelude.{◌≡◌, ◌≤◌, length, true, false, ℤ, pos, ◌≤ℤ◌, ◌^◌};
+ghost use Rattle.std.specs.Prelude.{◌≡◌, ◌≤◌, length, true, false, ℤ, pos, ◌≤ℤ◌};
 ghost use Rattle.sg_model.specs.Games.{action_count, attacker, is_matrix, resource_count, schedule_count};
 ghost use Rattle.sg_model.specs.Limits.{IsGame};
+ghost use Rattle.sg_model.specs.declared.limit.TheConstants.{PRIOR_LIMIT, ROW_LIMIT, SCALED_PATROL_LIMIT, SCALED_TARGET_LIMIT, TYPE_LIMIT};
 ghost use Rattle.sg_game.specs.Counts.{IsTypeOf, row_count, target_count};
 
 use crate::game::Game;
@@ -39,7 +40,7 @@ impl Game {
     pub fn targets(&self) -> u16
         ensures count { result ≡ target_count self.now }
         ensures some { is_matrix self.now ≡ false → 1 ≤ result }
-        ensures few { result ≤ 10000 }
+        ensures few { result ≤ SCALED_TARGET_LIMIT }
     {
         match self.kind {
             Kind::Security => self.goals.len() as u16,
@@ -51,7 +52,7 @@ impl Game {
     pub fn rows(&self) -> u16
         ensures count { result ≡ row_count self.now }
         ensures some { is_matrix self.now ≡ true → 1 ≤ result }
-        ensures few { result ≤ 4096 }
+        ensures few { result ≤ ROW_LIMIT }
     {
         match self.kind {
             Kind::Security => 0,
@@ -62,7 +63,7 @@ impl Game {
     /// The number of resources, the patrols among them.
     pub fn resources(&self) -> u16
         ensures count { result ≡ resource_count self.now }
-        ensures few { result ≤ 200 }
+        ensures few { result ≤ SCALED_PATROL_LIMIT }
     {
         match self.patrols {
             Some(patrols) => patrols,
@@ -73,7 +74,7 @@ impl Game {
     /// The number of schedules: with patrols, one for each target.
     pub fn schedules(&self) -> u16
         ensures count { result ≡ schedule_count self.now }
-        ensures few { result ≤ 10000 }
+        ensures few { result ≤ SCALED_TARGET_LIMIT }
     {
         match self.patrols {
             Some(_) => self.goals.len() as u16,
@@ -85,7 +86,7 @@ impl Game {
     pub fn types(&self) -> u8
         ensures count { result ≡ length self.now.types }
         ensures some { 1 ≤ result }
-        ensures few { result ≤ 8 }
+        ensures few { result ≤ TYPE_LIMIT }
     {
         self.types.len() as u8
     }
@@ -95,7 +96,7 @@ impl Game {
         requires { IsTypeOf self.now l }
         ensures prior { result ≡ (attacker self.now l).prior }
         ensures some { pos 1 ≤ℤ result }
-        ensures few { result ≤ℤ pos (2 ^ 20) }
+        ensures few { result ≤ℤ PRIOR_LIMIT }
     {
         let attacker = &self.types.as_slice()[l as usize - 1];
         attacker.prior
@@ -106,7 +107,7 @@ impl Game {
         requires { IsTypeOf self.now l }
         ensures count { result ≡ action_count self.now l }
         ensures some { 1 ≤ result }
-        ensures few { result ≤ 10000 }
+        ensures few { result ≤ SCALED_TARGET_LIMIT }
     {
         match self.kind {
             Kind::Security => self.goals.len() as u16,

@@ -5,6 +5,7 @@ ghost use Rattle.std.specs.Ordering.{int_eq};
 ghost use Rattle.sg_model.specs.Limits.{IsPayoff, program_rows};
 ghost use Rattle.sg_model.specs.Games.{resource_count};
 ghost use Rattle.sg_model.specs.Origami.{gap};
+ghost use Rattle.sg_model.specs.declared.limit.TheConstants.{ACTION_LIMIT, SCALED_PATROL_LIMIT, SCALED_TARGET_LIMIT, TYPE_LIMIT};
 ghost use Rattle.sg_game.specs.Building.{FindsAlways};
 ghost use Rattle.std.specs.List.{list_all};
 ghost use Rattle.sg_game.specs.Counts.{rows_by};
@@ -144,8 +145,8 @@ fn is_scaled(scale: i64, types: &[Attacker]) -> bool
 
 /// The sum over the types of their actions less 1.
 fn more_actions(types: &[Attacker]) -> usize
-    requires few { length types.now ≤ 8 }
-    requires actions { All (λ x. length x.actions ≤ 64) types.now }
+    requires few { length types.now ≤ TYPE_LIMIT }
+    requires actions { All (λ x. length x.actions ≤ ACTION_LIMIT) types.now }
     ensures sum { result ≡ sum_by (λ x. length x.actions - 1) types.now }
     ensures small { result ≤ 512 }
 {
@@ -158,10 +159,10 @@ fn more_actions(types: &[Attacker]) -> usize
 
 /// The rows of the largest linear program.
 pub(crate) fn rows_of(kind: Kind, resources: usize, goals: usize, types: &[Attacker]) -> usize
-    requires few_resources { resources ≤ 200 }
-    requires few_goals { goals ≤ 10000 }
-    requires few_types { length types.now ≤ 8 }
-    requires few_actions { All (λ x. length x.actions ≤ 64) types.now }
+    requires few_resources { resources ≤ SCALED_PATROL_LIMIT }
+    requires few_goals { goals ≤ SCALED_TARGET_LIMIT }
+    requires few_types { length types.now ≤ TYPE_LIMIT }
+    requires few_actions { All (λ x. length x.actions ≤ ACTION_LIMIT) types.now }
     ensures rows { result ≡ rows_by kind resources goals types.now }
     ensures small { result ≤ 200000 }
 {
@@ -175,7 +176,7 @@ pub(crate) fn rows_of(kind: Kind, resources: usize, goals: usize, types: &[Attac
 fn resources_of(draft: &Draft) -> usize
     requires { IsCountable (drawn draft.now) }
     ensures count { result ≡ resource_count (drawn draft.now) }
-    ensures few { result ≤ 200 }
+    ensures few { result ≤ SCALED_PATROL_LIMIT }
 {
     match draft.patrols {
         Some(patrols) => patrols as usize,

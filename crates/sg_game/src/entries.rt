@@ -4,6 +4,7 @@ ghost use Rattle.std.specs.Prelude.{◌≡◌, ◌≤◌, ◌++◌, ◌∷◌, [
 ghost use Rattle.std.specs.List.{list_all, list_any};
 ghost use Rattle.std.specs.BTreeSet.{contains_text};
 ghost use Rattle.sg_model.specs.Names.{is_name, is_name_byte};
+ghost use Rattle.sg_model.specs.declared.limit.TheConstants.{SCALED_TARGET_LIMIT};
 ghost use Rattle.sg_game.specs.Building.{Finds, FindsAlways};
 ghost use Rattle.sg_game.specs.Entries.{Holds, place_of};
 ghost use Rattle.sg_game.specs.Faults.{each_member_fault, entries_fault, is_within, lists_fault, member_fault, members_fault, name_fault, names_fault, fault_unless, ◌orelse◌};
@@ -105,7 +106,7 @@ pub(crate) fn test_names(
     listing: Listing,
     names: &[String],
 ) -> Result<(), BuildFault>
-    requires { length names.now ≤ 10000 }
+    requires { length names.now ≤ SCALED_TARGET_LIMIT }
     ensures { Finds result (names_fault (place_of listing) names.now) }
 {
     let mut seen: BTreeSet<String> = BTreeSet::new(alloc);
@@ -174,7 +175,7 @@ fn test_each_list(
     members_limit: usize,
     lists: &[ListParts],
 ) -> Result<(), BuildFault>
-    requires { length lists.now ≤ 10000 }
+    requires { length lists.now ≤ SCALED_TARGET_LIMIT }
     ensures { Finds result (entries_fault (λ x. string_bytes x.name) (members_fault count members_limit) (place_of listing) [] lists.now) }
 {
     let mut seen: BTreeSet<String> = BTreeSet::new(alloc);
@@ -201,7 +202,7 @@ pub(crate) fn test_lists(
     members_limit: usize,
     lists: &[ListParts],
 ) -> Result<(), BuildFault>
-    requires { limit ≤ 10000 }
+    requires { limit ≤ SCALED_TARGET_LIMIT }
     ensures { Finds result (lists_fault count limit members_limit (place_of listing) lists.now) }
 {
     passed(lists.len() <= limit, TOO_LARGE, Place::Document)?;

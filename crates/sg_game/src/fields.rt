@@ -12,9 +12,9 @@ use crate::entries::{Listing, is_within, passed, take_name, test_lists, test_nam
 use crate::fault::BuildFault;
 use crate::parts::{Parts, TypeParts};
 use sg_model::limit::{
-    ACTION_LIMIT, PATROL_LIMIT, RESOURCE_LIMIT, RESOURCE_SCHEDULE_LIMIT, ROW_LIMIT,
-    SCALED_PATROL_LIMIT, SCALED_TARGET_LIMIT, SCHEDULE_LIMIT, SCHEDULE_TARGET_LIMIT, TARGET_LIMIT,
-    TYPE_LIMIT,
+    ACTION_LIMIT, PATROL_LIMIT, PAYOFF_LIMIT, PRIOR_LIMIT, RESOURCE_LIMIT, RESOURCE_SCHEDULE_LIMIT,
+    ROW_LIMIT, SCALE_LIMIT, SCALED_PATROL_LIMIT, SCALED_TARGET_LIMIT, SCHEDULE_LIMIT,
+    SCHEDULE_TARGET_LIMIT, TARGET_LIMIT, TYPE_LIMIT,
 };
 use sg_model::reason::{EMPTY_LIST, MISSING_KEY, OUT_OF_RANGE, TOO_LARGE};
 use sg_model::{GameFault, Kind, Place};
@@ -25,7 +25,7 @@ use std::collections::BTreeSet;
 fn is_pay(z: i64) -> bool
     ensures { result ≡ is_pay z }
 {
-    is_within(-1_073_741_824, 1_073_741_824, z)
+    is_within(-PAYOFF_LIMIT, PAYOFF_LIMIT, z)
 }
 
 /// Whether each number is a payoff.
@@ -129,7 +129,7 @@ fn test_each_type(
     goals: usize,
     types: &[TypeParts],
 ) -> Result<(), BuildFault>
-    requires { length types.now ≤ 8 }
+    requires { length types.now ≤ TYPE_LIMIT }
     ensures { Finds result (entries_fault (λ x. string_bytes x.name) (type_fault kind prior_limit goals) Attacker [] types.now) }
 {
     let mut seen: BTreeSet<String> = BTreeSet::new(alloc);
@@ -161,7 +161,7 @@ fn take_type(
 fn prior_limit(is_scaled: bool) -> i64
     ensures { result ≡ prior_limit is_scaled }
 {
-    if is_scaled { 1 } else { 1_048_576 }
+    if is_scaled { 1 } else { PRIOR_LIMIT }
 }
 
 /// How many types there may be.
@@ -185,7 +185,7 @@ fn patrol_limit(is_scaled: bool) -> i64
 /// How many targets or rows there may be.
 fn goal_limit(kind: Kind, is_scaled: bool) -> usize
     ensures limit { result ≡ goal_limit kind is_scaled }
-    ensures few { result ≤ 10000 }
+    ensures few { result ≤ SCALED_TARGET_LIMIT }
 {
     match kind {
         Kind::Security => {
@@ -201,7 +201,7 @@ fn goal_limit(kind: Kind, is_scaled: bool) -> usize
 
 /// Tests the names of the targets or rows.
 fn test_goal_names(alloc: Global, kind: Kind, goals: &[String]) -> Result<(), BuildFault>
-    requires { length goals.now ≤ 10000 }
+    requires { length goals.now ≤ SCALED_TARGET_LIMIT }
     ensures { Finds result (names_fault (goal_place kind) goals.now) }
 {
     match kind {
@@ -245,7 +245,7 @@ fn test_numbers(is_scaled: bool, parts: &Parts) -> Result<(), GameFault>
     requires { is_scaled ≡ is_some parts.now.scale }
     ensures { FindsAlways result (numbers_fault parts.now) }
 {
-    test_option(1, 4_294_967_296, parts.scale)?;
+    test_option(1, SCALE_LIMIT, parts.scale)?;
     test_option(0, patrol_limit(is_scaled), parts.patrols)
 }
 

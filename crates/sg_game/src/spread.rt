@@ -1,11 +1,12 @@
 //! The ends of the defender's payoffs.
 
-ghost use Rattle.std.specs.Prelude.{◌≡◌, ◌≤◌, ◌++◌, ◌∷◌, [], List, ℤ, pos, ◌≤ℤ◌, ◌-ℤ◌, ◌+◌, ◌^◌, flat_map, length, map, false, true};
+ghost use Rattle.std.specs.Prelude.{◌≡◌, ◌≤◌, ◌++◌, ◌∷◌, [], List, ℤ, pos, ◌≤ℤ◌, ◌-ℤ◌, ◌+ℤ◌, flat_map, length, map, false, true};
 ghost use Rattle.std.specs.Int.{int_max, int_min};
 ghost use Rattle.sg_model.specs.Games.{is_matrix, payoff};
 ghost use Rattle.sg_model.specs.Limits.{IsPay};
 ghost use Rattle.sg_model.specs.Payoffs.{greatest_of, payoffs_at, payoffs_of, shift_of};
 ghost use Rattle.sg_model.specs.Sums.{greatest, least, numbers};
+ghost use Rattle.sg_model.specs.declared.limit.TheConstants.{PAYOFF_LIMIT};
 ghost use Rattle.sg_game.specs.Counts.{IsActionOf, IsGoalOf, IsTypeOf, leader_pay};
 ghost use Rattle.sg_game.specs.Spreads.{IsSpread};
 
@@ -150,8 +151,8 @@ pub fn greatest(game: &Game, l: u8) -> i64
 /// 1 less the defender's least payoff: what makes each payoff at least 1.
 pub fn shift(game: &Game) -> i64
     ensures shift { result ≡ shift_of game.now }
-    ensures low { (pos 1 -ℤ pos (2 ^ 30)) ≤ℤ result }
-    ensures high { result ≤ℤ pos (2 ^ 30 + 1) }
+    ensures low { (pos 1 -ℤ PAYOFF_LIMIT) ≤ℤ result }
+    ensures high { result ≤ℤ (PAYOFF_LIMIT +ℤ pos 1) }
 {
     1 - spread_of(game).least
 }

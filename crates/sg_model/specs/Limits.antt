@@ -2,7 +2,7 @@
 use Rattle.std.specs.Prelude.{◌≡◌, ◌≢◌, ℕ, ◌+◌, ◌-◌, ◌*◌, ◌^◌, ◌≤◌, Bool, if◌then◌else◌, List, [], map, length, sum_by, ℤ, pos, ◌-ℤ◌, ◌≤ℤ◌, int_lt, All, AllPairs, Option, Some, None}
 use Rattle.sg_model.specs.declared.kind.Kind.{Kind}
 use Rattle.sg_model.specs.declared.kind.Kind.TheVariants.{Security, Matrix}
-use Rattle.sg_model.specs.declared.limit.TheConstants.{ACTION_LIMIT, PATROL_LIMIT, PROGRAM_ROW_LIMIT, RESOURCE_LIMIT, RESOURCE_SCHEDULE_LIMIT, ROW_LIMIT, SCALED_PATROL_LIMIT, SCALED_TARGET_LIMIT, SCHEDULE_LIMIT, SCHEDULE_TARGET_LIMIT, TARGET_LIMIT, TYPE_LIMIT}
+use Rattle.sg_model.specs.declared.limit.TheConstants.{ACTION_LIMIT, PATROL_LIMIT, PAYOFF_LIMIT, PRIOR_LIMIT, PROGRAM_ROW_LIMIT, RESOURCE_LIMIT, RESOURCE_SCHEDULE_LIMIT, ROW_LIMIT, SCALED_PATROL_LIMIT, SCALED_TARGET_LIMIT, SCALE_LIMIT, SCHEDULE_LIMIT, SCHEDULE_TARGET_LIMIT, TARGET_LIMIT, TYPE_LIMIT}
 use Rattle.sg_model.specs.Names.{AreNames}
 use Rattle.sg_model.specs.Games.{Payoff, Attacker, Named, Game, resource_count, is_matrix}
 use Rattle.sg_model.specs.Origami.{IsScaled}
@@ -23,7 +23,7 @@ pub record IsWithin (low high z : ℤ) : Type 0 where
 
 -- a payoff is from -2^30 to 2^30
 abbrev pub IsPay : ℤ → Type 0
-IsPay z = IsWithin (pos 0 -ℤ pos (2 ^ 30)) (pos (2 ^ 30)) z
+IsPay z = IsWithin (pos 0 -ℤ PAYOFF_LIMIT) PAYOFF_LIMIT z
 
 -- each of the four payoffs is in that range
 pub record IsPayoff (p : Payoff) : Type 0 where
@@ -52,7 +52,7 @@ pub record IsTable (m n : ℕ) (table : List (List ℤ)) : Type 0 where
 
 -- a type of attacker against so many targets
 pub record IsSecurityType (targets : ℕ) (x : Attacker) : Type 0 where
-  pub prior : IsWithin (pos 1) (pos (2 ^ 20)) x.prior
+  pub prior : IsWithin (pos 1) PRIOR_LIMIT x.prior
   pub one_each : length x.payoffs ≡ targets
   pub pays : All IsPayoff x.payoffs
   pub no_actions : x.actions ≡ []
@@ -61,7 +61,7 @@ pub record IsSecurityType (targets : ℕ) (x : Attacker) : Type 0 where
 
 -- a type of attacker against so many rows
 pub record IsMatrixType (rows : ℕ) (x : Attacker) : Type 0 where
-  pub prior : IsWithin (pos 1) (pos (2 ^ 20)) x.prior
+  pub prior : IsWithin (pos 1) PRIOR_LIMIT x.prior
   pub no_payoffs : x.payoffs ≡ []
   pub action_count : IsCount 1 ACTION_LIMIT (length x.actions)
   pub action_names : AreNames x.actions
@@ -107,7 +107,7 @@ IsDefended g None = AreListed g
 pub record IsSecurityGame (g : Game) : Type 0 where
   pub targets : AreNames g.goals
   pub target_count : IsCount 1 (if is_scaled g then SCALED_TARGET_LIMIT else TARGET_LIMIT) (length g.goals)
-  pub scale_range : IsWithin (pos 0) (pos (2 ^ 32)) g.scale
+  pub scale_range : IsWithin (pos 0) SCALE_LIMIT g.scale
   pub defended : IsDefended g g.patrols
   pub types : AreTypes g.types
   pub each_type : All (IsSecurityType (length g.goals)) g.types

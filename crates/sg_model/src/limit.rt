@@ -35,3 +35,12 @@ pub const ACTION_LIMIT: usize = 64;
 
 /// Rows of the largest linear program of a game.
 pub const PROGRAM_ROW_LIMIT: usize = 1536;
+
+/// A payoff, from this number below 0 to this number: 2^30.
+pub const PAYOFF_LIMIT: i64 = 1_073_741_824;
+
+/// The prior of a type: 2^20.
+pub const PRIOR_LIMIT: i64 = 1_048_576;
+
+/// The scale of a game: 2^32.
+pub const SCALE_LIMIT: i64 = 4_294_967_296;

@@ -10,7 +10,7 @@ use Rattle.sg_model.specs.Origami.{SpendsAll, at_level, gap}
 use Rattle.sg_model.proofs.Ints.{v, n, times, same_by}
 use Rattle.sg_model.proofs.Levels.{multiple_is}
 use Rattle.sg_model.proofs.Numbers.{All-numbers, length-numbers_from, map-none, numbers-some}
-use Rattle.sg_origami.specs.declared.rate.Rate.{Rate}
+use Rattle.sg_origami.specs.Rates.{RateView}
 use Rattle.sg_model.specs.Fillable.{IsFillable}
 use Rattle.sg_origami.specs.Rates.{IsRate, is_above, multiple, need_of, rate_at}
 use Rattle.sg_model.proofs.Spans.{multiple_bounds}
@@ -29,12 +29,12 @@ pub heavy : (g : Game) → IsFillable g → All (Heavy (multiple g) (au g)) (num
 heavy g f = All-numbers (Heavy (multiple g) (au g)) (length g.goals) (λ t low high. (multiple_at g f t low high).0)
 
 -- what the rates of a game are
-pub record AreRates (rates : List Rate) : Type 0 where
+pub record AreRates (rates : List RateView) : Type 0 where
   pub each : All IsRate rates
   pub some : rates ≢ []
   pub few : length rates ≤ 10000
 
-pub are_rates : (g : Game) → IsFillable g → (rates : List Rate) → rates ≡ map (rate_at g) (numbers (length g.goals)) → AreRates rates
+pub are_rates : (g : Game) → IsFillable g → (rates : List RateView) → rates ≡ map (rate_at g) (numbers (length g.goals)) → AreRates rates
 are_rates g f rates e =
     let m : ℕ = length g.goals in
     let some = f.some in
@@ -42,7 +42,7 @@ are_rates g f rates e =
     subst AreRates (sym e) (record {
       each = All-map IsRate (rate_at g) (numbers m) (All-numbers (λ t. IsRate (rate_at g t)) m (λ t low high.
           let w = multiple_at g f t low high in
-          record { multiple_low = w.0; multiple_high = w.1; uncovered_low = (f.small t).au.at_least; uncovered_high = (f.small t).au.at_most }));
+          record { multiple = record { at_least = w.0; at_most = w.1 }; uncovered = (f.small t).au }));
       some = λ none. numbers-some m some (map-none (rate_at g) (numbers m) none);
       few = omega (arith, length-map (numbers m) (rate_at g), length-numbers_from 1 m, few);
     })
@@ -58,11 +58,11 @@ total-map f h [] = refl
 total-map f h (x ∷ xs) = omega (arith, ints, total-map f h xs)
 
 -- the patrols are just enough where the rates say so
-pub spends_rates : (g : Game) (rates : List Rate) → rates ≡ map (rate_at g) (numbers (length g.goals)) → (have num den : ℤ) → have ≡ pos (resource_count g) *ℤ g.scale → IsSpent rates have num den → SpendsAll g num den
+pub spends_rates : (g : Game) (rates : List RateView) → rates ≡ map (rate_at g) (numbers (length g.goals)) → (have num den : ℤ) → have ≡ pos (resource_count g) *ℤ g.scale → IsSpent rates have num den → SpendsAll g num den
 spends_rates g rates e have num den is spent =
     let xs : List ℕ = numbers (length g.goals) in
     let ys : List ℕ = at_level g num den in
-    let same : filter (is_above num den) rates ≡ map (rate_at g) ys = ap (λ (zs : List Rate). filter (is_above num den) zs) e ∙ filter-map (is_above num den) (rate_at g) xs in
+    let same : filter (is_above num den) rates ≡ map (rate_at g) ys = ap (λ (zs : List RateView). filter (is_above num den) zs) e ∙ filter-map (is_above num den) (rate_at g) xs in
     let whole : have *ℤ den ≡ (pos (resource_count g) *ℤ den) *ℤ g.scale =
     ap (λ (z : ℤ). z *ℤ den) is ∙ same_by (times (times (n (resource_count g)) (v g.scale)) (v den)) (times (times (n (resource_count g)) (v den)) (v g.scale)) (omega arith) in
     record {

@@ -10,6 +10,7 @@ use Rattle.sg_model.specs.Commitments.{IsCommitment, weight_total, sum_a}
 use Rattle.sg_model.specs.Limits.{IsWithin}
 use Rattle.sg_model.specs.Origami.{IsFullyCovered, IsWater, gap, count_at}
 use Rattle.sg_frac.specs.Fractions.{IsReduced}
+use Rattle.sg_origami.specs.Heights.{IsHeight}
 use Rattle.sg_origami.specs.declared.filling.Filling.{Filling}
 
 -- target j is the first that pays the attacker the level where it is covered for certain
@@ -51,9 +52,7 @@ pub record IsFilling (g : Game) (f : Filling) : Type 0 where
   pub reason : IsReasonOf g f.level.num f.level.den f.reason
   -- the level is a fraction in lowest terms, with a denominator of at least 1
   pub reduced : IsReduced f.level
-  -- its numerator is from -2^77 to 2^77
-  pub num_range : IsWithin (pos 0 -ℤ pos (2 ^ 77)) (pos (2 ^ 77)) f.level.num
-  -- its denominator is at most 2^46
-  pub den_range : IsWithin (pos 1) (pos (2 ^ 46)) f.level.den
+  -- its numerator is from -2^77 to 2^77, its denominator at most 2^46
+  pub range : IsHeight f.level
   -- the counts and the total are the coverage that reaches the level
   pub coverage : IsCoverage g f.level.num f.level.den f.counts f.total

@@ -1,45 +1,48 @@
 -- What the level of a game of identical patrols is made of.
-use Rattle.std.specs.Prelude.{◌≡◌, ℕ, ◌≤◌, ◌^◌, length, ℤ, pos, ◌-ℤ◌, ◌*ℤ◌, ◌≤ℤ◌, ◌<ℤ◌, ◌<◌, Bool, int_div, int_le, unsigned_abs}
+use Rattle.std.specs.Prelude.{◌≡◌, ℕ, ◌≤◌, length, ℤ, pos, ◌-ℤ◌, ◌*ℤ◌, ◌≤ℤ◌, ◌<ℤ◌, ◌<◌, Bool, int_div, int_le, unsigned_abs}
 use Rattle.std.specs.Int.{◌∣◌}
-use Rattle.sg_origami.specs.declared.rate.Rate.{Rate}
 use Rattle.sg_model.specs.Sums.{total}
 use Rattle.sg_model.specs.Games.{Game, payoff, resource_count}
-use Rattle.sg_model.specs.Limits.{IsPayoff}
+use Rattle.sg_model.specs.declared.limit.TheConstants.{SCALE_LIMIT}
+use Rattle.sg_model.specs.Limits.{IsPay, IsWithin}
 use Rattle.sg_model.specs.Origami.{IsOrigami, gap, share, at_level, count_at}
 
 -- how often a target's gap goes into the scale
 abbrev pub multiple : Game → ℕ → ℤ
 multiple g t = int_div g.scale (gap (payoff g 1 t))
 
--- what target t adds to the sums of a level
-abbrev pub rate_at : Game → ℕ → Rate
+-- what a target adds to the sums of a level: how often its gap goes into the scale, and what the attacker gets where it is uncovered
+pub record RateView : Type 0 where
+  pub multiple : ℤ
+  pub uncovered : ℤ
+
+-- that of target t
+abbrev pub rate_at : Game → ℕ → RateView
 rate_at g t = record { multiple = multiple g t; uncovered = (payoff g 1 t).au }
 
 -- a rate within the limits
-pub record IsRate (r : Rate) : Type 0 where
-  pub multiple_low : pos 1 ≤ℤ r.multiple
-  pub multiple_high : r.multiple ≤ℤ pos (2 ^ 32)
-  pub uncovered_low : (pos 0 -ℤ pos (2 ^ 30)) ≤ℤ r.uncovered
-  pub uncovered_high : r.uncovered ≤ℤ pos (2 ^ 30)
+pub record IsRate (r : RateView) : Type 0 where
+  pub multiple : IsWithin (pos 1) SCALE_LIMIT r.multiple
+  pub uncovered : IsPay r.uncovered
 
 -- how often the gap goes into the scale
-abbrev pub multiple_of : Rate → ℤ
+abbrev pub multiple_of : RateView → ℤ
 multiple_of r = r.multiple
 
 -- the uncovered payoff
-abbrev pub uncovered_of : Rate → ℤ
+abbrev pub uncovered_of : RateView → ℤ
 uncovered_of r = r.uncovered
 
 -- the multiple times the uncovered payoff
-abbrev pub weighted_of : Rate → ℤ
+abbrev pub weighted_of : RateView → ℤ
 weighted_of r = r.multiple *ℤ r.uncovered
 
 -- whether the uncovered payoff is at least the level
-abbrev pub is_above : ℤ → ℤ → Rate → Bool
+abbrev pub is_above : ℤ → ℤ → RateView → Bool
 is_above num den r = int_le num (r.uncovered *ℤ den)
 
 -- how much of the scale times the denominator it takes to bring the target down to the level
-abbrev pub need_of : ℤ → ℤ → Rate → ℤ
+abbrev pub need_of : ℤ → ℤ → RateView → ℤ
 need_of num den r = r.multiple *ℤ (r.uncovered *ℤ den -ℤ num)
 
 -- of targets 1 to m, t is the first of those that pay the attacker most where they are covered

@@ -6,8 +6,9 @@ ghost use Rattle.sg_model.specs.Origami.{count_at};
 ghost use Rattle.sg_origami.specs.Fillings.{IsCoverage};
 ghost use Rattle.sg_origami.specs.Rates.{IsCountDivisor, IsReachable};
 ghost use Rattle.sg_model.specs.Fillable.{IsFillable};
+ghost use Rattle.sg_model.specs.Limits.{IsWithin};
 
-use crate::level::Height;
+use crate::height::Height;
 use crate::rate::{multiple, product, quotient, targets_of, uncovered};
 use sg_game::Game;
 use sg_num::gcd;
@@ -19,11 +20,9 @@ fn is_high(game: &Game, t: u16, level: &Height) -> bool
     requires fillable { IsFillable game.now }
     requires from_one { 1 ≤ t }
     requires in_range { t ≤ length game.now.goals }
-    requires den_low { pos 0 ≤ℤ level.now.den }
-    requires den_high { level.now.den ≤ℤ pos (2 ^ 46) }
     ensures { result ≡ int_le level.now.num ((payoff game.now 1 t).au *ℤ level.now.den) }
 {
-    level.num <= product(uncovered(game, t), level.den)
+    level.is_reached(uncovered(game, t))
 }
 
 /// How far the uncovered payoff of target `t` is above the level, times the denominator.
@@ -31,15 +30,10 @@ fn excess_of(game: &Game, t: u16, level: &Height) -> i128
     requires fillable { IsFillable game.now }
     requires from_one { 1 ≤ t }
     requires in_range { t ≤ length game.now.goals }
-    requires den_low { pos 1 ≤ℤ level.now.den }
-    requires den_high { level.now.den ≤ℤ pos (2 ^ 46) }
-    requires num_low { (pos 0 -ℤ pos (2 ^ 77)) ≤ℤ level.now.num }
-    requires num_high { level.now.num ≤ℤ pos (2 ^ 77) }
     ensures value { result ≡ (payoff game.now 1 t).au *ℤ level.now.den -ℤ level.now.num }
-    ensures low { (pos 0 -ℤ pos (2 ^ 78)) ≤ℤ result }
-    ensures high { result ≤ℤ pos (2 ^ 78) }
+    ensures range { IsWithin (pos 0 -ℤ pos (2 ^ 78)) (pos (2 ^ 78)) result }
 {
-    product(uncovered(game, t), level.den) - level.num
+    level.excess(uncovered(game, t))
 }
 
 /// How much of the scale times the denominator target `t` is covered at a level.
@@ -47,10 +41,6 @@ fn count_of(game: &Game, t: u16, level: &Height) -> i128
     requires fillable { IsFillable game.now }
     requires from_one { 1 ≤ t }
     requires in_range { t ≤ length game.now.goals }
-    requires den_low { pos 1 ≤ℤ level.now.den }
-    requires den_high { level.now.den ≤ℤ pos (2 ^ 46) }
-    requires num_low { (pos 0 -ℤ pos (2 ^ 77)) ≤ℤ level.now.num }
-    requires num_high { level.now.num ≤ℤ pos (2 ^ 77) }
     ensures { result ≡ count_at game.now level.now.num level.now.den t }
 {
     if is_high(game, t, level) {
@@ -63,10 +53,6 @@ fn count_of(game: &Game, t: u16, level: &Height) -> i128
 /// The greatest common divisor of a number and of the counts of all targets.
 fn divisor_of(game: &Game, level: &Height, whole: u128) -> u128
     requires fillable { IsFillable game.now }
-    requires den_low { pos 1 ≤ℤ level.now.den }
-    requires den_high { level.now.den ≤ℤ pos (2 ^ 46) }
-    requires num_low { (pos 0 -ℤ pos (2 ^ 77)) ≤ℤ level.now.num }
-    requires num_high { level.now.num ≤ℤ pos (2 ^ 77) }
     ensures { IsCountDivisor game.now level.now.num level.now.den whole (length game.now.goals) result }
 {
     let mut divisor = whole;
@@ -84,10 +70,6 @@ fn counts_of(
     divisor: i128,
 ) -> Result<Items<i128>, AllocError>
     requires fillable { IsFillable game.now }
-    requires den_low { pos 1 ≤ℤ level.now.den }
-    requires den_high { level.now.den ≤ℤ pos (2 ^ 46) }
-    requires num_low { (pos 0 -ℤ pos (2 ^ 77)) ≤ℤ level.now.num }
-    requires num_high { level.now.num ≤ℤ pos (2 ^ 77) }
     requires positive { pos 1 ≤ℤ divisor }
     ensures { IfOk result (λ counts. counts ≡ map (λ t. int_div (count_at game.now level.now.num level.now.den t) divisor) (numbers (length game.now.goals))) }
 {
@@ -109,12 +91,9 @@ pub struct Coverage {
 pub fn coverage_of(alloc: Global, game: &Game, level: &Height) -> Result<Coverage, AllocError>
     requires fillable { IsFillable game.now }
     requires reachable { IsReachable game.now level.now.num level.now.den }
-    requires den_high { level.now.den ≤ℤ pos (2 ^ 46) }
-    requires num_low { (pos 0 -ℤ pos (2 ^ 77)) ≤ℤ level.now.num }
-    requires num_high { level.now.num ≤ℤ pos (2 ^ 77) }
     ensures { IfOk result (λ coverage. IsCoverage game.now level.now.num level.now.den coverage.counts coverage.total) }
 {
-    let whole = product(i128::from(game.scale()), level.den);
+    let whole = product(i128::from(game.scale()), level.den());
     let divisor = divisor_of(game, level, whole.unsigned_abs()) as i128;
     let counts = counts_of(alloc, game, level, divisor)?;
     let total = quotient(whole, divisor);

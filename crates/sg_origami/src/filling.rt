@@ -3,11 +3,12 @@ ghost use Rattle.std.specs.Prelude.{◌≡◌, ◌^◌, true, pos, ◌-ℤ◌, �
 ghost use Rattle.sg_model.specs.Limits.{is_scaled};
 ghost use Rattle.sg_frac.specs.Fractions.{IsReducedForm};
 ghost use Rattle.sg_origami.specs.Fillings.{IsFilling};
+ghost use Rattle.sg_origami.specs.Heights.{IsHeight};
 ghost use Rattle.sg_model.specs.Fillable.{IsFillable};
 
 use crate::count::coverage_of;
 use crate::floor::level_of;
-use crate::level::Height;
+use crate::height::Height;
 use crate::rate::rates_of;
 use sg_frac::Frac;
 use sg_game::Game;
@@ -30,13 +31,10 @@ pub struct Filling {
 
 /// A level in lowest terms.
 fn lowest_terms(level: &Height) -> Frac
-    requires den_low { pos 1 ≤ℤ level.now.den }
-    requires den_high { level.now.den ≤ℤ pos (2 ^ 46) }
-    requires num_low { (pos 0 -ℤ pos (2 ^ 77)) ≤ℤ level.now.num }
-    requires num_high { level.now.num ≤ℤ pos (2 ^ 77) }
-    ensures { IsReducedForm level.now.num level.now.den result }
+    ensures lowest { IsReducedForm level.now.num level.now.den result }
+    ensures range { IsHeight level.now }
 {
-    match Frac::of(level.num, level.den) {
+    match Frac::of(level.num(), level.den()) {
         Some(level) => level,
         None => unreachable!(),
     }
@@ -50,10 +48,7 @@ fn filling_of(alloc: Global, game: &Game) -> Result<Filling, AllocError>
     let rates = rates_of(alloc, game)?;
     let found = level_of(game, rates.as_slice());
     let level = lowest_terms(&found.level);
-    let height = Height {
-        num: level.num(),
-        den: level.den(),
-    };
+    let height = Height::of(level.num(), level.den());
     let coverage = coverage_of(alloc, game, &height)?;
     Ok(Filling {
         level,

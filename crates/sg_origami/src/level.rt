@@ -1,35 +1,28 @@
 // The level to which the patrols can bring the attacker's best payoff, were each target free to be covered more than fully.
 ghost use Rattle.std.specs.Prelude.{◌≡◌, ◌≢◌, ◌≤◌, ◌^◌, [], All, filter, length, pos, ◌*ℤ◌, ◌-ℤ◌, ◌≤ℤ◌, if◌then◌else◌};
 ghost use Rattle.sg_model.specs.Sums.{total};
+ghost use Rattle.sg_model.specs.declared.limit.TheConstants.{SCALED_TARGET_LIMIT};
+ghost use Rattle.sg_model.specs.Limits.{IsWithin};
 ghost use Rattle.sg_origami.specs.Rates.{IsRate, is_above, multiple_of, need_of, weighted_of};
 
+use crate::height::Height;
 use crate::rate::{Rate, product};
-
-/// A level, as a fraction that need not be reduced.
-#[derive(Clone, Copy)]
-pub struct Height {
-    pub num: i128,
-    pub den: i128,
-}
+use sg_model::limit::PAYOFF_LIMIT;
 
 /// Whether the uncovered payoff of a target is at least the level.
 fn is_above(rate: &Rate, level: &Height) -> bool
-    requires rate { IsRate rate.now }
-    requires den_low { pos 0 ≤ℤ level.now.den }
-    requires den_high { level.now.den ≤ℤ pos (2 ^ 46) }
     ensures { result ≡ is_above level.now.num level.now.den rate.now }
 {
-    level.num <= product(rate.uncovered, level.den)
+    level.is_reached(rate.uncovered())
 }
 
 /// The multiple of a target times its uncovered payoff.
 fn weighted(rate: &Rate) -> i128
-    requires { IsRate rate.now }
     ensures value { result ≡ weighted_of rate.now }
     ensures low { (pos 0 -ℤ pos (2 ^ 62)) ≤ℤ result }
     ensures high { result ≤ℤ pos (2 ^ 62) }
 {
-    product(rate.multiple, rate.uncovered)
+    product(rate.multiple(), rate.uncovered())
 }
 
 /// The sums over the targets of a level.
@@ -41,9 +34,6 @@ struct Sums {
 
 /// What a target adds to the sums of a level.
 fn part_at(rate: &Rate, level: &Height) -> Sums
-    requires rate { IsRate rate.now }
-    requires den_low { pos 0 ≤ℤ level.now.den }
-    requires den_high { level.now.den ≤ℤ pos (2 ^ 46) }
     ensures multiples { result.multiples ≡ (if is_above level.now.num level.now.den rate.now then multiple_of rate.now else pos 0) }
     ensures weighted { result.weighted ≡ (if is_above level.now.num level.now.den rate.now then weighted_of rate.now else pos 0) }
     ensures multiples_low { pos 0 ≤ℤ result.multiples }
@@ -53,7 +43,7 @@ fn part_at(rate: &Rate, level: &Height) -> Sums
 {
     if is_above(rate, level) {
         Sums {
-            multiples: rate.multiple,
+            multiples: rate.multiple(),
             weighted: weighted(rate),
         }
     } else {
@@ -66,10 +56,7 @@ fn part_at(rate: &Rate, level: &Height) -> Sums
 
 /// The multiples and the weighted payoffs of the targets of a level.
 fn sums_at(rates: &[Rate], level: &Height) -> Sums
-    requires rates { All IsRate rates.now }
-    requires few { length rates.now ≤ 10000 }
-    requires den_low { pos 0 ≤ℤ level.now.den }
-    requires den_high { level.now.den ≤ℤ pos (2 ^ 46) }
+    requires { length rates.now ≤ SCALED_TARGET_LIMIT }
     ensures multiples { result.multiples ≡ total multiple_of (filter (is_above level.now.num level.now.den) rates.now) }
     ensures weighted { result.weighted ≡ total weighted_of (filter (is_above level.now.num level.now.den) rates.now) }
     ensures multiples_low { pos 0 ≤ℤ result.multiples }
@@ -97,26 +84,15 @@ fn sums_at(rates: &[Rate], level: &Height) -> Sums
 pub fn spent_level(rates: &[Rate], have: i128) -> Height
     requires rates { All IsRate rates.now }
     requires some { rates.now ≢ [] }
-    requires few { length rates.now ≤ 10000 }
-    requires have_low { pos 0 ≤ℤ have }
-    requires have_high { have ≤ℤ pos (2 ^ 40) }
+    requires few { length rates.now ≤ SCALED_TARGET_LIMIT }
+    requires have { IsWithin (pos 0) (pos (2 ^ 40)) have }
     ensures some { filter (is_above result.num result.den) rates.now ≢ [] }
     ensures spends { total (need_of result.num result.den) (filter (is_above result.num result.den) rates.now) ≡ have *ℤ result.den }
-    ensures den_low { pos 1 ≤ℤ result.den }
-    ensures den_high { result.den ≤ℤ pos (2 ^ 46) }
-    ensures num_low { (pos 0 -ℤ pos (2 ^ 77)) ≤ℤ result.num }
-    ensures num_high { result.num ≤ℤ pos (2 ^ 77) }
 {
-    let lowest = Height {
-        num: -1073741824 - have,
-        den: 1,
-    };
+    let lowest = Height::of(-i128::from(PAYOFF_LIMIT) - have, 1);
     let mut sums = sums_at(rates, &lowest);
     'rise: loop {
-        let next = Height {
-            num: sums.weighted - have,
-            den: sums.multiples,
-        };
+        let next = Height::of(sums.weighted - have, sums.multiples);
         let kept = sums_at(rates, &next);
         if kept.multiples >= sums.multiples {
             return next;

@@ -19,6 +19,7 @@
 mod count;
 mod filling;
 mod floor;
+mod height;
 mod level;
 mod rate;
 

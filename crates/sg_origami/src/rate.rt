@@ -4,11 +4,14 @@ ghost use Rattle.std.specs.Int.{w128};
 ghost use Rattle.sg_model.specs.Sums.{numbers};
 ghost use Rattle.sg_model.specs.Games.{payoff};
 ghost use Rattle.sg_model.specs.Fillable.{IsFillable};
-ghost use Rattle.sg_origami.specs.Rates.{multiple, rate_at};
+ghost use Rattle.sg_model.specs.declared.limit.TheConstants.{SCALE_LIMIT};
+ghost use Rattle.sg_model.specs.Limits.{IsPay, IsWithin};
+ghost use Rattle.sg_origami.specs.Rates.{IsRate, multiple, rate_at};
 
 use sg_game::Game;
 use sqlite_items::Items;
 use std::alloc::{AllocError, Global};
+use std::marker::Model;
 
 /// The product.
 pub fn product(a: i128, b: i128) -> i128
@@ -40,8 +43,7 @@ pub fn uncovered(game: &Game, t: u16) -> i128
     requires from_one { 1 ≤ t }
     requires in_range { t ≤ length game.now.goals }
     ensures value { result ≡ (payoff game.now 1 t).au }
-    ensures low { (pos 0 -ℤ pos (2 ^ 30)) ≤ℤ result }
-    ensures high { result ≤ℤ pos (2 ^ 30) }
+    ensures range { IsPay result }
 {
     i128::from(game.payoffs(1, t)[3])
 }
@@ -52,8 +54,7 @@ pub fn covered(game: &Game, t: u16) -> i128
     requires from_one { 1 ≤ t }
     requires in_range { t ≤ length game.now.goals }
     ensures value { result ≡ (payoff game.now 1 t).ac }
-    ensures low { (pos 0 -ℤ pos (2 ^ 30)) ≤ℤ result }
-    ensures high { result ≤ℤ pos (2 ^ 30) }
+    ensures range { IsPay result }
 {
     i128::from(game.payoffs(1, t)[2])
 }
@@ -64,8 +65,7 @@ pub fn multiple(game: &Game, t: u16) -> i128
     requires from_one { 1 ≤ t }
     requires in_range { t ≤ length game.now.goals }
     ensures value { result ≡ multiple game.now t }
-    ensures low { pos 1 ≤ℤ result }
-    ensures high { result ≤ℤ pos (2 ^ 32) }
+    ensures range { IsWithin (pos 1) SCALE_LIMIT result }
 {
     let gap = uncovered(game, t) - covered(game, t);
     quotient(i128::from(game.scale()), gap)
@@ -74,10 +74,38 @@ pub fn multiple(game: &Game, t: u16) -> i128
 /// What a target adds to the sums of a level.
 #[derive(Clone, Copy)]
 pub struct Rate {
+    multiple: i128,
+    uncovered: i128,
+}
+
+impl Model for Rate {
+    ghost use Rattle.sg_origami.specs.Rates.{IsRate, RateView};
+
+    ghost Value = { RateView };
+
+    ghost view = { λ r. record { multiple = r.multiple; uncovered = r.uncovered } };
+
+    ghost invariant = { λ r. IsRate (record { multiple = r.multiple; uncovered = r.uncovered }) };
+
+    ghost inverse = { λ r. record { multiple = r.multiple; uncovered = r.uncovered } };
+}
+
+impl Rate {
     /// How often its gap goes into the scale.
-    pub multiple: i128,
+    pub fn multiple(&self) -> i128
+        ensures value { result ≡ self.now.multiple }
+        ensures range { IsRate self.now }
+    {
+        self.multiple
+    }
+
     /// What the attacker gets where it is uncovered.
-    pub uncovered: i128,
+    pub fn uncovered(&self) -> i128
+        ensures value { result ≡ self.now.uncovered }
+        ensures range { IsRate self.now }
+    {
+        self.uncovered
+    }
 }
 
 /// The rate of target `t`.

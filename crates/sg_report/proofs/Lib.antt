@@ -1,10 +1,4 @@
-pub mod Marks
-pub mod Counted
-pub mod Holding
-pub mod Wraps
-pub mod Paid
 pub mod Lines
-pub mod Answering
-pub mod Readable
+pub mod Fitting
 pub mod Tabled
 pub mod Facts

@@ -1,24 +1,12 @@
 -- Laws about tables, and tables worked out by hand.
-use Rattle.std.specs.Prelude.{◌≡◌, ℕ, ◌≤◌, ◌<◌, false, true, List, [], ◌∷◌, ◌++◌, codes, Some, pos}
+use Rattle.std.specs.Prelude.{◌≡◌, ℕ, List, [], ◌∷◌, ◌++◌, codes, pos}
 use Rattle.sg_model.specs.declared.ticket.Ticket.{Ticket}
 use Rattle.sg_model.specs.Games.{Game}
-use Rattle.sg_model.specs.Commitments.{IsCommitment, is_best, sum_d, take_of}
+use Rattle.sg_model.specs.Commitments.{IsCommitment}
 use Rattle.sg_model.specs.Limits.{IsGame}
 use Rattle.sg_model.specs.Examples.{one_player, row_mix, two_players, two_targets, two_tickets}
 use Rattle.sg_frac.specs.Fractions.{Fraction}
-use Rattle.sg_game.specs.Counts.{IsActionOf, IsTypeOf}
-use Rattle.sg_report.specs.Tables.{IsReportTable, answer, is_answer}
-
--- a is an action of type l, best for it, it gives the defender the most, and no action before it does both
-pub record IsFirstAnswer (g : Game) (k : List Ticket) (l a : ℕ) : Type 0 where
-  pub known : IsActionOf g l a
-  pub best : is_best g k l a ≡ true
-  pub most : sum_d g k l a ≡ take_of g k l
-  pub first : (b : ℕ) → 1 ≤ b → b < a → is_answer g k l b ≡ false
-
--- each type of a game has such an answer
-abbrev pub AnswersAreFirst : Type 0
-AnswersAreFirst = (g : Game) (k : List Ticket) (l : ℕ) → IsGame g → IsTypeOf g l → (a : ℕ) × (answer g k l ≡ Some a) × IsFirstAnswer g k l a
+use Rattle.sg_report.specs.Tables.{IsReportTable}
 
 -- two tables of a commitment with one upper bound are the same text
 abbrev pub TableIsOne : Type 0

@@ -1,16 +1,16 @@
 -- The lines of a table, from what they show.
-use Rattle.std.specs.Prelude.{ℕ, List, [], ◌∷◌, ◌++◌, ℤ, Option, codes, if◌then◌else◌}
+use Rattle.std.specs.Prelude.{ℕ, List, [], ◌∷◌, ◌++◌, ℤ, Option, codes}
 use Rattle.std.specs.Option.{option_map_or}
 use Rattle.std.specs.Fmt.{signed_decimal}
-use Rattle.sg_model.specs.Games.{Game, attacker, is_matrix}
+use Rattle.sg_model.specs.Games.{Game, attacker}
 use Rattle.sg_model.specs.TextLines.{field_line}
 use Rattle.sg_model.specs.Sums.{nth}
 use Rattle.sg_frac.specs.Fractions.{Fraction, fraction_text}
 use Rattle.sg_game.specs.Counts.{action_name}
 
--- target or row n with its count
-abbrev pub counted_line : Game → ℕ → ℤ → List ℕ
-counted_line g n count = field_line (if is_matrix g then codes "row" else codes "target") (nth g.goals n [] ∷ signed_decimal count ∷ [])
+-- target n with its count
+abbrev pub target_text : Game → ℕ → ℤ → List ℕ
+target_text g n count = field_line (codes "target") (nth g.goals n [] ∷ signed_decimal count ∷ [])
 
 -- type l with the action that it takes
 abbrev pub answer_line : Game → ℕ → Option ℕ → List ℕ

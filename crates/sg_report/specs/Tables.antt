@@ -1,23 +1,15 @@
 -- A report as a table for people: the lines, one after another.
-use Rattle.std.specs.Prelude.{◌≡◌, ℕ, Bool, ◌&&◌, if◌then◌else◌, List, [], ◌∷◌, ◌++◌, map, flat_map, length, find, codes, Option, ◌*ℤ◌}
+use Rattle.std.specs.Prelude.{◌≡◌, ℕ, if◌then◌else◌, List, [], ◌∷◌, ◌++◌, map, flat_map, length, codes, ◌*ℤ◌}
 use Rattle.std.specs.Option.{option_map_or}
-use Rattle.std.specs.Ordering.{int_eq}
 use Rattle.std.specs.Fmt.{signed_decimal}
 use Rattle.sg_model.specs.declared.ticket.Ticket.{Ticket}
 use Rattle.sg_model.specs.Sums.{nth, numbers}
-use Rattle.sg_model.specs.Games.{Game, action_count, attacker, is_matrix, prior_total}
-use Rattle.sg_model.specs.Commitments.{cover_count, is_best, sum_d, take_of, weight_on, weight_total, worth}
+use Rattle.sg_model.specs.Games.{Game, attacker, is_matrix, prior_total}
+use Rattle.sg_model.specs.Commitments.{cover_count, weight_on, weight_total, worth}
 use Rattle.sg_model.specs.TextLines.{field_line}
 use Rattle.sg_frac.specs.Fractions.{Fraction, IsReducedForm, fraction_text}
 use Rattle.sg_game.specs.Counts.{action_name}
-
--- whether type l may answer by action a: it is best for it, and no best action gives the defender more
-abbrev pub is_answer : Game → List Ticket → ℕ → ℕ → Bool
-is_answer g k l a = is_best g k l a && int_eq (sum_d g k l a) (take_of g k l)
-
--- the answer of type l: the first such action in file order
-abbrev pub answer : Game → List Ticket → ℕ → Option ℕ
-answer g k l = find (is_answer g k l) (numbers (action_count g l))
+use Rattle.sg_commit.specs.Answers.{answer}
 
 -- a target with the tickets that cover it
 abbrev pub target_line : Game → List Ticket → ℕ → List ℕ

@@ -1,11 +1,6 @@
 //! Laws about tables, each as the contract of a function that does nothing.
 
-ghost use Rattle.sg_report.specs.Laws.{AnswersAreFirst, TableIsOne, TablesAreWorked};
-
-/// Each type has an answer: a best action that gives the defender the most, and the first such action.
-pub fn answers_are_first()
-    ensures { AnswersAreFirst }
-{}
+ghost use Rattle.sg_report.specs.Laws.{TableIsOne, TablesAreWorked};
 
 /// A commitment with an upper bound has one table.
 pub fn table_is_one()

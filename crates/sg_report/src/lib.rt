@@ -11,18 +11,15 @@
 //! type thief attacks gate
 //! ```
 //!
-//! What they say is `IsTable` in `specs/Tables.antt`: the value of the tickets in lowest terms, the upper bound as it was
+//! What they say is `IsReportTable` in `specs/Tables.antt`: the value of the tickets in lowest terms, the upper bound as it was
 //! handed in, the number of tickets, for each target the tickets that cover it (in matrix form for each row its
 //! tickets), and for each type of attacker the first of its best actions that give the defender the most. All counts are
-//! made in one pass over the tickets, and the answers are read from the counts: beside the sums of `sg_commit::value`
-//! the work grows with the size of the game and the tickets alone.
+//! made in one pass over the tickets, and the answers are those of `sg_commit::answer`.
 #![tactic(auto)]
 
-mod answers;
-mod counts;
 mod laws;
 mod show;
 mod text;
 
-pub use laws::{answers_are_first, table_is_one, tables_are_worked};
+pub use laws::{table_is_one, tables_are_worked};
 pub use show::{ShowFault, show_text};

@@ -1,37 +1,45 @@
 //! The whole table.
 
-ghost use Rattle.std.specs.Prelude.{◌≡◌, ◌++◌, Err, IfErr, IfOk, IsErrAnd, IsOk, OnOk, flat_map, length};
+ghost use Rattle.std.specs.Prelude.{◌≡◌, ◌++◌, Err, IfErr, IfOk, IfSome, IsErrAnd, IsOk, OnOk, flat_map, length};
 ghost use Rattle.sg_model.specs.Sums.{numbers};
 ghost use Rattle.sg_model.specs.Commitments.{AreLegal};
-ghost use Rattle.sg_commit.specs.ExactSums.{exact_base};
-ghost use Rattle.sg_report.specs.Answers.{AreReadable};
+ghost use Rattle.sg_game.specs.Counts.{IsActionOf, IsTypeOf};
+ghost use Rattle.sg_commit.specs.Answers.{answer};
+ghost use Rattle.sg_commit.specs.ExactSums.{exact_base, exact_take};
 ghost use Rattle.sg_num.specs.declared.step.Wide.{Wide};
 ghost use Rattle.sg_report.specs.Lines.{head_text};
 ghost use Rattle.sg_report.specs.Tables.{IsReportTable, table_text, type_line};
 
-use crate::answers::answer_of;
-use crate::counts::{Counts, counts_of};
 use crate::text::{put_answer_line, put_fraction_line, put_goal_lines, put_tickets_line};
-use sg_commit::{Commitment, value};
+use sg_commit::{Commitment, answer, value};
 use sg_frac::Frac;
 use sg_game::Game;
-use sg_model::Ticket;
 use sg_num::Wide;
 use std::alloc::{AllocError, Global};
 use thiserror::Error;
 
+/// The answer of a type whose sums are known to fit.
+fn answer_of(game: &Game, k: &Commitment, l: u8) -> Option<u16>
+    requires legal { AreLegal game.now k.now.tickets }
+    requires known { IsTypeOf game.now l }
+    requires fits { IsOk (exact_take game.now k.now.tickets l) }
+    ensures answer { result ≡ answer game.now k.now.tickets l }
+    ensures known { IfSome result (IsActionOf game.now l) }
+{
+    match answer(game, k, l) {
+        Ok(told) => told,
+        Err(_) => unreachable!(),
+    }
+}
+
 /// Adds the lines of all types.
-fn put_type_lines(
-    text: &mut Vec<u8>,
-    game: &Game,
-    tickets: &[Ticket],
-    counts: &Counts,
-) -> Result<(), AllocError>
-    requires { AreReadable game.now tickets.now counts.now.total counts.now.cells.items }
-    ensures { OnOk result (text.new.items ≡ text.old.items ++ flat_map (type_line game.now tickets.now) (numbers (length game.now.types))) }
+fn put_type_lines(text: &mut Vec<u8>, game: &Game, k: &Commitment) -> Result<(), AllocError>
+    requires legal { AreLegal game.now k.now.tickets }
+    requires fits { IsOk (exact_base game.now k.now.tickets) }
+    ensures { OnOk result (text.new.items ≡ text.old.items ++ flat_map (type_line game.now k.now.tickets) (numbers (length game.now.types))) }
 {
     for l in 0..game.types() {
-        let answer = answer_of(game, tickets, counts, l + 1);
+        let answer = answer_of(game, k, l + 1);
         put_answer_line(text, game, l + 1, answer)?;
     }
     Ok(())
@@ -65,11 +73,11 @@ fn table(
     requires fits { IsOk (exact_base game.now k.now.tickets) }
     ensures { IfOk result (λ text. text.items ≡ table_text game.now k.now.tickets value.now upper.now) }
 {
-    let counts = counts_of(alloc, game, k.tickets(), k.total())?;
+    let _tickets = k.tickets();
     let mut text = Vec::new(alloc);
-    put_head(&mut text, alloc, value, upper, &counts.total)?;
-    put_goal_lines(&mut text, game, counts.cells.as_slice())?;
-    put_type_lines(&mut text, game, k.tickets(), &counts)?;
+    put_head(&mut text, alloc, value, upper, &k.total())?;
+    put_goal_lines(&mut text, alloc, game, k)?;
+    put_type_lines(&mut text, game, k)?;
     Ok(text)
 }
 

@@ -1,12 +1,12 @@
 //! Tables for people, worked out by hand.
 
 use crate::tickets::{HALF, Shares, commitment};
-use sg_commit::{Commitment, are_legal};
+use sg_commit::{Commitment, answers_are_first, are_legal};
 use sg_file::read_game;
 use sg_frac::Frac;
 use sg_game::Game;
 use sg_num::{Op, Wide};
-use sg_report::{ShowFault, answers_are_first, show_text, table_is_one, tables_are_worked};
+use sg_report::{ShowFault, show_text, table_is_one, tables_are_worked};
 use std::alloc::Global;
 use std::test::Fail;
 

@@ -6,6 +6,7 @@ ghost use Rattle.sg_shelf.specs.Logs.{logged, log_after};
 ghost use Rattle.sg_shelf.specs.Opened.{IsWholeFile, IsLongFile, IsUnread};
 ghost use Rattle.sg_shelf.specs.ReaderState.{GivesAtMost, MayHaveMore};
 ghost use Rattle.sg_shelf.specs.ShelfErrors.{IsFailedOrMemory, faults_after};
+ghost use Rattle.sg_shelf.specs.declared.shelf.TheConstants.{READ_LIMIT};
 ghost use Rattle.sg_shelf.specs.declared.log.Outcome.TheVariants as Outcome;
 ghost use Rattle.sg_shelf.specs.declared.shelf.ShelfError.TheVariants.{Failed, TooLong, Memory};
 
@@ -60,7 +61,7 @@ impl<O: Opener> Shelf for FileShelf<O> {
     ghost hands_over = { λ name limit bytes. IsWholeFile O.opens name bytes };
 
     fn read(&mut self, alloc: Global, name: &str, limit: usize) -> Result<Vec<u8>, ShelfError>
-        requires { limit ≤ 536870912 }
+        requires { limit ≤ READ_LIMIT }
 
         ensures count { self.old.faults ≤ self.new.faults }
         ensures last_count { self.new.faults ≤ 2 ^ 64 - 1 }
@@ -100,7 +101,7 @@ fn read_named<O: Opener>(
     limit: usize,
     faults: &mut u64,
 ) -> Result<Vec<u8>, ShelfError>
-    requires { limit ≤ 536870912 }
+    requires { limit ≤ READ_LIMIT }
     ensures within { IfOk result (λ bytes. vec_len bytes ≤ limit) }
     ensures whole { IfOk result (λ bytes. IsWholeFile O.opens name.now bytes.items) }
     ensures long { (seen : ℕ) → IsErrOf result (TooLong seen) → seen ≡ limit + 1 }
@@ -128,7 +129,7 @@ fn read_opened<F: Read + Drop>(
     limit: usize,
     faults: &mut u64,
 ) -> Result<Vec<u8>, ShelfError>
-    requires { limit ≤ 536870912 }
+    requires { limit ≤ READ_LIMIT }
     ensures within { IfOk result (λ bytes. vec_len bytes ≤ limit) }
     ensures whole { IfOk result (λ bytes. IfSome (F.remaining file) (λ all. bytes.items ≡ all)) }
     ensures long { (seen : ℕ) → IsErrOf result (TooLong seen) → seen ≡ limit + 1 }
@@ -151,7 +152,7 @@ fn whole_file<F: Read>(
     source: &mut Source<F>,
     limit: usize,
 ) -> Result<Vec<u8>, ShelfError>
-    requires { limit ≤ 536870912 }
+    requires { limit ≤ READ_LIMIT }
     ensures within { IfOk result (λ bytes. vec_len bytes ≤ limit) }
     ensures bytes { IfOk result (λ bytes. Consumes source.old.remaining source.new.remaining bytes.items) }
     ensures end { OnOk result (IsAtEnd source.new.remaining) }
@@ -178,7 +179,7 @@ fn first_bytes<F: Read>(
     source: &mut Source<F>,
     most: usize,
 ) -> Result<Vec<u8>, ShelfError>
-    requires { most ≤ 536870913 }
+    requires { most ≤ READ_LIMIT + 1 }
     ensures within { IfOk result (λ bytes. vec_len bytes ≤ most) }
     ensures bytes { IfOk result (λ bytes. Consumes source.old.remaining source.new.remaining bytes.items) }
     ensures end { IfOk result (λ bytes. vec_len bytes < most → IsAtEnd source.new.remaining) }

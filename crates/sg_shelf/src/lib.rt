@@ -26,5 +26,5 @@ pub use mem_shelf::{MemShelf, NamedBytes};
 pub use mem_sink::MemSink;
 pub use opener::{Opener, PathOpener};
 pub use out_sink::OutSink;
-pub use shelf::{Shelf, ShelfError};
+pub use shelf::{READ_LIMIT, Shelf, ShelfError};
 pub use sink::{Sink, SinkError};

@@ -26,6 +26,9 @@ pub enum ShelfError {
     Memory,
 }
 
+/// The most bytes that may be asked of a read: 512 MiB.
+pub const READ_LIMIT: usize = 536_870_912;
+
 /// Files by name.
 pub trait Shelf {
     /// What it shows of itself: the names and bytes that it holds, where it tells them; the reads that it answered, in
@@ -37,9 +40,9 @@ pub trait Shelf {
     /// answers them says so, told or not: a caller that has to speak of bytes that were handed over can't take others.
     ghost hands_over: { List ℕ → ℕ → List ℕ → Type 0 } = { λ name limit bytes. Unit {0} };
 
-    /// Reads a file of at most `limit` bytes, which may be 512 MiB at most.
+    /// Reads a file of at most `limit` bytes, which may be `READ_LIMIT` at most.
     fn read(&mut self, alloc: Global, name: &str, limit: usize) -> Result<Vec<u8>, ShelfError>
-        requires { limit ≤ 536870912 }
+        requires { limit ≤ READ_LIMIT }
 
         // No read changes the files, or whether they are told. The count never falls.
         ensures files { (state self.new).files ≡ (state self.old).files }

@@ -7,11 +7,11 @@ use Rattle.sg_model.specs.Plays.{covers}
 use Rattle.sg_commit.proofs.Counting.{Counted, counted_more}
 use Rattle.sg_commit.proofs.coverage.count_in.Goals as goal
 
-more : (c : goal.After-counted-count) → Counted c.args.game.now c.args.tickets.now c.args.target c.loop-ticket.ticket-index c.counted-count.result (to_z w128 c.loop-ticket.count-bits)
+more : (c : goal.After-counted-count) → Counted (λ (x : Ticket). covers c.args.game.now x.play.code c.args.target) c.args.tickets.now c.loop-ticket.ticket-index c.counted-count.result (to_z w128 c.loop-ticket.count-bits)
 more c =
     let is : c.counted-count.result ≡ cond (covers c.args.game.now c.ticket-item.result.play.code c.args.target) c.ticket-item.result.weight (pos 0) = c.counted-count.ensures in
     let there = subst (λ (x : Ticket). c.counted-count.result ≡ cond (covers c.args.game.now x.play.code c.args.target) x.weight (pos 0)) c.ticket-item.is is in
-    counted_more c.args.game.now c.args.tickets.now c.args.target c.loop-ticket.ticket-index c.ticket-item.result c.counted-count.result (to_z w128 c.loop-ticket.count-bits)
+    counted_more (λ (x : Ticket). covers c.args.game.now x.play.code c.args.target) c.args.tickets.now c.loop-ticket.ticket-index c.ticket-item.result c.counted-count.result (to_z w128 c.loop-ticket.count-bits)
     c.loop-ticket-test.true c.requires.positive there c.loop-ticket.invariant.whole c.loop-ticket.invariant.low c.loop-ticket.invariant.high
 
 pub overflow_add-count : goal.overflow_add-count

@@ -12,4 +12,4 @@ pub returns-in-Ok : goal.returns-in-Ok
 returns-in-Ok c =
     let fits : FitsSigned w128 c.in-Ok.first = search rules in
     let e : c.top_after.result ≡ top_from c.args.game.now c.args.k.now.tickets c.args.l c.in-Ok.first (numbers_from 2 (action_count c.args.game.now c.args.l - 1)) = simp to_z-of_z at c.top_after.ensures in
-    e ∙ top_of-is c.args.game.now c.args.k.now.tickets c.args.l c.has_action.ensures (Ok c.in-Ok.first) (sym c.table_sum_a.ensures ∙ c.in-Ok.is)
+    e ∙ top_of-is c.args.game.now c.args.k.now.tickets c.args.l c.has_action.ensures (Ok c.in-Ok.first) (sym c.table_sum.ensures ∙ c.in-Ok.is)

@@ -1,11 +1,8 @@
-use Rattle.std.proofs.Common.{◌∙◌, ap, List}
 use Rattle.sg_model.specs.declared.ticket.Ticket.{Ticket}
 use Rattle.sg_model.specs.Plays.{pay_d}
-use Rattle.sg_commit.specs.ExactSums.{exact_sum_d}
 use Rattle.sg_commit.proofs.ExactSums.{dot-value}
 use Rattle.sg_commit.proofs.sums.sum_d.Goals as goal
 
 pub returns-clause-value : goal.returns-clause-value
 returns-clause-value c =
-    dot-value (λ (x : Ticket). pay_d c.args.game.now c.args.l x.play.code c.args.a) c.args.k.now.tickets c.total_d.result
-    (c.total_d.ensures ∙ ap (λ (k : List Ticket). exact_sum_d c.args.game.now k c.args.l c.args.a) c.tickets.ensures.value)
+    dot-value (λ (x : Ticket). pay_d c.args.game.now c.args.l x.play.code c.args.a) c.args.k.now.tickets c.sum_to.result c.sum_to.ensures

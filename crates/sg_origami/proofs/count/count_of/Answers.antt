@@ -10,16 +10,16 @@ use Rattle.sg_origami.proofs.count.count_of.Goals as goal
 
 pub product-requires : goal.product-requires
 product-requires c =
-    let a : FitsSigned w128 c.multiple.result = omega (arith, ints, c.multiple.ensures.low, c.multiple.ensures.high) in
-    let b : FitsSigned w128 c.excess_of.result = omega (arith, ints, c.excess_of.ensures.low, c.excess_of.ensures.high) in
-    let m : Spans (2 ^ 32) c.multiple.result = record { low = omega (arith, ints, c.multiple.ensures.low); high = c.multiple.ensures.high } in
-    let h : Spans (2 ^ 78) c.excess_of.result = record { low = c.excess_of.ensures.low; high = c.excess_of.ensures.high } in
+    let a : FitsSigned w128 c.multiple.result = omega (arith, ints, c.multiple.ensures.range.at_least, c.multiple.ensures.range.at_most) in
+    let b : FitsSigned w128 c.excess_of.result = omega (arith, ints, c.excess_of.ensures.range.at_least, c.excess_of.ensures.range.at_most) in
+    let m : Spans (2 ^ 32) c.multiple.result = record { low = omega (arith, ints, c.multiple.ensures.range.at_least); high = c.multiple.ensures.range.at_most } in
+    let h : Spans (2 ^ 78) c.excess_of.result = record { low = c.excess_of.ensures.range.at_least; high = c.excess_of.ensures.range.at_most } in
     simp to_z-of_z (fits_span (2 ^ 32 * 2 ^ 78) (c.multiple.result *ℤ c.excess_of.result) (omega arith) (spans_product (2 ^ 32) (2 ^ 78) c.multiple.result c.excess_of.result m h))
 
 pub returns-then-is_high : goal.returns-then-is_high
 returns-then-is_high c =
-    let a : FitsSigned w128 c.multiple.result = omega (arith, ints, c.multiple.ensures.low, c.multiple.ensures.high) in
-    let b : FitsSigned w128 c.excess_of.result = omega (arith, ints, c.excess_of.ensures.low, c.excess_of.ensures.high) in
+    let a : FitsSigned w128 c.multiple.result = omega (arith, ints, c.multiple.ensures.range.at_least, c.multiple.ensures.range.at_most) in
+    let b : FitsSigned w128 c.excess_of.result = omega (arith, ints, c.excess_of.ensures.range.at_least, c.excess_of.ensures.range.at_most) in
     let f : FitsSigned w128 c.product.result = record { sfits = c.product.type_inv } in
     let e : c.product.result ≡ c.multiple.result *ℤ c.excess_of.result = simp to_z-of_z at c.product.ensures in
     let g = c.args.game.now in

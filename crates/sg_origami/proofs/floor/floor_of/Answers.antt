@@ -12,13 +12,11 @@ loop-t-preserved c =
     let e = c.covered-next.ensures in
     elim c.if-pay-next.branch [
       | then-pay-next w ↦ record {
-        floor = floor_higher g c.loop-t.t c.loop-t.target c.if-pay-next.target (to_z w128 c.loop-t.pay-bits) (to_z w128 c.if-pay-next.pay-bits) c.covered-next.result i.floor e.value (omega (arith, ints, w.if-pay-next.true, e.low, e.high)) w.target-is (omega (arith, ints, w.pay-is, e.low, e.high));
-        low = omega (arith, ints, w.pay-is, e.low, e.high);
-        high = omega (arith, ints, w.pay-is, e.low, e.high);
+        floor = floor_higher g c.loop-t.t c.loop-t.target c.if-pay-next.target (to_z w128 c.loop-t.pay-bits) (to_z w128 c.if-pay-next.pay-bits) c.covered-next.result i.floor e.value (omega (arith, ints, w.if-pay-next.true, e.range.at_least, e.range.at_most)) w.target-is (omega (arith, ints, w.pay-is, e.range.at_least, e.range.at_most));
+        range = record { at_least = omega (arith, ints, w.pay-is, e.range.at_least, e.range.at_most); at_most = omega (arith, ints, w.pay-is, e.range.at_least, e.range.at_most) };
       }
       | else-pay-next w ↦ record {
-        floor = floor_stays g c.loop-t.t c.loop-t.target c.if-pay-next.target (to_z w128 c.loop-t.pay-bits) (to_z w128 c.if-pay-next.pay-bits) c.covered-next.result i.floor e.value (omega (arith, ints, w.if-pay-next.false, e.low, e.high)) w.target-is w.pay-is;
-        low = omega (arith, ints, w.pay-is, i.low);
-        high = omega (arith, ints, w.pay-is, i.high);
+        floor = floor_stays g c.loop-t.t c.loop-t.target c.if-pay-next.target (to_z w128 c.loop-t.pay-bits) (to_z w128 c.if-pay-next.pay-bits) c.covered-next.result i.floor e.value (omega (arith, ints, w.if-pay-next.false, e.range.at_least, e.range.at_most)) w.target-is w.pay-is;
+        range = record { at_least = omega (arith, ints, w.pay-is, i.range.at_least); at_most = omega (arith, ints, w.pay-is, i.range.at_most) };
       }
     ]

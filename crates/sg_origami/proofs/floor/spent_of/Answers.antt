@@ -18,7 +18,7 @@ spent_level-requires c =
     let is : c.product-have.result ≡ pos (resource_count g) *ℤ g.scale = have_is (resource_count g) g.scale (to_z w128 (of_z w128 c.from.result)) (to_z w128 (of_z w128 c.from-2.result)) c.product-have.result (omega (arith, ints, c.from.ensures, c.resources.ensures.count)) (omega (arith, ints, c.from-2.ensures, c.scale.ensures)) c.product-have.ensures in
     let b = have_bounds (resource_count g) g.scale c.product-have.result is f.few_patrols f.origami.scaled f.scale_range.at_most in
     let r = are_rates g f c.args.rates.now c.requires.rates in
-    record { rates = r.each; some = r.some; few = r.few; have_low = omega (arith, ints, b.0, b.1); have_high = omega (arith, ints, b.0, b.1) }
+    record { rates = r.each; some = r.some; few = r.few; have = record { at_least = omega (arith, ints, b.0, b.1); at_most = omega (arith, ints, b.0, b.1) } }
 
 pub returns : goal.returns
 returns c =
@@ -29,10 +29,4 @@ returns c =
     let s = c.spent_level.ensures in
     let fits : FitsSigned w128 c.product-have.result = omega (arith, ints, b.0, b.1) in
     let e = simp to_z-of_z at s.spends in
-    record {
-      spends = spends_rates g c.args.rates.now c.requires.rates c.product-have.result c.spent_level.result.num c.spent_level.result.den is (record { some = s.some; spends = e });
-      den_low = s.den_low;
-      den_high = s.den_high;
-      num_low = s.num_low;
-      num_high = s.num_high;
-    }
+    spends_rates g c.args.rates.now c.requires.rates c.product-have.result c.spent_level.result.num c.spent_level.result.den is (record { some = s.some; spends = e })

@@ -6,5 +6,5 @@ use Rattle.sg_report.proofs.show.put_type_lines.Given as goal
 -- what is written, and what is left to write, is the whole
 abbrev pub invariant-loop-l : goal.invariant-loop-l
 invariant-loop-l l =
-    l.text.items ++ flat_map (type_line l.game l.tickets) (numbers_from (l.l + 1) (length l.game.types - l.l))
-    ≡ l.initial.text.items ++ flat_map (type_line l.game l.tickets) (numbers (length l.game.types))
+    l.text.items ++ flat_map (type_line l.game l.k.tickets) (numbers_from (l.l + 1) (length l.game.types - l.l))
+    ≡ l.initial.text.items ++ flat_map (type_line l.game l.k.tickets) (numbers (length l.game.types))
