@@ -280,12 +280,7 @@ fn answer_under(
 }
 
 // `answer`, by the table of counts where there is one.
-fn table_answer(
-    game: &Game,
-    k: &Commitment,
-    table: &[Cell],
-    l: u8,
-) -> Result<Option<u16>, Wide>
+fn table_answer(game: &Game, k: &Commitment, table: &[Cell], l: u8) -> Result<Option<u16>, Wide>
     requires legal { AreLegal game.now k.now.tickets }
     requires table { IsTally game.now k.now.tickets table.now }
     requires known_type { IsTypeOf game.now l }

@@ -15,14 +15,7 @@ use sg_model::Ticket;
 use sg_num::{Wide, dot_step};
 
 // The sum with what one ticket more gives a side.
-fn step(
-    acc: i128,
-    side: Side,
-    game: &Game,
-    ticket: &Ticket,
-    l: u8,
-    a: u16,
-) -> Result<i128, Wide>
+fn step(acc: i128, side: Side, game: &Game, ticket: &Ticket, l: u8, a: u16) -> Result<i128, Wide>
     requires legal { IsLegal game.now ticket.now.play.code }
     requires known_type { IsTypeOf game.now l }
     requires known_action { IsActionOf game.now l a }
@@ -50,13 +43,7 @@ fn total(side: Side, game: &Game, tickets: &[Ticket], l: u8, a: u16) -> Result<i
 }
 
 /// Weight times what a side gets where type `l` takes action `a`, summed by rising ticket.
-pub(crate) fn sum_to(
-    side: Side,
-    game: &Game,
-    k: &Commitment,
-    l: u8,
-    a: u16,
-) -> Result<i128, Wide>
+pub(crate) fn sum_to(side: Side, game: &Game, k: &Commitment, l: u8, a: u16) -> Result<i128, Wide>
     requires legal { AreLegal game.now k.now.tickets }
     requires known_type { IsTypeOf game.now l }
     requires known_action { IsActionOf game.now l a }

@@ -146,14 +146,7 @@ fn mixed(total: i128, count: i128, covered: i64, uncovered: i64) -> Result<i128,
 }
 
 // A side's sum of a target, by its count.
-fn counted(
-    side: Side,
-    game: &Game,
-    total: i128,
-    count: i128,
-    l: u8,
-    t: u16,
-) -> Result<i128, Wide>
+fn counted(side: Side, game: &Game, total: i128, count: i128, l: u8, t: u16) -> Result<i128, Wide>
     requires security { is_matrix game.now ≡ false }
     requires known_type { IsTypeOf game.now l }
     requires known_target { IsGoalOf game.now t }

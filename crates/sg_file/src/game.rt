@@ -16,7 +16,9 @@ use crate::names::{Listing, names};
 use crate::types::{matrix_types, security_types};
 use crate::value::{integer, number};
 use sg_game::{Game, GameFault, Kind, Parts, Place};
-use sg_model::limit::{PATROL_LIMIT, ROW_LIMIT, SCALED_PATROL_LIMIT, SCALED_TARGET_LIMIT, SCALE_LIMIT, TARGET_LIMIT};
+use sg_model::limit::{
+    PATROL_LIMIT, ROW_LIMIT, SCALE_LIMIT, SCALED_PATROL_LIMIT, SCALED_TARGET_LIMIT, TARGET_LIMIT,
+};
 use sg_model::reason::{BAD_VERSION, MISSING_KEY, OUT_OF_RANGE, WRONG_KIND};
 use std::alloc::Global;
 use toml::{Table, Value};

@@ -11,7 +11,11 @@ ghost use Rattle.sg_model.specs.Places.{goal_place};
 use crate::entries::{Listing, is_within, passed, take_name, test_lists, test_names};
 use crate::fault::BuildFault;
 use crate::parts::{Parts, TypeParts};
-use sg_model::limit::{ACTION_LIMIT, PATROL_LIMIT, PAYOFF_LIMIT, PRIOR_LIMIT, RESOURCE_LIMIT, RESOURCE_SCHEDULE_LIMIT, ROW_LIMIT, SCALED_PATROL_LIMIT, SCALED_TARGET_LIMIT, SCALE_LIMIT, SCHEDULE_LIMIT, SCHEDULE_TARGET_LIMIT, TARGET_LIMIT, TYPE_LIMIT};
+use sg_model::limit::{
+    ACTION_LIMIT, PATROL_LIMIT, PAYOFF_LIMIT, PRIOR_LIMIT, RESOURCE_LIMIT, RESOURCE_SCHEDULE_LIMIT,
+    ROW_LIMIT, SCALE_LIMIT, SCALED_PATROL_LIMIT, SCALED_TARGET_LIMIT, SCHEDULE_LIMIT,
+    SCHEDULE_TARGET_LIMIT, TARGET_LIMIT, TYPE_LIMIT,
+};
 use sg_model::reason::{EMPTY_LIST, MISSING_KEY, OUT_OF_RANGE, TOO_LARGE};
 use sg_model::{GameFault, Kind, Place};
 use std::alloc::Global;

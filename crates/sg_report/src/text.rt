@@ -107,12 +107,7 @@ fn covers_of(alloc: Global, game: &Game, k: &Commitment) -> Result<Vec<Cell>, Al
 }
 
 /// Adds the line of a target with its count.
-fn put_target_line(
-    text: &mut Vec<u8>,
-    game: &Game,
-    t: u16,
-    cell: &Cell,
-) -> Result<(), AllocError>
+fn put_target_line(text: &mut Vec<u8>, game: &Game, t: u16, cell: &Cell) -> Result<(), AllocError>
     requires security { is_matrix game.now ≡ false }
     requires known { IsGoalOf game.now t }
     ensures { OnOk result (text.new.items ≡ text.old.items ++ target_text game.now t cell.now.count) }
@@ -150,12 +145,7 @@ fn put_target_lines(
 }
 
 /// Adds the line of a row with the tickets that play it.
-fn put_row_line(
-    text: &mut Vec<u8>,
-    game: &Game,
-    k: &Commitment,
-    i: u16,
-) -> Result<(), AllocError>
+fn put_row_line(text: &mut Vec<u8>, game: &Game, k: &Commitment, i: u16) -> Result<(), AllocError>
     requires matrix { is_matrix game.now ≡ true }
     requires known { IsGoalOf game.now i }
     ensures { OnOk result (text.new.items ≡ text.old.items ++ row_line game.now k.now.tickets i) }
