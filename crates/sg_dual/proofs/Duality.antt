@@ -38,13 +38,13 @@ use Rattle.sg_programs.specs.PointLaws.{HasPointValue}
 use Rattle.sg_programs.proofs.PointSums.{both, column-is, has_point_value, le-cancel, over-rows, weight-above, whole-above}
 use Rattle.sg_dual.specs.declared.part.Part.{Part}
 use Rattle.sg_dual.specs.Parts.{part_of_row, point_parts, tickets_of}
-use Rattle.sg_dual.specs.Duality.{AreOfOneValue, IsFeasible, PointIsOptimal, StrongDuality, WeakDuality, cost_total, row_total}
+use Rattle.sg_dual.specs.Duality.{AreOfOneValue, IsFeasible, PointIsOptimal, StrongDuality, WeakDuality, cost_total, point_row_total}
 
 -- the product with what weighted columns have in each row
-dot-rows : (p : Program) (n : ℕ) (y : ℕ → ℤ) (parts : List Part) → total (λ (x : Part). x.weight *ℤ dot n y (p.entry x.col)) parts ≡ dot n y (row_total p parts)
+dot-rows : (p : Program) (n : ℕ) (y : ℕ → ℤ) (parts : List Part) → total (λ (x : Part). x.weight *ℤ dot n y (p.entry x.col)) parts ≡ dot n y (point_row_total p parts)
 dot-rows p n y [] = sym (sum_below-zero n (λ j. y j *ℤ pos 0) (λ j h. omega (arith, ints)))
 dot-rows p n y (x ∷ xs) =
-    let R : ℕ → ℤ = row_total p xs in
+    let R : ℕ → ℤ = point_row_total p xs in
     let a : ℕ → ℤ = p.entry x.col in
     ap (λ (z : ℤ). (x.weight *ℤ dot n y a) +ℤ z) (dot-rows p n y xs)
     ∙ ap (λ (z : ℤ). z +ℤ dot n y R) (sym (dot-scale_right n x.weight y a))
@@ -66,7 +66,7 @@ weak_duality p t some dual parts whole feasible =
     (λ i d lt. let x : Part = slice_index_or parts i d in ring (x.weight ∷ t.rho ∷ p.cost x.col ∷ []) (var 0 ⊗ (var 1 ⊗ var 2)) (var 1 ⊗ (var 0 ⊗ var 2)) tt)
     ∙ total-scaled (λ (x : Part). x.weight *ℤ p.cost x.col) t.rho parts in
     let second = dot-rows p n y parts in
-    let third = sum_below-le n (λ j. y j *ℤ row_total p parts j) (λ j. y j *ℤ (whole *ℤ unit 0 j)) (λ j h. mul-le_left (y j) (row_total p parts j) (whole *ℤ unit 0 j) (dual.above j h) (feasible.rows j h)) in
+    let third = sum_below-le n (λ j. y j *ℤ point_row_total p parts j) (λ j. y j *ℤ (whole *ℤ unit 0 j)) (λ j h. mul-le_left (y j) (point_row_total p parts j) (whole *ℤ unit 0 j) (dual.above j h) (feasible.rows j h)) in
     let fourth = dot-scale_right n whole y (unit 0) ∙ ap (λ (z : ℤ). whole *ℤ z) (dot-unit_right n 0 y (omega (arith, some))) in
     omega (arith, ints, first, costs, second, third, fourth)
 

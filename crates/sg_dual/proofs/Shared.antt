@@ -30,7 +30,7 @@ use Rattle.sg_dual.specs.declared.part.Part.{Part}
 use Rattle.sg_dual.specs.declared.share.Share.{Share}
 use Rattle.sg_dual.specs.declared.part.PointFault.{PointFault}
 use Rattle.sg_dual.specs.declared.part.PointFault.TheVariants.{Memory, Wide as PointWide}
-use Rattle.sg_dual.specs.Parts.{Forms, IsShareOfRow, Refuses, fraction_of, part_of_row, part_of_share, point_parts, share_of_row, share_steps, whole_of}
+use Rattle.sg_dual.specs.Parts.{FormOr, IsShareOfRow, RefuseAt, fraction_of, part_of_row, part_of_share, point_parts, share_of_row, share_steps, common_whole}
 
 -- ---- one operation
 
@@ -319,17 +319,17 @@ module _ (shares : List Share) (dens : All (λ (s : Share). pos 1 ≤ℤ s.den) 
   multiples = multiple_steps 1 (map fraction_of shares)
 
   abbrev over : List Wide
-  over = map (weight_step (whole_of shares)) (map fraction_of shares)
+  over = map (weight_step (common_whole shares)) (map fraction_of shares)
 
   abbrev totals : List Wide
-  totals = running_steps (pos 0) (map (whole_weight (whole_of shares)) (map fraction_of shares))
+  totals = running_steps (pos 0) (map (whole_weight (common_whole shares)) (map fraction_of shares))
 
   pub multiples-stop : (w : Wide) → Err w ≡ multiples_from 1 (map fraction_of shares) → first_wide (share_steps shares) ≡ Some w
-  multiples-stop w e = first_wide-append_stops multiples (over ++ totals) w (Err-stops multiples (pos (whole_of shares)) w e)
+  multiples-stop w e = first_wide-append_stops multiples (over ++ totals) w (Err-stops multiples (pos (common_whole shares)) w e)
 
   module _ (whole : ℤ) (is : Ok whole ≡ multiples_from 1 (map fraction_of shares)) where
-    whole-value : whole ≡ pos (whole_of shares)
-    whole-value = Ok-value multiples (pos (whole_of shares)) whole is
+    whole-value : whole ≡ pos (common_whole shares)
+    whole-value = Ok-value multiples (pos (common_whole shares)) whole is
 
     pub whole-some : pos 1 ≤ℤ whole
     whole-some =
@@ -337,26 +337,26 @@ module _ (shares : List Share) (dens : All (λ (s : Share). pos 1 ≤ℤ s.den) 
         let w = least.above in
         omega (arith, ints, w, whole-value)
 
-    whole-abs : unsigned_abs whole ≡ whole_of shares
+    whole-abs : unsigned_abs whole ≡ common_whole shares
     whole-abs = ap unsigned_abs whole-value
 
     fit-multiples : (rest : List Wide) → first_wide (multiples ++ rest) ≡ first_wide rest
-    fit-multiples rest = first_wide-append_fits multiples rest (Ok-fits multiples (pos (whole_of shares)) whole is)
+    fit-multiples rest = first_wide-append_fits multiples rest (Ok-fits multiples (pos (common_whole shares)) whole is)
 
     over-same : map (weight_step (unsigned_abs whole)) (map fraction_of shares) ≡ over
     over-same = ap (λ (m : ℕ). map (weight_step m) (map fraction_of shares)) whole-abs
 
-    pub weights-refuse : (fault : PointFault) → Refuses (map (weight_step (unsigned_abs whole)) (map fraction_of shares)) fault → Refuses (share_steps shares) fault
+    pub weights-refuse : (fault : PointFault) → RefuseAt (map (weight_step (unsigned_abs whole)) (map fraction_of shares)) fault → RefuseAt (share_steps shares) fault
     weights-refuse (PointWide w) e = fit-multiples (over ++ totals) ∙ first_wide-append_stops over totals w (ap first_wide (sym over-same) ∙ e)
     weights-refuse Memory e = tt
 
     module _ (parts : List Part) (fits_over : first_wide (map (weight_step (unsigned_abs whole)) (map fraction_of shares)) ≡ None) (made : parts ≡ map (part_of_share (unsigned_abs whole)) shares) where
-      pub parts-are : parts ≡ map (part_of_share (whole_of shares)) shares
+      pub parts-are : parts ≡ map (part_of_share (common_whole shares)) shares
       parts-are = made ∙ ap (λ (m : ℕ). map (part_of_share m) shares) whole-abs
 
-      same-weights : (xs : List Share) → weights (map (part_of_share (whole_of shares)) xs) ≡ map (whole_weight (whole_of shares)) (map fraction_of xs)
+      same-weights : (xs : List Share) → weights (map (part_of_share (common_whole shares)) xs) ≡ map (whole_weight (common_whole shares)) (map fraction_of xs)
       same-weights [] = refl
-      same-weights (x ∷ xs) = ap (λ (zs : List ℤ). whole_weight (whole_of shares) (fraction_of x) ∷ zs) (same-weights xs)
+      same-weights (x ∷ xs) = ap (λ (zs : List ℤ). whole_weight (common_whole shares) (fraction_of x) ∷ zs) (same-weights xs)
 
       sums : running_steps (pos 0) (weights parts) ≡ totals
       sums = ap (λ (xs : List Part). running_steps (pos 0) (weights xs)) parts-are ∙ ap (running_steps (pos 0)) (same-weights shares)
@@ -397,25 +397,25 @@ module _ (p : Program) (t : Tableau) (shares : List Share) (fit : first_wide (fl
   steps-same : first_wide (point_steps p t) ≡ first_wide (share_steps shares)
   steps-same = first_wide-append_fits (flat_map (own_steps p t) (point_rows p t)) (later (weights_of p t)) fit ∙ ap (λ (fs : List Fraction). first_wide (later fs)) (sym fractions)
 
-  pub refuse-later : (fault : PointFault) → Refuses (share_steps shares) fault → Refuses (point_steps p t) fault
+  pub refuse-later : (fault : PointFault) → RefuseAt (share_steps shares) fault → RefuseAt (point_steps p t) fault
   refuse-later (PointWide w) e = steps-same ∙ e
   refuse-later Memory e = tt
 
   pub fit-later : first_wide (share_steps shares) ≡ None → first_wide (point_steps p t) ≡ None
   fit-later e = steps-same ∙ e
 
-  pub parts-point : (parts : List Part) → parts ≡ map (part_of_share (whole_of shares)) shares → parts ≡ point_parts p t
-  parts-point parts e = e ∙ ap (map (part_of_share (whole_of shares))) all ∙ row-parts p t (whole_of shares) (ap (common_multiple 1) fractions) (point_rows p t)
+  pub parts-point : (parts : List Part) → parts ≡ map (part_of_share (common_whole shares)) shares → parts ≡ point_parts p t
+  parts-point parts e = e ∙ ap (map (part_of_share (common_whole shares))) all ∙ row-parts p t (common_whole shares) (ap (common_multiple 1) fractions) (point_rows p t)
 
-pub refuse-first : (p : Program) (t : Tableau) (fault : PointFault) → Refuses (flat_map (own_steps p t) (point_rows p t)) fault → Refuses (point_steps p t) fault
+pub refuse-first : (p : Program) (t : Tableau) (fault : PointFault) → RefuseAt (flat_map (own_steps p t) (point_rows p t)) fault → RefuseAt (point_steps p t) fault
 refuse-first p t (PointWide w) e =
     first_wide-append_stops (flat_map (own_steps p t) (point_rows p t))
     (multiple_steps 1 (weights_of p t) ++ (map (weight_step (point_whole p t)) (weights_of p t) ++ running_steps (pos 0) (map (whole_weight (point_whole p t)) (weights_of p t)))) w e
 refuse-first p t Memory e = tt
 
 -- what forms some operations forms others, where their first refusals and values are so
-pub forms_through : {A : Type 0} (steps more : List Wide) (Is Are : A → Type 0) → ((fault : PointFault) → Refuses steps fault → Refuses more fault)
-    → (first_wide steps ≡ None → first_wide more ≡ None) → ((x : A) → Is x → Are x) → (r : Result A PointFault) → Forms steps Is r → Forms more Are r
+pub forms_through : {A : Type 0} (steps more : List Wide) (Is Are : A → Type 0) → ((fault : PointFault) → RefuseAt steps fault → RefuseAt more fault)
+    → (first_wide steps ≡ None → first_wide more ≡ None) → ((x : A) → Is x → Are x) → (r : Result A PointFault) → FormOr steps Is r → FormOr more Are r
 forms_through steps more Is Are refuse fit are (Ok x) h = (fit h.0, are x h.1)
 forms_through steps more Is Are refuse fit are (Err fault) h = refuse fault h
 

@@ -12,8 +12,8 @@ use Rattle.sg_dual.specs.declared.part.Part.{Part}
 use Rattle.sg_dual.specs.Parts.{point_parts}
 
 -- what weighted columns have in a row, and what they cost
-abbrev pub row_total : Program → List Part → ℕ → ℤ
-row_total p parts j = total (λ (x : Part). x.weight *ℤ p.entry x.col j) parts
+abbrev pub point_row_total : Program → List Part → ℕ → ℤ
+point_row_total p parts j = total (λ (x : Part). x.weight *ℤ p.entry x.col j) parts
 
 abbrev pub cost_total : Program → List Part → ℤ
 cost_total p parts = total (λ (x : Part). x.weight *ℤ p.cost x.col) parts
@@ -24,7 +24,7 @@ pub record IsFeasible (p : Program) (parts : List Part) (whole : ℤ) : Type 0 w
   pub positive : pos 0 <ℤ whole
   pub columns : All (λ (x : Part). Contains p.columns x.col) parts
   pub nonnegative : All (λ (x : Part). pos 0 ≤ℤ x.weight) parts
-  pub rows : (j : ℕ) → j < p.height → row_total p parts j ≤ℤ (whole *ℤ unit 0 j)
+  pub rows : (j : ℕ) → j < p.height → point_row_total p parts j ≤ℤ (whole *ℤ unit 0 j)
 
 -- weak duality: no primal solution costs more than a dual solution, the multipliers of a tableau over its denominator, allows
 abbrev pub WeakDuality : Type 0

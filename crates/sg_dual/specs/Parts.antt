@@ -27,14 +27,14 @@ abbrev pub tickets_of : List Part → List Ticket
 tickets_of parts = map (λ (x : Part). record { play = record { code = play_of x.col }; weight = x.weight }) parts
 
 -- a refusal of what forms these operations: the first of them that doesn't fit. Want of memory is free
-abbrev pub Refuses : List Wide → PointFault → Type 0
-Refuses steps (PointWide w) = first_wide steps ≡ Some w
-Refuses steps Memory = Unit {0}
+abbrev pub RefuseAt : List Wide → PointFault → Type 0
+RefuseAt steps (PointWide w) = first_wide steps ≡ Some w
+RefuseAt steps Memory = Unit {0}
 
 -- what forms these operations and then gives such a value: all of them fit, and the value is so; or it is refused
-abbrev pub Forms : {A : Type 0} → List Wide → (A → Type 0) → Result A PointFault → Type 0
-Forms steps Is (Ok x) = (first_wide steps ≡ None) × Is x
-Forms steps Is (Err fault) = Refuses steps fault
+abbrev pub FormOr : {A : Type 0} → List Wide → (A → Type 0) → Result A PointFault → Type 0
+FormOr steps Is (Ok x) = (first_wide steps ≡ None) × Is x
+FormOr steps Is (Err fault) = RefuseAt steps fault
 
 -- ---- on the way
 
@@ -57,11 +57,11 @@ IsShareOfRow p t i (Ok (Some s)) = (is_point_row t i ≡ true) × (first_wide (o
 IsShareOfRow p t i (Err w) = (is_point_row t i ≡ true) × (first_wide (own_steps p t i) ≡ Some w)
 
 -- the whole of some shares: the least common multiple of their denominators
-abbrev pub whole_of : List Share → ℕ
-whole_of shares = common_multiple 1 (map fraction_of shares)
+abbrev pub common_whole : List Share → ℕ
+common_whole shares = common_multiple 1 (map fraction_of shares)
 
 -- what is formed of shares: the multiples, the weights over the last one, and their running total
 abbrev pub share_steps : List Share → List Wide
 share_steps shares =
     multiple_steps 1 (map fraction_of shares)
-    ++ (map (weight_step (whole_of shares)) (map fraction_of shares) ++ running_steps (pos 0) (map (whole_weight (whole_of shares)) (map fraction_of shares)))
+    ++ (map (weight_step (common_whole shares)) (map fraction_of shares) ++ running_steps (pos 0) (map (whole_weight (common_whole shares)) (map fraction_of shares)))

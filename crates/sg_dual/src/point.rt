@@ -15,7 +15,7 @@ ghost use Rattle.sg_programs.specs.Plays.{plays_program};
 ghost use Rattle.sg_programs.specs.Points.{point_steps};
 ghost use Rattle.sg_programs.specs.Shown.{fact_at};
 ghost use Rattle.sg_dual.specs.Duality.{AreOfOneValue};
-ghost use Rattle.sg_dual.specs.Parts.{Forms, point_parts, tickets_of};
+ghost use Rattle.sg_dual.specs.Parts.{FormOr, point_parts, tickets_of};
 
 use crate::part::{Part, PointFault};
 use crate::share::shares;
@@ -28,7 +28,7 @@ use std::alloc::Global;
 fn formed<F: Family>(alloc: Global, family: &F, state: &State) -> Result<Vec<Part>, PointFault>
     requires sized { IsWithinLimits (F.program family.now) }
     requires state { IsTableau (F.program family.now) state.now.tableau }
-    ensures { Forms (point_steps (F.program family.now) state.now.tableau) (λ parts. parts.items ≡ point_parts (F.program family.now) state.now.tableau) result }
+    ensures { FormOr (point_steps (F.program family.now) state.now.tableau) (λ parts. parts.items ≡ point_parts (F.program family.now) state.now.tableau) result }
 {
     match shares(alloc, family, state) {
         Ok(shares) => parts_of(alloc, shares.as_slice()),
@@ -48,7 +48,7 @@ fn formed<F: Family>(alloc: Global, family: &F, state: &State) -> Result<Vec<Par
 pub fn point_of<F: Family + Drop>(alloc: Global, node: &Node<F>) -> Result<Vec<Part>, PointFault>
     requires done { IsFinal (F.program node.now.family) node.now.tableau }
     requires some { pos 0 <ℤ place node.now.tableau.y 0 }
-    ensures formed { Forms (point_steps (F.program node.now.family) node.now.tableau) (λ parts. parts.items ≡ point_parts (F.program node.now.family) node.now.tableau) result }
+    ensures formed { FormOr (point_steps (F.program node.now.family) node.now.tableau) (λ parts. parts.items ≡ point_parts (F.program node.now.family) node.now.tableau) result }
     ensures optimal { AreOfOneValue (F.program node.now.family) node.now.tableau }
 
     // Over plays: the parts are a commitment of the node's region that reaches the bound of the multipliers' fact.

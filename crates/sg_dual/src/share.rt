@@ -9,7 +9,7 @@ ghost use Rattle.sg_lp.specs.Programs.{IsWithinLimits};
 ghost use Rattle.sg_lp.specs.Moves.{entries_of};
 ghost use Rattle.sg_lp.specs.States.{IsTableau, member_at, row_at};
 ghost use Rattle.sg_programs.specs.Points.{lowest_of, own_product, own_steps, point_rows};
-ghost use Rattle.sg_dual.specs.Parts.{Forms, IsShareOfRow, share_of_row};
+ghost use Rattle.sg_dual.specs.Parts.{FormOr, IsShareOfRow, share_of_row};
 
 use crate::part::PointFault;
 use sg_frac::Frac;
@@ -161,7 +161,7 @@ fn shares_in<F: Family>(
     requires sized { IsWithinLimits (F.program family.now) }
     requires state { IsTableau (F.program family.now) state.now.tableau }
     requires long { length entries.old ≡ (F.program family.now).height }
-    ensures { Forms (flat_map (own_steps (F.program family.now) state.now.tableau) (point_rows (F.program family.now) state.now.tableau)) (λ shares. shares ≡ map (share_of_row (F.program family.now) state.now.tableau) (point_rows (F.program family.now) state.now.tableau)) result }
+    ensures { FormOr (flat_map (own_steps (F.program family.now) state.now.tableau) (point_rows (F.program family.now) state.now.tableau)) (λ shares. shares ≡ map (share_of_row (F.program family.now) state.now.tableau) (point_rows (F.program family.now) state.now.tableau)) result }
 {
     let mut shares = Items::new(alloc);
     for i in 0..entries.len() {
@@ -185,7 +185,7 @@ pub(crate) fn shares<F: Family>(
 ) -> Result<Items<Share>, PointFault>
     requires sized { IsWithinLimits (F.program family.now) }
     requires state { IsTableau (F.program family.now) state.now.tableau }
-    ensures { Forms (flat_map (own_steps (F.program family.now) state.now.tableau) (point_rows (F.program family.now) state.now.tableau)) (λ shares. shares ≡ map (share_of_row (F.program family.now) state.now.tableau) (point_rows (F.program family.now) state.now.tableau)) result }
+    ensures { FormOr (flat_map (own_steps (F.program family.now) state.now.tableau) (point_rows (F.program family.now) state.now.tableau)) (λ shares. shares ≡ map (share_of_row (F.program family.now) state.now.tableau) (point_rows (F.program family.now) state.now.tableau)) result }
 {
     let height = state.basis().len();
     match entry_room(alloc, height) {

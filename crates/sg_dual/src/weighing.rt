@@ -7,7 +7,7 @@ ghost use Rattle.sg_bounds.specs.SizeSteps.{running_steps};
 ghost use Rattle.sg_programs.specs.Points.{common_multiple, gcd_of, multiple_steps, weight_step};
 ghost use Rattle.sg_dual.specs.declared.part.Part.{Part};
 ghost use Rattle.sg_dual.specs.declared.share.Share.{Share};
-ghost use Rattle.sg_dual.specs.Parts.{Forms, fraction_of, part_of_share, share_steps, whole_of};
+ghost use Rattle.sg_dual.specs.Parts.{FormOr, fraction_of, part_of_share, share_steps, common_whole};
 
 use crate::part::{Part, PointFault};
 use crate::share::Share;
@@ -113,7 +113,7 @@ fn put(parts: &mut Vec<Part>, part: Part) -> Result<(), AllocError>
 fn weighed(alloc: Global, shares: &[Share], whole: i128) -> Result<Vec<Part>, PointFault>
     requires dens { All (λ (s : Share). pos 1 ≤ℤ s.den) shares.now }
     requires whole { pos 1 ≤ℤ whole }
-    ensures { Forms (map (weight_step (unsigned_abs whole)) (map fraction_of shares.now)) (λ parts. parts.items ≡ map (part_of_share (unsigned_abs whole)) shares.now) result }
+    ensures { FormOr (map (weight_step (unsigned_abs whole)) (map fraction_of shares.now)) (λ parts. parts.items ≡ map (part_of_share (unsigned_abs whole)) shares.now) result }
 {
     let mut parts = Vec::new(alloc);
     for i in 0..shares.len() {
@@ -154,7 +154,7 @@ fn add_up(parts: &[Part]) -> Result<(), Wide>
 /// The parts of some shares, over the least whole.
 pub(crate) fn parts_of(alloc: Global, shares: &[Share]) -> Result<Vec<Part>, PointFault>
     requires { All (λ (s : Share). pos 1 ≤ℤ s.den) shares.now }
-    ensures { Forms (share_steps shares.now) (λ parts. parts.items ≡ map (part_of_share (whole_of shares.now)) shares.now) result }
+    ensures { FormOr (share_steps shares.now) (λ parts. parts.items ≡ map (part_of_share (common_whole shares.now)) shares.now) result }
 {
     let whole = match multiple_of(shares) {
         Ok(whole) => whole,

@@ -3,7 +3,8 @@ use Rattle.std.proofs.Common.{◌≡◌, ℕ, ◌<◌, List, length, cond, eqb, 
 use Rattle.std.specs.Prelude.{ℤ, pos, ◌+ℤ◌}
 use Rattle.std.proofs.Math.ListN.{length-set}
 use Rattle.std.proofs.lemmas.Int.{ints}
-use Rattle.sg_matchings.specs.Sums.{sum_below, occurrences}
+use Rattle.sg_linear.specs.Sums.{sum_below}
+use Rattle.sg_matchings.specs.Sums.{occurrences}
 use Rattle.sg_matchings.proofs.Places.{sum_below-but}
 
 abbrev pub hit : ℕ → ℕ → ℤ

@@ -3,7 +3,8 @@ use Rattle.std.proofs.Common.{◌≡◌, ℕ, ◌<◌, List, Bool, true, false, 
 use Rattle.std.specs.Prelude.{ℤ, pos, ◌+ℤ◌, ◌≤ℤ◌}
 use Rattle.std.proofs.lemmas.Int.{ints, by_lt_z}
 use Rattle.std.proofs.lemmas.Bool.{cases_eq, cases_Bool, true≢false, cond-true, cond-false, eq-eqb, ne_eqb, eqb-true}
-use Rattle.sg_matchings.specs.Sums.{sum_below, occurrences}
+use Rattle.sg_linear.specs.Sums.{sum_below}
+use Rattle.sg_matchings.specs.Sums.{occurrences}
 use Rattle.sg_matchings.specs.Tables.{cell, HasLineSum}
 use Rattle.sg_matchings.specs.Matchings.{is_seen, IsSearched}
 use Rattle.sg_matchings.proofs.Places.{sum_below-same, sum_below-le, sum_below-zero, sum_below-nonnegative, sum_below-add, sum_below-exchange, sum_below-once, some_positive, Hits, hits}

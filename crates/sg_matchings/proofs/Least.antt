@@ -4,7 +4,7 @@ use Rattle.std.specs.Prelude.{ℤ, ◌≤ℤ◌}
 use Rattle.std.proofs.lemmas.Int.{ints}
 use Rattle.std.proofs.lemmas.Bool.{cases_eq}
 use Rattle.sg_matchings.specs.Tables.{cell}
-use Rattle.sg_matchings.specs.Mirrors.{IsLeast}
+use Rattle.sg_matchings.specs.Mirrors.{IsLeastWeight}
 
 pub record IsLeastBelow (rows : List (List ℤ)) (columns : List ℕ) (least : ℤ) (k : ℕ) : Type 0 where
   pub bound : (i : ℕ) → i < k → least ≤ℤ cell rows i (get_or columns i 0)
@@ -29,5 +29,5 @@ least-more rows columns least value next k lt e before first second one = record
   ];
 }
 
-pub least-all : (rows : List (List ℤ)) (columns : List ℕ) (least : ℤ) (k : ℕ) → k ≡ length rows → IsLeastBelow rows columns least k → IsLeast rows columns least
+pub least-all : (rows : List (List ℤ)) (columns : List ℕ) (least : ℤ) (k : ℕ) → k ≡ length rows → IsLeastBelow rows columns least k → IsLeastWeight rows columns least
 least-all rows columns least k e below = record { bound = λ i lt. below.bound i (omega (arith, lt, e)); reached = below.reached }

@@ -6,7 +6,7 @@ use Rattle.std.proofs.lemmas.Int.{ints}
 use Rattle.std.proofs.lemmas.Bool.{cases_eq, cond-true, cond-false, eq-eqb, ne_eqb}
 use Rattle.sg_matchings.specs.declared.part.Part.{Part}
 use Rattle.sg_matchings.specs.Tables.{cell, IsSquare}
-use Rattle.sg_matchings.specs.Decompositions.{weight_at}
+use Rattle.sg_matchings.specs.Decompositions.{cell_weight}
 use Rattle.sg_matchings.specs.Mirrors.{IsLess}
 
 abbrev pub row_at : List (List ℤ) → ℕ → List ℤ
@@ -51,12 +51,12 @@ lowered-end rows part rows' k end square within are = record {
       let inside : c < length (row_at rows i) = omega (arith, within i l, square i l) in
       here ∙ elim (cases_eq c j) [
         | inl q ↦ (
-            let off : weight_at i j part ≡ part.weight = cond-true (eqb c j) part.weight (pos 0) (eq-eqb c j q) in
+            let off : cell_weight i j part ≡ part.weight = cond-true (eqb c j) part.weight (pos 0) (eq-eqb c j q) in
             let set_here : get_or (set (row_at rows i) c v) j (pos 0) ≡ v = subst (λ (x : ℕ). get_or (set (row_at rows i) c v) x (pos 0) ≡ v) q (get_or-set_same (row_at rows i) c v (pos 0) inside) in
             let same : get_or (row_at rows i) c (pos 0) ≡ cell rows i j = ap (λ (x : ℕ). get_or (row_at rows i) x (pos 0)) q in
             omega (arith, ints, off, set_here, same))
         | inr ne ↦ (
-            let off : weight_at i j part ≡ pos 0 = cond-false (eqb c j) part.weight (pos 0) (ne_eqb c j ne) in
+            let off : cell_weight i j part ≡ pos 0 = cond-false (eqb c j) part.weight (pos 0) (ne_eqb c j ne) in
             let set_there : get_or (set (row_at rows i) c v) j (pos 0) ≡ cell rows i j = get_or-set_other (row_at rows i) c j v (pos 0) (λ q. ne (sym q)) in
             omega (arith, ints, off, set_there))
       ];

@@ -5,7 +5,7 @@ use Rattle.std.proofs.lemmas.Int.{ints}
 use Rattle.std.proofs.lemmas.Bool.{cases_eq, cases_lt, cond-true, cond-false, eq-eqb, ne_eqb}
 use Rattle.sg_matchings.specs.Sums.{occurrences}
 use Rattle.sg_matchings.specs.Tables.{cell, IsPerfectMatching}
-use Rattle.sg_matchings.specs.Mirrors.{AreApart, IsMirror, IsMirrored, IsTurned}
+use Rattle.sg_matchings.specs.Mirrors.{AreSeparate, IsMirror, IsMirrored, IsTurned}
 use Rattle.sg_matchings.proofs.Places.{some_positive, sum_below-same, sum_below-once}
 use Rattle.sg_matchings.proofs.Counts.{hit}
 use Rattle.sg_matchings.proofs.Full.{is_one}
@@ -189,5 +189,5 @@ module _ (count width : ℕ) (rows : List (List ℤ)) (mirrored : IsMirrored cou
     ];
   }
 
-pub matching-apart : (count width : ℕ) (rows : List (List ℤ)) (m : List ℕ) → IsMirrored count width rows → IsPerfectMatching rows m → AreApart count width m
+pub matching-apart : (count width : ℕ) (rows : List (List ℤ)) (m : List ℕ) → IsMirrored count width rows → IsPerfectMatching rows m → AreSeparate count width m
 matching-apart count width rows m mirrored is i k before lt low = is.different i k before (omega (arith, lt, mirrored.long))

@@ -3,7 +3,7 @@ use Rattle.std.proofs.Common.{◌≡◌, ℕ, zero, suc, ◌+◌, ◌<◌, ◌�
 use Rattle.std.specs.Prelude.{ℤ, pos, ◌+ℤ◌, ◌-ℤ◌, ◌≤ℤ◌}
 use Rattle.std.proofs.lemmas.Int.{ints}
 use Rattle.std.proofs.lemmas.Bool.{cases_lt}
-use Rattle.sg_matchings.specs.Sums.{sum_below}
+use Rattle.sg_linear.specs.Sums.{sum_below}
 use Rattle.sg_matchings.specs.Tables.{cell}
 use Rattle.sg_matchings.specs.Padding.{IsPadded, IsPaddedCell, IsPaddedRow}
 

@@ -3,7 +3,7 @@ use Rattle.std.proofs.Common.{◌≡◌, ℕ, zero, suc, ◌+◌, ◌-◌, ◌<�
 use Rattle.std.specs.Prelude.{ℤ, pos, ◌+ℤ◌, ◌-ℤ◌, ◌≤ℤ◌}
 use Rattle.std.proofs.lemmas.Int.{ints}
 use Rattle.std.proofs.lemmas.Bool.{cases_lt, cond-true, cond-false, eq-eqb, ne_eqb}
-use Rattle.sg_matchings.specs.Sums.{sum_below}
+use Rattle.sg_linear.specs.Sums.{sum_below}
 use Rattle.sg_matchings.specs.Tables.{cell, HasLineSum}
 use Rattle.sg_matchings.specs.Padding.{AreWithin, IsPadded, PaddedHasLineSum, row_total, column_total}
 use Rattle.sg_matchings.proofs.Places.{sum_below-same, sum_below-once, sum_below-but, sum_below-zero}

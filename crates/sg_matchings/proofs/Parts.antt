@@ -8,11 +8,12 @@ use Rattle.std.proofs.lemmas.Bool.{cases_eq, cond-false, ne_eqb}
 use Rattle.sg_model.specs.Sums.{total}
 use Rattle.sg_model.proofs.Sums.{total-append}
 use Rattle.sg_matchings.specs.declared.part.Part.{Part}
-use Rattle.sg_matchings.specs.Sums.{sum_below, occurrences}
+use Rattle.sg_linear.specs.Sums.{sum_below}
+use Rattle.sg_matchings.specs.Sums.{occurrences}
 use Rattle.sg_matchings.specs.Tables.{cell, HasLineSum, IsPerfectMatching}
 use Rattle.sg_matchings.specs.Matchings.{AreMatched}
 use Rattle.sg_matchings.specs.Padding.{AreWithin, IsPadded, row_total, column_total}
-use Rattle.sg_matchings.specs.Decompositions.{IsDecomposition, IsMatching, positive_counts, weight_at}
+use Rattle.sg_matchings.specs.Decompositions.{IsDecomposition, IsMatching, positive_counts, cell_weight}
 use Rattle.sg_matchings.specs.Mirrors.{IsFront, IsMirrored, IsOnce, IsStep, IsTurned, positive_cells}
 use Rattle.sg_matchings.proofs.Counts.{occurrences-set}
 use Rattle.sg_matchings.proofs.Places.{sum_below-same, sum_below-nonnegative}
@@ -52,7 +53,7 @@ pub record AreParts (counts : List (List ℤ)) (width : ℕ) (most : ℤ) (parts
   pub matchings : All (λ (part : Part). IsMatching counts width part.columns) parts
   pub positive : All (λ (part : Part). pos 1 ≤ℤ part.weight) parts
   pub whole : total (λ (part : Part). part.weight) parts +ℤ left ≡ most
-  pub each_cell : (i j : ℕ) → i < length counts → j < width → total (weight_at i j) parts +ℤ cell rows i j ≡ cell counts i j
+  pub each_cell : (i j : ℕ) → i < length counts → j < width → total (cell_weight i j) parts +ℤ cell rows i j ≡ cell counts i j
   pub smaller : (i j : ℕ) → i < length counts → j < width → cell rows i j ≤ℤ cell counts i j
   pub few : (pos (length parts) +ℤ positive_cells (length counts) width rows) ≤ℤ (positive_counts counts width +ℤ pos (length counts) +ℤ pos width)
 
@@ -93,7 +94,7 @@ front-matching counts width rows columns front long smaller is at = record {
 }
 
 -- the weight on a cell is told by the first columns
-front-weight : (i j : ℕ) (columns front : List ℕ) (weight : ℤ) → get_or front i 0 ≡ get_or columns i 0 → weight_at i j (record { columns = front; weight = weight }) ≡ weight_at i j (record { columns = columns; weight = weight })
+front-weight : (i j : ℕ) (columns front : List ℕ) (weight : ℤ) → get_or front i 0 ≡ get_or columns i 0 → cell_weight i j (record { columns = front; weight = weight }) ≡ cell_weight i j (record { columns = columns; weight = weight })
 front-weight i j columns front weight e = ap (λ (x : ℕ). cond (eqb x j) weight (pos 0)) e
 
 pub parts-more : (counts : List (List ℤ)) (width : ℕ) (most : ℤ) (parts parts' : List Part) (rows rows' : List (List ℤ)) (left left' : ℤ) (columns front : List ℕ) (weight : ℤ)
@@ -113,7 +114,7 @@ parts-more counts width most parts parts' rows rows' left left' columns front we
       each_cell = λ i j li lj. omega (
         arith,
         ints,
-        total-append (weight_at i j) parts (part ∷ []),
+        total-append (cell_weight i j) parts (part ∷ []),
         are.each_cell i j li lj,
         step.less.cells i j (omega (arith, li, long)) (omega (arith, lj, long)),
         front-weight i j columns front weight (at.same i li),

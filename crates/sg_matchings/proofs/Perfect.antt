@@ -5,7 +5,8 @@ use Rattle.std.proofs.lemmas.List.{length-replicate, get_or-replicate}
 use Rattle.std.specs.Prelude.{ℤ, pos, ◌≤ℤ◌}
 use Rattle.std.proofs.lemmas.Int.{ints}
 use Rattle.std.proofs.lemmas.Bool.{cases_eq, cases_lt, cond-true, cond-false, eq-eqb, ne_eqb}
-use Rattle.sg_matchings.specs.Sums.{sum_below, occurrences}
+use Rattle.sg_linear.specs.Sums.{sum_below}
+use Rattle.sg_matchings.specs.Sums.{occurrences}
 use Rattle.sg_matchings.specs.Tables.{cell, HasLineSum, IsPerfectMatching}
 use Rattle.sg_matchings.specs.Matchings.{is_seen, AreMatched, IsOnPositive, Gains, IsBlocked}
 use Rattle.sg_matchings.proofs.Places.{sum_below-exchange, sum_below-less, sum_below-member, sum_below-once, sum_below-two, sum_below-zero, sum_below-same}

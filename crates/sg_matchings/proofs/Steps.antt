@@ -4,9 +4,9 @@ use Rattle.std.specs.Prelude.{ℤ, pos, negsuc, ◌+ℤ◌, ◌-ℤ◌, ◌≤�
 use Rattle.std.proofs.lemmas.Int.{ints, by_lt_z}
 use Rattle.std.proofs.lemmas.Bool.{cases_eq, cases_lt, cases_Bool, cond-true, cond-false, eq-eqb, ne_eqb}
 use Rattle.sg_matchings.specs.declared.part.Part.{Part}
-use Rattle.sg_matchings.specs.Sums.{sum_below}
+use Rattle.sg_linear.specs.Sums.{sum_below}
 use Rattle.sg_matchings.specs.Tables.{cell, HasLineSum}
-use Rattle.sg_matchings.specs.Decompositions.{weight_at}
+use Rattle.sg_matchings.specs.Decompositions.{cell_weight}
 use Rattle.sg_matchings.specs.Mirrors.{IsMirrored, IsStep, IsTurned, positive_cells}
 use Rattle.sg_matchings.proofs.Places.{sum_below-le, sum_below-sub, sum_below-less, sum_below-once, sum_below-nonnegative, hits}
 
@@ -41,15 +41,15 @@ module _ (rows : List (List ℤ)) (sum : ℤ) (table : HasLineSum rows sum) (par
   nonnegative_less : (i j : ℕ) → i < n → j < n → pos 0 ≤ℤ cell rows' i j
   nonnegative_less i j li lj = elim (cases_eq (get_or part.columns i 0) j) [
     | inl e ↦ (
-        let off : weight_at i j part ≡ part.weight = cond-true (eqb (get_or part.columns i 0) j) part.weight (pos 0) (eq-eqb (get_or part.columns i 0) j e) in
+        let off : cell_weight i j part ≡ part.weight = cond-true (eqb (get_or part.columns i 0) j) part.weight (pos 0) (eq-eqb (get_or part.columns i 0) j e) in
         let bound : part.weight ≤ℤ cell rows i j = subst (λ (x : ℕ). part.weight ≤ℤ cell rows i x) e (step.least.bound i li) in
         omega (arith, ints, off, bound, step.less.cells i j li lj))
     | inr ne ↦ (
-        let off : weight_at i j part ≡ pos 0 = cond-false (eqb (get_or part.columns i 0) j) part.weight (pos 0) (ne_eqb (get_or part.columns i 0) j ne) in
+        let off : cell_weight i j part ≡ pos 0 = cond-false (eqb (get_or part.columns i 0) j) part.weight (pos 0) (ne_eqb (get_or part.columns i 0) j ne) in
         omega (arith, ints, off, table.nonnegative i j li lj, step.less.cells i j li lj))
   ]
 
-  weight_nonnegative : (i j : ℕ) → pos 0 ≤ℤ weight_at i j part
+  weight_nonnegative : (i j : ℕ) → pos 0 ≤ℤ cell_weight i j part
   weight_nonnegative i j = elim (cases_Bool (eqb (get_or part.columns i 0) j)) [
     | inl t ↦ omega (arith, ints, cond-true (eqb (get_or part.columns i 0) j) part.weight (pos 0) t, w_positive)
     | inr f ↦ omega (arith, ints, cond-false (eqb (get_or part.columns i 0) j) part.weight (pos 0) f)
@@ -62,7 +62,7 @@ module _ (rows : List (List ℤ)) (sum : ℤ) (table : HasLineSum rows sum) (par
   rows_less i li = omega (
     arith,
     ints,
-    sum_below-sub n (λ j. cell rows' i j) (λ j. cell rows i j) (λ j. weight_at i j part) (λ j lj. step.less.cells i j li lj),
+    sum_below-sub n (λ j. cell rows' i j) (λ j. cell rows i j) (λ j. cell_weight i j part) (λ j lj. step.less.cells i j li lj),
     table.rows_sum i li,
     sum_below-once n (get_or part.columns i 0) part.weight (step.matching.within i li),
   )
@@ -70,8 +70,8 @@ module _ (rows : List (List ℤ)) (sum : ℤ) (table : HasLineSum rows sum) (par
   columns_less : (j : ℕ) → j < n → sum_below n (λ i. cell rows' i j) ≡ sum -ℤ part.weight
   columns_less j lj =
       let once = (hits (length part.columns) (λ i. eqb (get_or part.columns i 0) j) part.weight (omega (arith, ints, w_positive))).exactly (step.matching.each_column j lj) in
-      let all : sum_below n (λ i. weight_at i j part) ≡ part.weight = subst (λ (x : ℕ). sum_below x (λ i. weight_at i j part) ≡ part.weight) step.matching.each_row once in
-      omega (arith, ints, sum_below-sub n (λ i. cell rows' i j) (λ i. cell rows i j) (λ i. weight_at i j part) (λ i li. step.less.cells i j li lj), table.columns_sum j lj, all)
+      let all : sum_below n (λ i. cell_weight i j part) ≡ part.weight = subst (λ (x : ℕ). sum_below x (λ i. cell_weight i j part) ≡ part.weight) step.matching.each_row once in
+      omega (arith, ints, sum_below-sub n (λ i. cell rows' i j) (λ i. cell rows i j) (λ i. cell_weight i j part) (λ i li. step.less.cells i j li lj), table.columns_sum j lj, all)
 
   pub line_sum-less : HasLineSum rows' (sum -ℤ part.weight)
   line_sum-less =
@@ -104,7 +104,7 @@ module _ (rows : List (List ℤ)) (sum : ℤ) (table : HasLineSum rows sum) (par
   -- a cell that the part's matching has, and where it is least
   gone : (i j : ℕ) → i < n → j < n → get_or part.columns i 0 ≡ j → cell rows i j ≡ part.weight → one (cell rows' i j) ≡ pos 0
   gone i j li lj e least =
-      let off : weight_at i j part ≡ part.weight = cond-true (eqb (get_or part.columns i 0) j) part.weight (pos 0) (eq-eqb (get_or part.columns i 0) j e) in
+      let off : cell_weight i j part ≡ part.weight = cond-true (eqb (get_or part.columns i 0) j) part.weight (pos 0) (eq-eqb (get_or part.columns i 0) j e) in
       one-zero (cell rows' i j) (omega (arith, ints, step.less.cells i j li lj, off, least))
 
   was : (i j : ℕ) → cell rows i j ≡ part.weight → one (cell rows i j) ≡ pos 1
@@ -191,7 +191,7 @@ module _ (rows : List (List ℤ)) (sum : ℤ) (table : HasLineSum rows sum) (par
               lower t (omega (arith, li, size, q)) (subst (λ (x : ℕ). cell rows x (get_or part.columns x 0) ≡ part.weight) q least))
         ]
 
-    same_flag : (k t : ℕ) → k < count → t < width → weight_at (count + t) (width + k) part ≡ weight_at k t part
+    same_flag : (k t : ℕ) → k < count → t < width → cell_weight (count + t) (width + k) part ≡ cell_weight k t part
     same_flag k t lk lt = elim (cases_eq (get_or part.columns k 0) t) [
       | inl e ↦ cond-true (eqb (get_or part.columns (count + t) 0) (width + k)) part.weight (pos 0) (eq-eqb (get_or part.columns (count + t) 0) (width + k) (turned.there k t lk lt e))
           ∙ sym (cond-true (eqb (get_or part.columns k 0) t) part.weight (pos 0) (eq-eqb (get_or part.columns k 0) t e))

@@ -2,7 +2,7 @@
 use Rattle.std.proofs.Common.{◌≡◌, ◌≢◌, ℕ, ◌+◌, ◌<◌, ◌≤◌, List, length, get_or, set, inl, inr, refl, arith, ap, sym, ◌∙◌, subst, get_or-set_same, get_or-set_other}
 use Rattle.std.proofs.Math.ListN.{length-set}
 use Rattle.std.proofs.lemmas.Bool.{cases_eq}
-use Rattle.sg_matchings.specs.Mirrors.{AreApart, AreReset, IsMirror}
+use Rattle.sg_matchings.specs.Mirrors.{AreSeparate, AreReset, IsMirror}
 
 -- what is written at another place is not seen
 other : (xs : List ℕ) (k i v : ℕ) → i ≢ k → get_or (set xs k v) i 0 ≡ get_or xs i 0
@@ -48,7 +48,7 @@ module _ (count width : ℕ) (m : List ℕ) where
   }
 
   -- a matched row
-  pub turning-pair : (s s' : List ℕ) (k c : ℕ) → k < count → AreApart count width m → IsTurning s k → c ≡ get_or s k 0 → c < width → s' ≡ set s (count + c) (width + k) → IsTurning s' (k + 1)
+  pub turning-pair : (s s' : List ℕ) (k c : ℕ) → k < count → AreSeparate count width m → IsTurning s k → c ≡ get_or s k 0 → c < width → s' ≡ set s (count + c) (width + k) → IsTurning s' (k + 1)
   turning-pair s s' k c lt apart is e inside e' =
       let at : get_or m k 0 ≡ c = sym (e ∙ is.rest k (omega arith) lt) in
       let long = is.long in
@@ -106,7 +106,7 @@ module _ (count width : ℕ) (m : List ℕ) where
   pub resetting-none : IsResetting m 0
   resetting-none = record { long = refl; kept = λ i lt. refl; own = λ t lt. absurd (omega (arith, lt)) }
 
-  pub apart-kept : (r : List ℕ) → AreReset count width m r → AreApart count width m → AreApart count width r
+  pub apart-kept : (r : List ℕ) → AreReset count width m r → AreSeparate count width m → AreSeparate count width r
   apart-kept r is apart i k before lt low q =
       let a = is.kept i (omega (arith, before, lt)) in
       let b = is.kept k lt in

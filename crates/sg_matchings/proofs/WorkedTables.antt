@@ -6,8 +6,8 @@ use Rattle.std.proofs.lemmas.List.Elements.{All-push}
 use Rattle.sg_model.specs.Sums.{total}
 use Rattle.sg_matchings.specs.declared.part.Part.{Part}
 use Rattle.sg_matchings.specs.Tables.{cell, IsPerfectMatching}
-use Rattle.sg_matchings.specs.Decompositions.{IsMatching, weight_at}
-use Rattle.sg_matchings.specs.Laws.{TablesAreWorked}
+use Rattle.sg_matchings.specs.Decompositions.{IsMatching, cell_weight}
+use Rattle.sg_matchings.specs.Laws.{DecompositionsAreWorked}
 
 -- what holds at 0 and 1 holds below 2
 below_two : (P : ℕ → Type 0) → P 0 → P 1 → (i : ℕ) → i < 2 → P i
@@ -77,7 +77,7 @@ first_is = record {
 abbrev two_parts : List Part
 two_parts = record { columns = 1 ∷ 2 ∷ []; weight = pos 1 } ∷ record { columns = 0 ∷ 1 ∷ []; weight = pos 1 } ∷ []
 
-pub tables_worked : TablesAreWorked
+pub tables_worked : DecompositionsAreWorked
 tables_worked = record {
   table = record {
     some_row = omega arith;
@@ -93,7 +93,7 @@ tables_worked = record {
         (All-push (λ (x : Part). IsMatching few_counts 2 x.columns) [] (record { columns = 1 ∷ 2 ∷ []; weight = pos 1 }) (λ i x lt. absurd (omega (arith, lt))) second_is) first_is;
     positive = All-push (λ (x : Part). pos 1 ≤ℤ x.weight) (record { columns = 1 ∷ 2 ∷ []; weight = pos 1 } ∷ []) (record { columns = 0 ∷ 1 ∷ []; weight = pos 1 })
         (All-push (λ (x : Part). pos 1 ≤ℤ x.weight) [] (record { columns = 1 ∷ 2 ∷ []; weight = pos 1 }) (λ i x lt. absurd (omega (arith, lt))) (omega (arith, ints))) (omega (arith, ints));
-    each_cell = λ i j li lj. below_two (λ x. total (weight_at x j) two_parts ≡ cell few_counts x j) (below_two (λ y. total (weight_at 0 y) two_parts ≡ cell few_counts 0 y) refl refl j lj) (below_two (λ y. total (weight_at 1 y) two_parts ≡ cell few_counts 1 y) refl refl j lj) i li;
+    each_cell = λ i j li lj. below_two (λ x. total (cell_weight x j) two_parts ≡ cell few_counts x j) (below_two (λ y. total (cell_weight 0 y) two_parts ≡ cell few_counts 0 y) refl refl j lj) (below_two (λ y. total (cell_weight 1 y) two_parts ≡ cell few_counts 1 y) refl refl j lj) i li;
     whole = refl;
     few = omega (arith, ints);
   };

@@ -3,12 +3,12 @@ use Rattle.std.specs.Prelude.{◌≡◌, ◌≢◌, ℕ, ◌<◌, cond, List, le
 use Rattle.std.proofs.Common.{eqb}
 use Rattle.sg_model.specs.Sums.{total}
 use Rattle.sg_matchings.specs.declared.part.Part.{Part}
-use Rattle.sg_matchings.specs.Sums.{sum_below}
+use Rattle.sg_linear.specs.Sums.{sum_below}
 use Rattle.sg_matchings.specs.Tables.{cell}
 
 -- the weight that a part puts on a cell
-abbrev pub weight_at : ℕ → ℕ → Part → ℤ
-weight_at i j part = cond (eqb (slice_index part.columns i) j) part.weight (pos 0)
+abbrev pub cell_weight : ℕ → ℕ → Part → ℤ
+cell_weight i j part = cond (eqb (slice_index part.columns i) j) part.weight (pos 0)
 
 -- For each row a column where the count is positive, or a number from `width` on where the row is not matched. No two rows have one column.
 pub record IsMatching (counts : List (List ℤ)) (width : ℕ) (columns : List ℕ) : Type 0 where
@@ -25,6 +25,6 @@ positive_counts counts width = sum_below (length counts) (λ i. sum_below width 
 pub record IsDecomposition (counts : List (List ℤ)) (width : ℕ) (most : ℤ) (parts : List Part) : Type 0 where
   pub matchings : All (λ (part : Part). IsMatching counts width part.columns) parts
   pub positive : All (λ (part : Part). pos 1 ≤ℤ part.weight) parts
-  pub each_cell : (i j : ℕ) → i < length counts → j < width → total (weight_at i j) parts ≡ cell counts i j
+  pub each_cell : (i j : ℕ) → i < length counts → j < width → total (cell_weight i j) parts ≡ cell counts i j
   pub whole : total (λ (part : Part). part.weight) parts ≡ most
   pub few : pos (length parts) ≤ℤ (positive_counts counts width +ℤ pos (length counts) +ℤ pos width)

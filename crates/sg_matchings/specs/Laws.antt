@@ -15,7 +15,7 @@ PathsAreFound = (rows : List (List ℤ)) (sum : ℤ) → pos 1 ≤ℤ sum → Ha
 -- The rows 1 2 and 2 1 have the line sum 3, and both perfect matchings. The rows 0 3 and 3 0 have only the one across, and the rows 1 2 and 1 2 have no line sum.
 -- The counts 1 1 and 0 1 in two rows, of which no row and no column has more than 2, are the matching of the first row with the second column, once,
 -- and that of the first row with the first column and of the second with the second, once.
-pub record TablesAreWorked : Type 0 where
+pub record DecompositionsAreWorked : Type 0 where
   pub table : HasLineSum ((pos 1 ∷ pos 2 ∷ []) ∷ (pos 2 ∷ pos 1 ∷ []) ∷ []) (pos 3)
   pub straight : IsPerfectMatching ((pos 1 ∷ pos 2 ∷ []) ∷ (pos 2 ∷ pos 1 ∷ []) ∷ []) (0 ∷ 1 ∷ [])
   pub crossed : IsPerfectMatching ((pos 1 ∷ pos 2 ∷ []) ∷ (pos 2 ∷ pos 1 ∷ []) ∷ []) (1 ∷ 0 ∷ [])

@@ -1,9 +1,10 @@
 -- Tables that stand for counts: the counts, what rows and columns lack, and the counts with rows and columns exchanged. What is taken off such a table.
 use Rattle.std.specs.Prelude.{◌≡◌, ◌≢◌, ℕ, ◌+◌, ◌<◌, ◌≤◌, cond, List, length, slice_index, ℤ, pos, ◌+ℤ◌, ◌-ℤ◌, ◌≤ℤ◌, int_lt}
 use Rattle.sg_matchings.specs.declared.part.Part.{Part}
-use Rattle.sg_matchings.specs.Sums.{sum_below, occurrences}
+use Rattle.sg_linear.specs.Sums.{sum_below}
+use Rattle.sg_matchings.specs.Sums.{occurrences}
 use Rattle.sg_matchings.specs.Tables.{cell, IsPerfectMatching, IsSquare}
-use Rattle.sg_matchings.specs.Decompositions.{weight_at}
+use Rattle.sg_matchings.specs.Decompositions.{cell_weight}
 
 -- what stands to the right of the counts and below them is on the diagonals alone, and the corner is the counts with rows and columns exchanged
 pub record IsMirrored (count width : ℕ) (rows : List (List ℤ)) : Type 0 where
@@ -21,8 +22,8 @@ pub record IsMirror (count width : ℕ) (columns mirror : List ℕ) : Type 0 whe
   pub free_column : (t : ℕ) → t < width → ((i : ℕ) → i < count → slice_index columns i ≢ t) → slice_index mirror (count + t) ≡ t
 
 -- no two rows have one column of the counts
-abbrev pub AreApart : ℕ → ℕ → List ℕ → Type 0
-AreApart count width columns = (i k : ℕ) → i < k → k < count → slice_index columns i < width → slice_index columns i ≢ slice_index columns k
+abbrev pub AreSeparate : ℕ → ℕ → List ℕ → Type 0
+AreSeparate count width columns = (i k : ℕ) → i < k → k < count → slice_index columns i < width → slice_index columns i ≢ slice_index columns k
 
 -- the columns of the counts' rows, and for each column of the counts its own row below them
 pub record AreReset (count width : ℕ) (columns columns' : List ℕ) : Type 0 where
@@ -50,17 +51,17 @@ pub record IsOnce (size : ℕ) (columns : List ℕ) : Type 0 where
 pub record IsLess (rows : List (List ℤ)) (part : Part) (rows' : List (List ℤ)) : Type 0 where
   pub long : length rows' ≡ length rows
   pub square : IsSquare rows'
-  pub cells : (i j : ℕ) → i < length rows → j < length rows → cell rows' i j ≡ cell rows i j -ℤ weight_at i j part
+  pub cells : (i j : ℕ) → i < length rows → j < length rows → cell rows' i j ≡ cell rows i j -ℤ cell_weight i j part
 
 -- the weight is the least number of the table on the part's matching
-pub record IsLeast (rows : List (List ℤ)) (columns : List ℕ) (weight : ℤ) : Type 0 where
+pub record IsLeastWeight (rows : List (List ℤ)) (columns : List ℕ) (weight : ℤ) : Type 0 where
   pub bound : (i : ℕ) → i < length rows → weight ≤ℤ cell rows i (slice_index columns i)
   pub reached : (i : ℕ) × ((i < length rows) × (cell rows i (slice_index columns i) ≡ weight))
 
 -- one step: a perfect matching is taken off as often as can be
 pub record IsStep (rows : List (List ℤ)) (part : Part) (rows' : List (List ℤ)) : Type 0 where
   pub matching : IsPerfectMatching rows part.columns
-  pub least : IsLeast rows part.columns part.weight
+  pub least : IsLeastWeight rows part.columns part.weight
   pub less : IsLess rows part rows'
 
 -- a part of the counts that is taken off the table, as the front of a matching that is its own mirror

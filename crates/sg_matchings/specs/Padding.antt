@@ -1,7 +1,7 @@
 -- Tables of counts whose sums are at most a number, and the square table with this line sum that they stand in.
 use Rattle.std.specs.Prelude.{◌≡◌, ℕ, ◌+◌, ◌<◌, ◌≤◌, cond, List, [], length, slice_index, slice_index_or, ℤ, pos, ◌-ℤ◌, ◌≤ℤ◌}
 use Rattle.std.proofs.Common.{eqb}
-use Rattle.sg_matchings.specs.Sums.{sum_below}
+use Rattle.sg_linear.specs.Sums.{sum_below}
 use Rattle.sg_matchings.specs.Tables.{cell, IsSquare, HasLineSum, IsPerfectMatching}
 
 -- the sum of a row, and of a column

@@ -1,6 +1,7 @@
 -- Square tables of whole numbers, and perfect matchings of rows and columns on their positive cells.
 use Rattle.std.specs.Prelude.{◌≡◌, ◌≢◌, ℕ, ◌<◌, ◌≤◌, List, [], length, slice_index, slice_index_or, ℤ, pos, ◌≤ℤ◌}
-use Rattle.sg_matchings.specs.Sums.{sum_below, occurrences}
+use Rattle.sg_linear.specs.Sums.{sum_below}
+use Rattle.sg_matchings.specs.Sums.{occurrences}
 
 -- the number in a row and a column, counted from 0, and 0 outside of the table
 abbrev pub cell : List (List ℤ) → ℕ → ℕ → ℤ

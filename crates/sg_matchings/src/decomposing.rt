@@ -5,7 +5,7 @@ ghost use Rattle.sg_matchings.specs.Tables.{cell, HasPositiveLineSum, IsPerfectM
 ghost use Rattle.sg_matchings.specs.Matchings.{AreMatched};
 ghost use Rattle.sg_matchings.specs.Padding.{AreWithin, IsPadded};
 ghost use Rattle.sg_matchings.specs.Decompositions.{IsDecomposition};
-ghost use Rattle.sg_matchings.specs.Mirrors.{IsFront, IsLeast, IsLess, IsMirrored, IsOnce, IsStep, IsTaken, IsTurned};
+ghost use Rattle.sg_matchings.specs.Mirrors.{IsFront, IsLeastWeight, IsLess, IsMirrored, IsOnce, IsStep, IsTaken, IsTurned};
 
 use crate::augmenting::{complete, is_positive};
 use crate::mirror::mirror;
@@ -38,7 +38,7 @@ fn least_on(rows: &[Items<i128>], columns: &[usize]) -> i128
     requires some { 0 < length rows.now }
     requires table { IsSquare rows.now }
     requires matching { IsPerfectMatching rows.now columns.now }
-    ensures { IsLeast rows.now columns.now result }
+    ensures { IsLeastWeight rows.now columns.now result }
 {
     let mut least = value_at(rows, 0, columns[0]);
     for row in 1..rows.len() {

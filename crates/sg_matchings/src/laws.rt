@@ -1,6 +1,6 @@
 //! Laws about tables with a line sum, each as the contract of a function that does nothing.
 
-ghost use Rattle.sg_matchings.specs.Laws.{PathsAreFound, TablesAreWorked};
+ghost use Rattle.sg_matchings.specs.Laws.{PathsAreFound, DecompositionsAreWorked};
 ghost use Rattle.sg_matchings.specs.Padding.{FullAreMatched, PaddedHasLineSum};
 
 /// A search from a further column always finds an augmenting path.
@@ -10,7 +10,7 @@ pub fn paths_are_found()
 
 /// Tables, perfect matchings and a decomposition, worked out by hand.
 pub fn tables_are_worked()
-    ensures { TablesAreWorked }
+    ensures { DecompositionsAreWorked }
 {}
 
 /// Counts whose sums are at most a number stand in a square table with this line sum.

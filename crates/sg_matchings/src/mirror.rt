@@ -1,6 +1,6 @@
 // The part of a perfect matching that lies on the counts, and the same with rows and columns exchanged.
 ghost use Rattle.std.specs.Prelude.{◌≡◌, ◌<◌, ◌≤◌, ◌+◌, ◌^◌, ℕ, length, slice_index};
-ghost use Rattle.sg_matchings.specs.Mirrors.{AreApart, AreReset, IsMirror};
+ghost use Rattle.sg_matchings.specs.Mirrors.{AreSeparate, AreReset, IsMirror};
 
 /// Each column of the counts has its own row below them.
 fn reset(columns: &mut [usize], count: usize, width: usize)
@@ -16,7 +16,7 @@ fn reset(columns: &mut [usize], count: usize, width: usize)
 fn turn(columns: &mut [usize], count: usize, width: usize)
     requires long { length columns.old ≡ count + width }
     requires fits { count + width < 2 ^ 64 }
-    requires apart { AreApart count width columns.old }
+    requires apart { AreSeparate count width columns.old }
     requires own { (t : ℕ) → t < width → slice_index columns.old (count + t) ≡ t }
     ensures { IsMirror count width columns.old columns.new }
 {
@@ -34,7 +34,7 @@ fn turn(columns: &mut [usize], count: usize, width: usize)
 pub(crate) fn mirror(columns: &mut [usize], count: usize, width: usize)
     requires long { length columns.old ≡ count + width }
     requires fits { count + width < 2 ^ 64 }
-    requires apart { AreApart count width columns.old }
+    requires apart { AreSeparate count width columns.old }
     ensures { IsMirror count width columns.old columns.new }
 {
     reset(columns, count, width);

@@ -57,7 +57,7 @@ pub record PointRefusals : Type 0 where
   pub weight : PointStopsAt (with_lists (pos (2 ^ 100 + 1)) (pos (2 ^ 99 - 1)) (pos 1) (pos (2 ^ 64 - 1))) (times (pos (2 ^ 100 + 1)) (pos (2 ^ 64)))
   pub total : PointStopsAt (with_lists (pos (2 ^ 126 + 1)) (pos (2 ^ 125)) (pos (2 ^ 126)) (negsuc (2 ^ 126 - 2))) (plus (pos (2 ^ 126 + 1)) (pos (2 ^ 126)))
 
-pub record WorkedRefusals : Type 0 where
+pub record RefusalsAreWorked : Type 0 where
   pub size : SizeRefusals
   pub bounds : BoundRefusals
   pub point : PointRefusals

@@ -21,7 +21,7 @@ use Rattle.sg_commit.specs.Committed.{Committed, IsCommitted}
 use Rattle.sg_commit.specs.Parts.{AreMultiple}
 use Rattle.sg_commit.proofs.Kept.{has_weight, kept, legal_parts, scaled-passing}
 use Rattle.sg_matchings.specs.declared.part.Part.{Part}
-use Rattle.sg_matchings.specs.Sums.{sum_below}
+use Rattle.sg_linear.specs.Sums.{sum_below}
 use Rattle.sg_matchings.specs.Tables.{cell}
 use Rattle.sg_matchings.specs.Padding.{AreWithin, column_total}
 use Rattle.sg_matchings.specs.Decompositions.{IsDecomposition, IsMatching, weight_at}

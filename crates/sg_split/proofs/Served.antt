@@ -16,7 +16,7 @@ use Rattle.sg_model.proofs.Held.{any-contains, contains-any, covers-held, held}
 use Rattle.sg_game.specs.Counting.{IsSingle}
 use Rattle.sg_bounds.specs.Coverage.{choice_holds}
 use Rattle.sg_matchings.specs.declared.part.Part.{Part}
-use Rattle.sg_matchings.specs.Sums.{sum_below}
+use Rattle.sg_linear.specs.Sums.{sum_below}
 use Rattle.sg_matchings.specs.Tables.{cell}
 use Rattle.sg_matchings.specs.Decompositions.{IsMatching, weight_at}
 use Rattle.sg_matchings.proofs.Places.{sum_below-add, sum_below-once, sum_below-same, sum_below-zero}

@@ -7,10 +7,10 @@ use Rattle.std.proofs.lemmas.Bool.{cases_eq, cases_Bool, cond-true, cond-false, 
 use Rattle.sg_model.specs.Sums.{total, numbers, numbers_from, nth}
 use Rattle.sg_model.specs.Games.{Game, resource_count, resource_schedules}
 use Rattle.sg_bounds.specs.Coverage.{choice_holds}
-use Rattle.sg_matchings.specs.Sums.{sum_below}
+use Rattle.sg_linear.specs.Sums.{sum_below}
 use Rattle.sg_matchings.proofs.Places.{some_positive, sum_below-exchange, sum_below-le, sum_below-member, sum_below-nonnegative, sum_below-once, sum_below-same}
 use Rattle.sg_split.specs.ByTarget.{HasChoiceTo, IsTargetOf}
-use Rattle.sg_split.specs.Matched.{asked, positive_entries, share}
+use Rattle.sg_split.specs.Matched.{asked, positive_entries, target_share}
 use Rattle.sg_split.proofs.Singles.{holds_is}
 
 -- ---- sums of lists by place
@@ -120,19 +120,19 @@ module _ (g : Game) (r n : ℕ) (fact : (j : ℕ) → j < n → (x : ℕ) × IsT
   )
 
   -- a share, by place
-  pub share-places : (counts : List ℤ) (t : ℕ) → n ≡ length (resource_schedules g r) → share g r counts (suc t) ≡ sum_below n (λ j. on g r (λ i. get_or counts i (pos 0)) j t)
-  share-places counts t e =
+  pub target_share-places : (counts : List ℤ) (t : ℕ) → n ≡ length (resource_schedules g r) → target_share g r counts (suc t) ≡ sum_below n (λ j. on g r (λ i. get_or counts i (pos 0)) j t)
+  target_share-places counts t e =
       total-numbers (λ j. cond (choice_holds g r j (suc t)) (nth counts j (pos 0)) (pos 0)) (length (resource_schedules g r))
       ∙ ap (λ (k : ℕ). sum_below k (λ j. on g r (λ i. get_or counts i (pos 0)) j t)) (sym e)
 
-  pub share-low : (counts : List ℤ) (t : ℕ) → n ≡ length (resource_schedules g r) → length counts ≡ n → All (λ z. pos 0 ≤ℤ z) counts → pos 0 ≤ℤ share g r counts (suc t)
-  share-low counts t e long low =
+  pub target_share-low : (counts : List ℤ) (t : ℕ) → n ≡ length (resource_schedules g r) → length counts ≡ n → All (λ z. pos 0 ≤ℤ z) counts → pos 0 ≤ℤ target_share g r counts (suc t)
+  target_share-low counts t e long low =
       let from = sum_below-nonnegative n (λ j. on g r (λ i. get_or counts i (pos 0)) j t) (λ j lt. cond-low (choice_holds g r (suc j) (suc t)) (get_or counts j (pos 0)) (low j (pos 0) (omega (arith, lt, long)))) in
-      omega (arith, ints, from, share-places counts t e)
+      omega (arith, ints, from, target_share-places counts t e)
 
   -- a share above 0 has a choice
-  pub share-some : (counts : List ℤ) (t : ℕ) → n ≡ length (resource_schedules g r) → pos 1 ≤ℤ share g r counts (suc t) → HasChoiceTo g r (suc t)
-  share-some counts t e up =
-      let some = some_positive n (λ j. on g r (λ i. get_or counts i (pos 0)) j t) (omega (arith, ints, up, share-places counts t e)) in
+  pub target_share-some : (counts : List ℤ) (t : ℕ) → n ≡ length (resource_schedules g r) → pos 1 ≤ℤ target_share g r counts (suc t) → HasChoiceTo g r (suc t)
+  target_share-some counts t e up =
+      let some = some_positive n (λ j. on g r (λ i. get_or counts i (pos 0)) j t) (omega (arith, ints, up, target_share-places counts t e)) in
       let both = cond-up (choice_holds g r (suc some.0) (suc t)) (get_or counts some.0 (pos 0)) some.1.1 in
       (suc some.0, record { from_one = omega arith; in_list = omega (arith, some.1.0, e); holds = both.0 })

@@ -9,15 +9,15 @@ use Rattle.sg_model.specs.Games.{Game, resource_count, resource_schedules}
 use Rattle.sg_model.specs.Limits.{IsGame}
 use Rattle.sg_game.specs.Counting.{IsSingle}
 use Rattle.sg_bounds.specs.Coverage.{choice_holds}
-use Rattle.sg_matchings.specs.Sums.{sum_below}
+use Rattle.sg_linear.specs.Sums.{sum_below}
 use Rattle.sg_matchings.specs.Tables.{cell}
 use Rattle.sg_matchings.specs.Padding.{AreWithin, column_total, row_total}
 use Rattle.sg_matchings.specs.Decompositions.{positive_counts}
 use Rattle.sg_matchings.proofs.Places.{sum_below-le, sum_below-same, sum_below-nonnegative}
 use Rattle.sg_matchings.proofs.PadSteps.{each-pushed, length-pushed, sum_below-front, sum_below-next}
 use Rattle.sg_split.specs.ByTarget.{AreTargetRows, HasChoiceTo, IsTargetOf, IsTargetRow}
-use Rattle.sg_split.specs.Matched.{AreChoiceCounts, asked, positive_entries, share}
-use Rattle.sg_split.proofs.Shares.{entries-sum, flag, flags_spread, on, share-low, share-places, share-some, spread, total-numbers, total-places}
+use Rattle.sg_split.specs.Matched.{AreChoiceCounts, asked, positive_entries, target_share}
+use Rattle.sg_split.proofs.Shares.{entries-sum, flag, flags_spread, on, target_share-low, target_share-places, target_share-some, spread, total-numbers, total-places}
 use Rattle.sg_split.proofs.Singles.{holds_is, target_of_choice}
 
 -- ---- one row, choice by choice
@@ -86,7 +86,7 @@ module _ (g : Game) (r : ℕ) (counts : List ℤ) where
     long = are.long;
     each = λ t lt.
         let p : t + 1 ≡ suc t = omega arith in
-        are.each t lt ∙ sym (ap (λ (x : ℕ). share g r counts x) p ∙ (total-numbers (λ j. cond (choice_holds g r j (suc t)) (nth counts j (pos 0)) (pos 0)) (length (resource_schedules g r)) ∙ ap (λ (i : ℕ). sum_below i (λ j. on g r c j t)) (sym e)));
+        are.each t lt ∙ sym (ap (λ (x : ℕ). target_share g r counts x) p ∙ (total-numbers (λ j. cond (choice_holds g r j (suc t)) (nth counts j (pos 0)) (pos 0)) (length (resource_schedules g r)) ∙ ap (λ (i : ℕ). sum_below i (λ j. on g r c j t)) (sym e)));
   }
 
 -- ---- all rows
@@ -110,15 +110,15 @@ module _ (g : Game) (game : IsGame g) (counts : List (List ℤ)) (tickets : ℤ)
   low : (i : ℕ) → i < length rows → All (λ z. pos 0 ≤ℤ z) (row i)
   low i li = are.none_below i [] (omega (arith, li, target.long, are.one_each))
 
-  cell_is : (i t : ℕ) → i < length rows → t < m → cell rows i t ≡ share g (suc i) (row i) (suc t)
+  cell_is : (i t : ℕ) → i < length rows → t < m → cell rows i t ≡ target_share g (suc i) (row i) (suc t)
   cell_is i t li lt =
       let p : i + 1 ≡ suc i = omega arith in
       let q : t + 1 ≡ suc t = omega arith in
       let one : IsTargetRow g (suc i) (row i) (get_or rows i []) = subst (λ (x : ℕ). IsTargetRow g x (nth counts x []) (get_or rows i [])) p (target.each i li) in
-      one.each t lt ∙ ap (λ (x : ℕ). share g (suc i) (row i) x) q
+      one.each t lt ∙ ap (λ (x : ℕ). target_share g (suc i) (row i) x) q
 
   cell_sum : (i t : ℕ) → i < length rows → t < m → cell rows i t ≡ sum_below (n i) (λ j. on g (suc i) (λ k. get_or (row i) k (pos 0)) j t)
-  cell_sum i t li lt = cell_is i t li lt ∙ share-places g (suc i) (n i) (fact i li) (row i) t refl
+  cell_sum i t li lt = cell_is i t li lt ∙ target_share-places g (suc i) (n i) (fact i li) (row i) t refl
 
   row_is : (i : ℕ) → i < length rows → row_total rows m i ≡ total (λ z. z) (row i)
   row_is i li =
@@ -128,13 +128,13 @@ module _ (g : Game) (game : IsGame g) (counts : List (List ℤ)) (tickets : ℤ)
 
   pub column_is : (t : ℕ) → t < m → column_total rows t ≡ asked g counts (suc t)
   column_is t lt =
-      sum_below-same (length rows) (λ i. cell rows i t) (λ i. share g (suc i) (nth counts (suc i) []) (suc t)) (λ i li. cell_is i t li lt)
-      ∙ (ap (λ (k : ℕ). sum_below k (λ i. share g (suc i) (nth counts (suc i) []) (suc t))) target.long ∙ sym (total-numbers (λ r. share g r (nth counts r []) (suc t)) (resource_count g)))
+      sum_below-same (length rows) (λ i. cell rows i t) (λ i. target_share g (suc i) (nth counts (suc i) []) (suc t)) (λ i li. cell_is i t li lt)
+      ∙ (ap (λ (k : ℕ). sum_below k (λ i. target_share g (suc i) (nth counts (suc i) []) (suc t))) target.long ∙ sym (total-numbers (λ r. target_share g r (nth counts r []) (suc t)) (resource_count g)))
 
   pub rows_within : AreWithin rows m tickets
   rows_within = record {
     wide = λ i li. (target.each i li).long;
-    nonnegative = λ i t li lt. omega (arith, ints, cell_is i t li lt, share-low g (suc i) (n i) (fact i li) (row i) t refl (long i li) (low i li));
+    nonnegative = λ i t li lt. omega (arith, ints, cell_is i t li lt, target_share-low g (suc i) (n i) (fact i li) (row i) t refl (long i li) (low i li));
     rows_within = λ i li. omega (arith, ints, row_is i li, are.resources_within i [] (omega (arith, li, target.long, are.one_each)));
     columns_within = λ t lt. omega (arith, ints, column_is t lt, are.targets_within (suc t) (omega arith) (omega (arith, lt)));
   }
@@ -153,7 +153,7 @@ module _ (g : Game) (game : IsGame g) (counts : List (List ℤ)) (tickets : ℤ)
       omega (arith, ints, all, sums)
 
   pub cell_some : (i t : ℕ) → i < length rows → t < m → pos 1 ≤ℤ cell rows i t → HasChoiceTo g (suc i) (suc t)
-  cell_some i t li lt up = share-some g (suc i) (n i) (fact i li) (row i) t refl (omega (arith, ints, up, cell_is i t li lt))
+  cell_some i t li lt up = target_share-some g (suc i) (n i) (fact i li) (row i) t refl (omega (arith, ints, up, cell_is i t li lt))
 
 -- ---- resource by resource
 

@@ -6,7 +6,7 @@ use Rattle.sg_model.specs.Games.{Game, resource_count, resource_schedules, sched
 use Rattle.sg_game.specs.Counts.{IsGoalOf}
 use Rattle.sg_bounds.specs.Coverage.{choice_holds}
 use Rattle.sg_matchings.specs.declared.part.Part.{Part}
-use Rattle.sg_split.specs.Matched.{share}
+use Rattle.sg_split.specs.Matched.{target_share}
 
 -- target t is the one of choice j of resource r
 pub record IsTargetOf (g : Game) (r j t : ℕ) : Type 0 where
@@ -16,7 +16,7 @@ pub record IsTargetOf (g : Game) (r j t : ℕ) : Type 0 where
 -- the counts of a resource's choices, by target
 pub record IsTargetRow (g : Game) (r : ℕ) (counts : List ℤ) (row : List ℤ) : Type 0 where
   pub long : length row ≡ length g.goals
-  pub each : (t : ℕ) → t < length g.goals → slice_index_or row t (pos 0) ≡ share g r counts (t + 1)
+  pub each : (t : ℕ) → t < length g.goals → slice_index_or row t (pos 0) ≡ target_share g r counts (t + 1)
 
 -- the same for all resources
 pub record AreTargetRows (g : Game) (counts : List (List ℤ)) (rows : List (List ℤ)) : Type 0 where

@@ -15,12 +15,12 @@ abbrev pub counts_of : Table → List (List ℤ)
 counts_of table = number_lists table.counts.items
 
 -- the counts of those choices of resource r that hold target t, summed
-abbrev pub share : Game → ℕ → List ℤ → ℕ → ℤ
-share g r counts t = total (λ j. if choice_holds g r j t then nth counts j (pos 0) else pos 0) (numbers (length (resource_schedules g r)))
+abbrev pub target_share : Game → ℕ → List ℤ → ℕ → ℤ
+target_share g r counts t = total (λ j. if choice_holds g r j t then nth counts j (pos 0) else pos 0) (numbers (length (resource_schedules g r)))
 
 -- what is asked for target t: the sum of all counts of choices that hold it
 abbrev pub asked : Game → List (List ℤ) → ℕ → ℤ
-asked g counts t = total (λ r. share g r (nth counts r []) t) (numbers (resource_count g))
+asked g counts t = total (λ r. target_share g r (nth counts r []) t) (numbers (resource_count g))
 
 -- how many counts are above 0
 abbrev pub positive_entries : List (List ℤ) → ℕ

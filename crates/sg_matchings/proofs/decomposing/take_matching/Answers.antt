@@ -1,7 +1,7 @@
 use Rattle.std.proofs.Common.{◌≡◌, ℤ, arith, to_z, of_z, subst}
 use Rattle.std.specs.Int.{w128}
 use Rattle.std.proofs.lemmas.Int.{ints}
-use Rattle.sg_matchings.specs.Mirrors.{IsLeast}
+use Rattle.sg_matchings.specs.Mirrors.{IsLeastWeight}
 use Rattle.sg_matchings.proofs.MirrorMatchings.{mirror-perfect, mirror-turned}
 use Rattle.sg_matchings.proofs.decomposing.take_matching.Goals as goal
 
@@ -28,7 +28,7 @@ returns-clause-step c =
     let columns = c.mirror.new.columns in
     let w : ℤ = to_z w128 (of_z w128 c.least_on-weight.result) in
     let e : c.least_on-weight.result ≡ w = omega (arith, ints, c.least_on-weight.type_inv) in
-    record { matching = is; least = subst (λ (z : ℤ). IsLeast rows columns z) e c.least_on-weight.ensures; less = c.take_off.ensures }
+    record { matching = is; least = subst (λ (z : ℤ). IsLeastWeight rows columns z) e c.least_on-weight.ensures; less = c.take_off.ensures }
 
 pub returns-clause-turned : goal.returns-clause-turned
 returns-clause-turned c = mirror-turned c.args.count c.args.width c.args.rows.now c.requires.mirrored c.complete.new.matched c.in_ok-complete.ensures c.mirror.new.columns c.mirror.ensures

@@ -1,6 +1,6 @@
 use Rattle.std.proofs.Common.{◌≡◌}
 use Rattle.std.specs.Prelude.{◌-ℤ◌}
-use Rattle.sg_matchings.specs.Sums.{sum_below}
+use Rattle.sg_linear.specs.Sums.{sum_below}
 use Rattle.sg_matchings.specs.Tables.{cell}
 use Rattle.sg_matchings.proofs.padding.row_lack.Given as goal
 
