@@ -1,0 +1,4 @@
+pub mod Greatests
+pub mod Quotients
+pub mod Totals
+pub mod Walked

@@ -1,1 +1,3 @@
+pub mod Rests
+pub mod Tops
 pub mod TreeSteps

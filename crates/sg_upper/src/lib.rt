@@ -2,5 +2,9 @@
 #![tactic(auto)]
 
 mod budget;
+mod leaf;
+mod leaves;
+mod rest;
 
 pub use budget::{Budget, node_budget};
+pub use leaves::upper;
