@@ -2,3 +2,4 @@ pub mod Greatests
 pub mod Quotients
 pub mod Totals
 pub mod Walked
+pub mod Worked
