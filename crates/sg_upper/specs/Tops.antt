@@ -15,13 +15,13 @@ use Rattle.sg_upper.specs.declared.leaf.Quotient.{Quotient}
 use Rattle.sg_upper.specs.TreeSteps.{base_bound_steps, node_steps, part_steps}
 
 -- the operations under a bound: its numerator in two, then its denominator
-abbrev pub quotient_steps : ℤ → ℤ → ℤ → ℤ → List Wide
-quotient_steps rho mu rest priors = times rho rest ∷ plus mu (rho *ℤ rest) ∷ times rho priors ∷ []
+abbrev pub fact_fraction_steps : ℤ → ℤ → ℤ → ℤ → List Wide
+fact_fraction_steps rho mu rest priors = times rho rest ∷ plus mu (rho *ℤ rest) ∷ times rho priors ∷ []
 
 -- both parts, where all of them fit, and else the first that doesn't
 abbrev pub FormsQuotient : ℤ → ℤ → ℤ → ℤ → Result Quotient Wide → Type 0
-FormsQuotient rho mu rest priors (Ok q) = (first_wide (quotient_steps rho mu rest priors) ≡ None) × (q.num ≡ mu +ℤ (rho *ℤ rest)) × (q.den ≡ rho *ℤ priors)
-FormsQuotient rho mu rest priors (Err w) = first_wide (quotient_steps rho mu rest priors) ≡ Some w
+FormsQuotient rho mu rest priors (Ok q) = (first_wide (fact_fraction_steps rho mu rest priors) ≡ None) × (q.num ≡ mu +ℤ (rho *ℤ rest)) × (q.den ≡ rho *ℤ priors)
+FormsQuotient rho mu rest priors (Err w) = first_wide (fact_fraction_steps rho mu rest priors) ≡ Some w
 
 -- these bounds are none, or one, whose denominator is at least 1 and which this is in lowest terms
 abbrev pub AreLowered : List Fraction → Option Fraction → Type 0
