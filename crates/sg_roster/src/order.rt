@@ -2,23 +2,14 @@
 
 ghost use Rattle.std.specs.Prelude.{◌≡◌, ◌<◌, ℤ, All, Err, IfErr, IfOk, IsPermutation, length};
 ghost use Rattle.sg_tickets.specs.Expansion.{IsLongTotal, places_of};
-ghost use Rattle.sg_roster.specs.Days.{days_of, key_of_seed, seeded};
+ghost use Rattle.sg_seed.specs.Seeds.{generator_of_seed, seeded};
+ghost use Rattle.sg_roster.specs.Days.{days_of};
 
 use rand::seq::SliceRandom;
-use rand_chacha::ChaCha20Rng;
-use rand_core::SeedableRng;
 use sg_commit::Commitment;
+use sg_seed::generator;
 use sg_tickets::{LongFault, expand};
 use std::alloc::Global;
-
-/// The key of a seed: its eight bytes, low byte first, and 24 zero bytes.
-fn key_of(seed: u64) -> [u8; 32]
-    ensures { result ≡ key_of_seed seed }
-{
-    let mut key = [0; 32];
-    key[0..8].copy_from_slice(&seed.to_le_bytes());
-    key
-}
 
 /// The place of each day's ticket among those of the commitment, counted from 0.
 ///
@@ -37,8 +28,7 @@ pub fn roster(alloc: Global, k: &Commitment, seed: u64) -> Result<Vec<u32>, Long
 {
     match expand(alloc, k) {
         Ok(mut days) => {
-            let mut generator = ChaCha20Rng::from_seed(key_of(seed));
-            days.shuffle(&mut generator);
+            days.shuffle(&mut generator(seed));
             Ok(days)
         }
         Err(fault) => Err(fault),
