@@ -51,7 +51,7 @@ begun_load node = Some (record { node = node; moves = 0; ended = false })
 
 -- the tests of a work say the same before and after
 pub record AreSameTests (ends : Fix → ℕ → Type 0) (closes : Fix → Fact → Option Committed → Type 0) (stops : Fix → Cause → Type 0)
-  (ends_after : Fix → ℕ → Type 0) (closes_after : Fix → Fact → Option Committed → Type 0) (stops_after : Fix → Cause → Type 0) : Type 0 where
+    (ends_after : Fix → ℕ → Type 0) (closes_after : Fix → Fact → Option Committed → Type 0) (stops_after : Fix → Cause → Type 0) : Type 0 where
   pub end_alike : (node : Fix) (moves : ℕ) → ends node moves ↔ ends_after node moves
   pub close_alike : (node : Fix) (fact : Fact) (point : Option Committed) → closes node fact point ↔ closes_after node fact point
   pub stop_alike : (node : Fix) (cause : Cause) → stops node cause ↔ stops_after node cause
