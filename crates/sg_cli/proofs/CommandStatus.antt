@@ -1,15 +1,16 @@
 -- Told files decide one status for each command of the list, and each ends with a status of success.
-use Rattle.std.proofs.Common.{◌≡◌, ◌≢◌, ◌⊎◌, ℕ, List, Result, Ok, Err, IfOk, IfErr, Some, inl, inr}
-use Rattle.sg_words.specs.Commands.{Asked, solve, check, show}
+use Rattle.std.proofs.Common.{◌≡◌, ◌≢◌, ◌⊎◌, ℕ, Bool, true, false, List, Option, Result, Ok, Err, IfOk, IfErr, Some, sym, ◌∙◌, subst, inl, inr}
+use Rattle.sg_words.specs.Commands.{Asked, solve, check, show, roster}
 use Rattle.sg_cli.specs.Inputs.{Content}
 use Rattle.sg_cli.specs.Checking.{ends_yes, writes_yes, yes_status}
 use Rattle.sg_cli.specs.CommandList.{command_for}
 use Rattle.sg_cli.specs.Effects.{Fails, IsDone}
 use Rattle.sg_cli.specs.Showing.{ends_shown, writes_table}
 use Rattle.sg_cli.specs.Laws.{OneStatusIsDue}
-use Rattle.sg_cli.specs.Runs.{ComesOf, DoesCommand, Observation}
+use Rattle.sg_cli.specs.Runs.{ComesOf, DoesCommand, FormsFirst, Observation}
 use Rattle.sg_cli.proofs.JudgingStatus.{one_judging, success_checking, success_showing}
 use Rattle.sg_cli.proofs.OneStatus.{just}
+use Rattle.sg_cli.proofs.RosterStatus.{one_rostering, success_rostering}
 use Rattle.sg_cli.proofs.SolvingStatus.{one_solving, success_solving}
 use Rattle.sg_cli.specs.declared.refusal.Refusal.{Refusal}
 use Rattle.sg_cli.specs.declared.refusal.Refusal.TheVariants.{Words, NotRead, TooLong, Refused, Own, NotWritten, Memory}
@@ -18,6 +19,7 @@ pub one_status : OneStatusIsDue
 one_status files (solve name) = one_solving files name
 one_status files (check name named) = one_judging files name named ends_yes writes_yes (λ g r. just (yes_status r))
 one_status files (show name named) = one_judging files name named ends_shown writes_table (λ g r. just 0)
+one_status files (roster name named seed) = one_rostering files name named seed
 
 -- ---- success
 
@@ -25,6 +27,7 @@ success : (asked : Asked) (contents : List Content) (status : ℕ) → (command_
 success (solve name) = success_solving
 success (check name named) = success_checking
 success (show name named) = success_showing
+success (roster name named seed) = success_rostering
 
 -- no other status is one of a command that was done
 pub no_other : (o : Observation) (status : ℕ) → DoesCommand o status → status ≢ 0 → status ≢ 10 → ⊥
@@ -34,6 +37,14 @@ no_other o status d zero ten = elim (success d.asked d.done.writes.contents stat
 pub kept_first : (r : Result ℕ Refusal) (Q A : Type 0) → IfErr r (λ e. e ≢ NotWritten → A) → IfErr r (λ e. e ≢ NotWritten → (e ≡ Memory → Q) → A)
 kept_first (Ok status) Q A h = tt
 kept_first (Err refusal) Q A h = λ other first. h other
+
+-- and so is what is kept but for want of memory, by a command that forms its text while it writes
+pub kept_late : (asked : Asked) (asks : Option Asked) → asks ≡ Some asked → (command_for asked).is_formed_late ≡ true → (r : Result ℕ Refusal) (A : Type 0)
+    → IfErr r (λ e. e ≢ NotWritten → e ≢ Memory → A) → IfErr r (λ e. e ≢ NotWritten → (e ≡ Memory → FormsFirst asks) → A)
+kept_late asked asks is late (Ok status) A h = tt
+kept_late asked asks is late (Err refusal) A h =
+    λ other first. h other (λ memory. (let early : (command_for asked).is_formed_late ≡ false = subst FormsFirst is (first memory) in
+    let both : ◌≡◌ {A = Bool} true false = sym late ∙ early in cc))
 
 -- ---- the command that is asked for
 

@@ -24,29 +24,34 @@ use Rattle.sg_cli.specs.Refusals.{own_status}
 use Rattle.sg_cli.proofs.OneStatus.{IsOne, formed, just, one_file, one_game, one_refusal, one_report, one_taken}
 use Rattle.sg_cli.specs.declared.input.InputKind.TheVariants as kinds
 use Rattle.sg_cli.specs.declared.refusal.CommandRefusal.{CommandRefusal}
-use Rattle.sg_cli.specs.declared.refusal.CommandRefusal.TheVariants.{NotYet, ReportWrong}
+use Rattle.sg_cli.specs.declared.refusal.CommandRefusal.TheVariants.{NotYet, ReportWrong, RosterTooLong}
 
 -- ---- what is refused
 
 wrong_game : (g : Game) (own : CommandRefusal) → refuses_wrong (game g ∷ []) own → own_status own ≡ 3
 wrong_game g NotYet h = refl
 wrong_game g (ReportWrong line reason) h = absurd h
+wrong_game g (RosterTooLong total) h = absurd h
 
 right_game : (g : Game) → IsChecked g → (own : CommandRefusal) → ¬ (refuses_wrong (game g ∷ []) own)
 right_game g is NotYet h = h is
 right_game g is (ReportWrong line reason) h = h
+right_game g is (RosterTooLong total) h = h
 
 covered : (g : Game) (r : Report) → ¬ (IsCheckable r) → (own : CommandRefusal) → refuses_wrong (game g ∷ report r ∷ []) own → own_status own ≡ 3
 covered g r other NotYet h = refl
 covered g r other (ReportWrong line reason) h = absurd (other h.is_checkable)
+covered g r other (RosterTooLong total) h = absurd h
 
 wrong_report : (g : Game) (r : Report) → IsCheckable r → (own : CommandRefusal) → refuses_wrong (game g ∷ report r ∷ []) own → own_status own ≡ 7
 wrong_report g r is NotYet h = absurd (h is)
 wrong_report g r is (ReportWrong line reason) h = refl
+wrong_report g r is (RosterTooLong total) h = absurd h
 
 right_report : (g : Game) (r : Report) → IsCheckable r → IsAccepted g r → (own : CommandRefusal) → ¬ (refuses_wrong (game g ∷ report r ∷ []) own)
 right_report g r is accepted NotYet h = h is
 right_report g r is accepted (ReportWrong line reason) h = (refusal_is_one g r).0 accepted line reason h.refused
+right_report g r is accepted (RosterTooLong total) h = h
 
 -- ---- by the files
 

@@ -7,6 +7,8 @@ pub mod OneStatus
 pub mod Outcomes
 pub mod Pairs
 pub mod Progress
+pub mod RosterStatus
+pub mod Rostering
 pub mod SmallNumbers
 pub mod SolvingStatus
 pub mod Stopping

@@ -1,11 +1,13 @@
 -- The list of commands: which command is asked for.
-use Rattle.sg_words.specs.Commands.{Asked, solve, check, show}
+use Rattle.sg_words.specs.Commands.{Asked, solve, check, show, roster}
 use Rattle.sg_cli.specs.Commands.{Command}
 use Rattle.sg_cli.specs.Solving.{solving}
 use Rattle.sg_cli.specs.Checking.{checking}
 use Rattle.sg_cli.specs.Showing.{showing}
+use Rattle.sg_cli.specs.Rostering.{rostering}
 
 abbrev pub command_for : Asked → Command
 command_for (solve game) = solving game
 command_for (check game report) = checking game report
 command_for (show game report) = showing game report
+command_for (roster game report seed) = rostering game report seed

@@ -1,5 +1,6 @@
 -- The status of each refusal, and the line that tells it.
 use Rattle.std.specs.Prelude.{ℕ, List, ◌++◌, codes, decimal}
+use Rattle.std.specs.Fmt.{signed_decimal}
 use Rattle.sg_model.specs.declared.fault.Place.{Place}
 use Rattle.sg_model.specs.declared.fault.Place.TheVariants as places
 use Rattle.sg_cli.specs.declared.input.InputKind.{InputKind}
@@ -7,7 +8,7 @@ use Rattle.sg_cli.specs.declared.input.InputKind.TheVariants as kinds
 use Rattle.sg_cli.specs.declared.input.InputFault.{InputFault}
 use Rattle.sg_cli.specs.declared.input.InputFault.TheVariants as faults
 use Rattle.sg_cli.specs.declared.refusal.CommandRefusal.{CommandRefusal}
-use Rattle.sg_cli.specs.declared.refusal.CommandRefusal.TheVariants.{NotYet, ReportWrong}
+use Rattle.sg_cli.specs.declared.refusal.CommandRefusal.TheVariants.{NotYet, ReportWrong, RosterTooLong}
 use Rattle.sg_cli.specs.declared.refusal.Refusal.{Refusal}
 use Rattle.sg_cli.specs.declared.refusal.Refusal.TheVariants.{Words, NotRead, TooLong, Refused, Own, NotWritten, Memory}
 
@@ -22,6 +23,7 @@ fault_status (faults.Report fault) = 7
 abbrev pub own_status : CommandRefusal → ℕ
 own_status NotYet = 3
 own_status (ReportWrong line reason) = 7
+own_status (RosterTooLong total) = 8
 
 -- the status with which a run ends
 abbrev pub status_of : Refusal → ℕ
@@ -60,6 +62,7 @@ fault_line (faults.Report fault) = codes "report refused " ++ at_line_text fault
 abbrev pub own_line : CommandRefusal → List ℕ
 own_line NotYet = codes "not yet\n"
 own_line (ReportWrong line reason) = codes "no " ++ at_line_text reason line
+own_line (RosterTooLong total) = codes "roster too long " ++ (signed_decimal total ++ codes "\n")
 
 -- the line that tells it
 abbrev pub line_of : Refusal → List ℕ
@@ -75,6 +78,7 @@ line_of Memory = codes "want of memory\n"
 abbrev pub own_has_numbers : CommandRefusal → Type 0
 own_has_numbers NotYet = ⊥
 own_has_numbers (ReportWrong line reason) = Unit {0}
+own_has_numbers (RosterTooLong total) = Unit {0}
 
 abbrev pub HasNumbers : Refusal → Type 0
 HasNumbers (Refused fault) = Unit {0}

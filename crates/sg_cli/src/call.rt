@@ -9,6 +9,7 @@ ghost use Rattle.sg_game.specs.Seen.{texts};
 
 use crate::checking::check_named;
 use crate::refusal::Refusal;
+use crate::rostering::roster_named;
 use crate::showing::show_named;
 use crate::solving::solve_named;
 use crate::telling::write_refusal;
@@ -37,6 +38,9 @@ fn run_command<S: Shelf, O: Sink>(
         Ok(Some(Command::Solve { game })) => solve_named(alloc, game, shelf, out),
         Ok(Some(Command::Check { game, report })) => check_named(alloc, game, report, shelf, out),
         Ok(Some(Command::Show { game, report })) => show_named(alloc, game, report, shelf, out),
+        Ok(Some(Command::Roster { game, report, seed })) => {
+            roster_named(alloc, game, report, seed, shelf, out)
+        }
         Ok(None) => Err(Refusal::Words),
         Err(_) => Err(Refusal::Memory),
     }
@@ -44,8 +48,8 @@ fn run_command<S: Shelf, O: Sink>(
 
 /// Does what the words ask for, over the files of a shelf, and answers the status with which the program ends.
 ///
-/// `words` are the words after the program's name. A report, the line that accepts one, or a table goes to `out`, a
-/// refusal to `err` as one line.
+/// `words` are the words after the program's name. A report, the line that accepts one, a table or a roster goes to
+/// `out`, a refusal to `err` as one line.
 pub fn run<S: Shelf, O: Sink, E: Sink>(
     alloc: Global,
     words: &Vec<String>,

@@ -16,6 +16,8 @@ pub enum CommandRefusal {
     NotYet,
     /// The report is not accepted for the game: the line of the first test that fails, and its reason.
     ReportWrong { line: u64, reason: u8 },
+    /// The report is accepted, but its tickets are more than the days of a roster may be: so many.
+    RosterTooLong { total: i128 },
 }
 
 /// Why a run does not do what the words ask for. One refusal decides the status and the line.
@@ -87,6 +89,7 @@ impl CommandRefusal {
         match self {
             CommandRefusal::NotYet => 3,
             CommandRefusal::ReportWrong { .. } => 7,
+            CommandRefusal::RosterTooLong { .. } => 8,
         }
     }
 
@@ -98,6 +101,7 @@ impl CommandRefusal {
         match self {
             CommandRefusal::NotYet => "not yet\n",
             CommandRefusal::ReportWrong { .. } => unreachable!(),
+            CommandRefusal::RosterTooLong { .. } => unreachable!(),
         }
     }
 }
@@ -167,4 +171,11 @@ pub(crate) fn wrong_line(alloc: Global, line: u64, reason: u8) -> Result<String,
     ensures { IfOk result (λ text. string_bytes text ≡ line_of (Refusal.Own (CommandRefusal.ReportWrong line reason))) }
 {
     format!(in alloc; "no {} at line {}\n", reason, line)
+}
+
+/// The line, with its newline, that tells how many tickets are too many for a roster.
+pub(crate) fn long_line(alloc: Global, total: i128) -> Result<String, AllocError>
+    ensures { IfOk result (λ text. string_bytes text ≡ line_of (Refusal.Own (CommandRefusal.RosterTooLong total))) }
+{
+    format!(in alloc; "roster too long {}\n", total)
 }

@@ -6,25 +6,12 @@ ghost use Rattle.sg_report.specs.Tables.{IsReportTable};
 ghost use Rattle.sg_cli.specs.Effects.{Fails, IsDone, surroundings};
 ghost use Rattle.sg_cli.specs.Showing.{showing};
 
+use crate::commitment::commitment_of;
 use crate::judging::{Accepted, accepted_named};
 use crate::refusal::Refusal;
-use sg_commit::Commitment;
-use sg_game::Game;
 use sg_report::{ShowFault, show_text};
 use sg_shelf::{Shelf, Sink};
-use sg_tree::Report;
 use std::alloc::{AllocError, Global};
-
-/// The tickets of an accepted report.
-fn commitment_of(game: &Game, report: Report) -> Commitment
-    requires { IsAccepted game.now report }
-    ensures { result ≡ record { tickets = report.tickets.tickets; total = report.tickets.total } }
-{
-    match report.tickets.commit() {
-        Some(commitment) => commitment,
-        None => unreachable!(),
-    }
-}
 
 /// The table of an accepted report.
 fn table_of(alloc: Global, pair: Accepted) -> Result<Vec<u8>, AllocError>

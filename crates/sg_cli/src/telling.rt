@@ -5,7 +5,7 @@ ghost use Rattle.sg_shelf.specs.Faults.{raised};
 ghost use Rattle.sg_cli.specs.Refusals.{HasNumbers, line_of};
 ghost use Rattle.sg_cli.specs.Runs.{TellsRefusal};
 
-use crate::refusal::{CommandRefusal, Refusal, fault_line, wrong_line};
+use crate::refusal::{CommandRefusal, Refusal, fault_line, long_line, wrong_line};
 use sg_shelf::Sink;
 use std::alloc::{AllocError, Global};
 
@@ -49,6 +49,9 @@ pub(crate) fn write_refusal<E: Sink>(alloc: Global, refusal: Refusal, err: &mut 
         Refusal::Refused(fault) => write_line(refusal, fault_line(alloc, fault), err),
         Refusal::Own(CommandRefusal::ReportWrong { line, reason }) => {
             write_line(refusal, wrong_line(alloc, line, reason), err)
+        }
+        Refusal::Own(CommandRefusal::RosterTooLong { total }) => {
+            write_line(refusal, long_line(alloc, total), err)
         }
         _ => write_plain(refusal, err),
     }

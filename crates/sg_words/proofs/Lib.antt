@@ -14,3 +14,5 @@ pub mod Parts
 pub mod Calls
 pub mod Written
 pub mod Worked
+pub mod WorkedRosters
+pub mod Numbered

@@ -1,18 +1,19 @@
 -- What a call may ask for, and which words ask for it.
-use Rattle.std.specs.Prelude.{◌≡◌, ◌↔◌, false, List, [], ◌∷◌, ◌++◌, All, Option, Some, None, option_and_then, find, codes, map}
+use Rattle.std.specs.Prelude.{◌≡◌, ◌↔◌, ℕ, false, List, [], ◌∷◌, ◌++◌, All, Option, Some, None, option_and_then, find, codes, map}
 use Rattle.std.specs.Str.{bytes_eq}
 use Rattle.sg_words.specs.Words.{Text, Piece}
-use Rattle.sg_words.specs.Kinds.{any}
-use Rattle.sg_words.specs.Usages.{Usage, arguments_of, option_names, reading_of}
+use Rattle.sg_words.specs.Kinds.{any, number, number_read}
+use Rattle.sg_words.specs.Usages.{Setting, Usage, arguments_of, option_names, reading_of}
 use Rattle.sg_words.specs.Writing.{Spells}
 use Rattle.sg_words.specs.declared.command.Command.{Command}
-use Rattle.sg_words.specs.declared.command.Command.TheVariants.{Solve, Check, Show}
+use Rattle.sg_words.specs.declared.command.Command.TheVariants.{Solve, Check, Show, Roster}
 
 -- what is asked for, with the texts that were given
 pub data Asked : Type 0 where
   solve : (game : Text) → Asked
   check : (game report : Text) → Asked
   show : (game report : Text) → Asked
+  roster : (game report : Text) (seed : ℕ) → Asked
 
 -- a command's row, and what its arguments ask for
 pub record Form : Type 0 where
@@ -29,11 +30,21 @@ abbrev pub with_two : (Text → Text → Asked) → List Text → Option Asked
 with_two command (first ∷ second ∷ []) = Some (command first second)
 with_two command _ = None
 
+-- exactly two arguments, and the number that a third writes
+abbrev pub with_two_and_number : (Text → Text → ℕ → Asked) → List Text → Option Asked
+with_two_and_number command (first ∷ second ∷ third ∷ []) = Some (command first second (number_read third))
+with_two_and_number command _ = None
+
+-- the option `--seed`: a whole number below 2^64, and 0 where it isn't given
+abbrev pub seed_setting : Setting
+seed_setting = record { name = codes "seed"; kind = number 0 18446744073709551615; default = codes "0" }
+
 -- the table of commands
 abbrev pub forms : List Form
 forms = record { usage = record { name = codes "solve"; positionals = any ∷ []; options = [] }; asked = with_one solve }
     ∷ record { usage = record { name = codes "check"; positionals = any ∷ any ∷ []; options = [] }; asked = with_two check }
     ∷ record { usage = record { name = codes "show"; positionals = any ∷ any ∷ []; options = [] }; asked = with_two show }
+    ∷ record { usage = record { name = codes "roster"; positionals = any ∷ any ∷ []; options = seed_setting ∷ [] }; asked = with_two_and_number roster }
     ∷ []
 
 -- its rows
@@ -76,3 +87,4 @@ abbrev pub asked_of : Command → Asked
 asked_of (Solve game) = solve game.now
 asked_of (Check game report) = check game.now report.now
 asked_of (Show game report) = show game.now report.now
+asked_of (Roster game report seed) = roster game.now report.now seed

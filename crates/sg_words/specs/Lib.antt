@@ -6,3 +6,4 @@ pub mod Line
 pub mod Writing
 pub mod WorkedWords
 pub mod Commands
+pub mod WorkedCommands

@@ -20,4 +20,13 @@ pub enum Command<'a> {
         /// The name of the report's file.
         report: &'a str,
     },
+    /// `roster GAME REPORT [--seed S]`: write a day's patrols for each ticket of a report on a game.
+    Roster {
+        /// The name of the game's file.
+        game: &'a str,
+        /// The name of the report's file.
+        report: &'a str,
+        /// The seed of the order of the days, 0 where none is given.
+        seed: u64,
+    },
 }

@@ -1,16 +1,16 @@
 //! The table of commands, and the command that a row's arguments ask for.
 
 ghost use Rattle.std.specs.Prelude.{◌≡◌, ◌↔◌, Option, Some, None, IfOk, IsNone, map, option_map, string_bytes};
-ghost use Rattle.sg_words.specs.Commands.{Asked, Gives, solve, check, show, with_one, with_two, asked_by, asked_of, command_given};
+ghost use Rattle.sg_words.specs.Commands.{Asked, Gives, solve, check, show, roster, with_one, with_two, with_two_and_number, asked_by, asked_of, command_given};
 
 use crate::command::Command;
-use crate::kind::Kind;
+use crate::kind::{Kind, number};
 use crate::reading::read_words;
-use crate::usage::Usage;
+use crate::usage::{Setting, Usage};
 use std::alloc::{AllocError, Global};
 
 /// The commands: each with what its positional words must be, and its options.
-static USAGES: [Usage<'static>; 3] = [
+static USAGES: [Usage<'static>; 4] = [
     Usage {
         name: "solve",
         positionals: &[Kind::Any],
@@ -25,6 +25,18 @@ static USAGES: [Usage<'static>; 3] = [
         name: "show",
         positionals: &[Kind::Any, Kind::Any],
         options: &[],
+    },
+    Usage {
+        name: "roster",
+        positionals: &[Kind::Any, Kind::Any],
+        options: &[Setting {
+            name: "seed",
+            kind: Kind::Number {
+                least: 0,
+                greatest: u64::MAX,
+            },
+            default: "0",
+        }],
     },
 ];
 
@@ -61,6 +73,19 @@ fn show<'a>(arguments: &[&'a str]) -> Option<Command<'a>>
     }
 }
 
+fn roster<'a>(arguments: &[&'a str]) -> Option<Command<'a>>
+    ensures { option_map asked_of result ≡ with_two_and_number roster (map (λ text. text.now) arguments.now) }
+{
+    match arguments {
+        [game, report, seed] => Some(Command::Roster {
+            game: *game,
+            report: *report,
+            seed: number(*seed),
+        }),
+        _ => None,
+    }
+}
+
 /// The command of this name with these arguments.
 fn command_with<'a>(name: &str, arguments: &[&'a str]) -> Option<Command<'a>>
     ensures { option_map asked_of result ≡ asked_by name.now (map (λ text. text.now) arguments.now) }
@@ -69,6 +94,7 @@ fn command_with<'a>(name: &str, arguments: &[&'a str]) -> Option<Command<'a>>
         "solve" => solve(arguments),
         "check" => check(arguments),
         "show" => show(arguments),
+        "roster" => roster(arguments),
         _ => None,
     }
 }

@@ -1,7 +1,7 @@
-use Rattle.std.proofs.Common.{Some, sym, ◌∙◌, ap}
+use Rattle.std.proofs.Common.{Some, refl, sym, ◌∙◌, ap}
 use Rattle.std.specs.Option.{option_map}
 use Rattle.sg_words.specs.Commands as commands
-use Rattle.sg_cli.proofs.CommandStatus.{comes, does, kept_first}
+use Rattle.sg_cli.proofs.CommandStatus.{comes, does, kept_first, kept_late}
 use Rattle.sg_cli.proofs.call.run_command.Goals as goal
 
 pub returns-in-Ok-Some-Solve-clause-ok : goal.returns-in-Ok-Some-Solve-clause-ok
@@ -36,3 +36,15 @@ returns-in-Ok-Some-Check-clause-kept g c = kept_first c.check_named.result _ _ c
 
 pub returns-in-Ok-Some-Show-clause-kept : goal.returns-in-Ok-Some-Show-clause-kept
 returns-in-Ok-Some-Show-clause-kept g c = kept_first c.show_named.result _ _ c.show_named.ensures.kept
+
+pub returns-in-Ok-Some-Roster-clause-ok : goal.returns-in-Ok-Some-Roster-clause-ok
+returns-in-Ok-Some-Roster-clause-ok g c =
+    does _ (commands.roster c.in-Ok-Some-Roster.game.now c.in-Ok-Some-Roster.report.now c.in-Ok-Some-Roster.seed) (sym c.in-Ok-Some-Roster.ensures.answer ∙ ap (option_map commands.asked_of) (c.in-Ok-Some-Roster.field-0-is ∙ ap Some c.in-Ok-Some-Roster.field-0-0-is)) c.roster_named.result c.roster_named.ensures.ok
+
+pub returns-in-Ok-Some-Roster-clause-err : goal.returns-in-Ok-Some-Roster-clause-err
+returns-in-Ok-Some-Roster-clause-err g c =
+    comes _ (commands.roster c.in-Ok-Some-Roster.game.now c.in-Ok-Some-Roster.report.now c.in-Ok-Some-Roster.seed) (sym c.in-Ok-Some-Roster.ensures.answer ∙ ap (option_map commands.asked_of) (c.in-Ok-Some-Roster.field-0-is ∙ ap Some c.in-Ok-Some-Roster.field-0-0-is)) c.roster_named.result c.roster_named.ensures.err
+
+pub returns-in-Ok-Some-Roster-clause-kept : goal.returns-in-Ok-Some-Roster-clause-kept
+returns-in-Ok-Some-Roster-clause-kept g c =
+    kept_late (commands.roster c.in-Ok-Some-Roster.game.now c.in-Ok-Some-Roster.report.now c.in-Ok-Some-Roster.seed) _ (sym c.in-Ok-Some-Roster.ensures.answer ∙ ap (option_map commands.asked_of) (c.in-Ok-Some-Roster.field-0-is ∙ ap Some c.in-Ok-Some-Roster.field-0-0-is)) refl c.roster_named.result _ c.roster_named.ensures.kept
