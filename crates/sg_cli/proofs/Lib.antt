@@ -8,7 +8,7 @@ pub mod Outcomes
 pub mod Pairs
 pub mod Progress
 pub mod RosterStatus
-pub mod Rostering
+pub mod RosterStops
 pub mod SmallNumbers
 pub mod SolvingStatus
 pub mod Stopping

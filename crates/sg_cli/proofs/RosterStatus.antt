@@ -21,7 +21,7 @@ use Rattle.sg_cli.specs.declared.refusal.CommandRefusal.{CommandRefusal}
 use Rattle.sg_cli.specs.declared.refusal.CommandRefusal.TheVariants.{NotYet, ReportWrong, RosterTooLong}
 use Rattle.sg_cli.proofs.JudgingStatus.{one_judging}
 use Rattle.sg_cli.proofs.OneStatus.{IsOne, just}
-use Rattle.sg_cli.proofs.Rostering.{refuses_so, starts, takes_one}
+use Rattle.sg_cli.proofs.RosterStops.{refuses_so, starts, takes_one}
 
 -- ---- one condition for another
 

@@ -26,7 +26,7 @@ struct Ordered {
 }
 
 /// The tickets of an accepted report in the order of a seed, where they are no more than a roster may have days.
-fn ordered(alloc: Global, pair: Accepted, seed: u64) -> Result<Ordered, Refusal>
+fn in_order(alloc: Global, pair: Accepted, seed: u64) -> Result<Ordered, Refusal>
     requires { IsJudged pair.game pair.report }
     ensures ok { IfOk result (λ o. HasOrder pair.game pair.report seed o.game o.tickets o.days.items) }
     ensures err { IfErr result (OrderFails pair.report) }
@@ -47,7 +47,7 @@ fn ordered(alloc: Global, pair: Accepted, seed: u64) -> Result<Ordered, Refusal>
 }
 
 /// The tickets of the report in the one file on the game in the other, in the order of a seed.
-fn ordered_named<S: Shelf>(
+fn in_order_named<S: Shelf>(
     alloc: Global,
     name: &str,
     report: &str,
@@ -63,7 +63,7 @@ fn ordered_named<S: Shelf>(
         Ok(pair) => pair,
         Err(refusal) => return Err(refusal),
     };
-    match ordered(alloc, pair, seed) {
+    match in_order(alloc, pair, seed) {
         Ok(ordered) => Ok(ordered),
         Err(refusal) => Err(refusal),
     }
@@ -87,7 +87,7 @@ pub(crate) fn roster_named<S: Shelf, O: Sink>(
     ensures err { IfErr result (Fails S.hands_over (rostering name.now report.now seed)
         (surroundings (S.state shelf.old) (O.state out.old)) (surroundings (S.state shelf.new) (O.state out.new))) }
 {
-    let ordered = match ordered_named(alloc, name, report, seed, shelf) {
+    let ordered = match in_order_named(alloc, name, report, seed, shelf) {
         Ok(ordered) => ordered,
         Err(refusal) => return Err(refusal),
     };

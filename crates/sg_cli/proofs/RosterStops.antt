@@ -1,15 +1,26 @@
 -- What the steps of `roster` come of in the whole run.
-use Rattle.std.proofs.Common.{◌≡◌, ℕ, ℤ, ◌+◌, ◌<◌, ◌≤◌, List, [], ◌∷◌, ◌++◌, length, length-append, Option, refl, sym, ◌∙◌, ap, subst, arith, inl, inr}
+use Rattle.std.proofs.Common.{◌≡◌, ℕ, suc, ℤ, ◌+◌, ◌<◌, ◌≤◌, List, [], ◌∷◌, ◌++◌, length, length-append, Option, Result, Ok, Err, refl, sym, ◌∙◌, ap, subst, arith, inl, inr}
+use Rattle.std.specs.Prelude.{All, IsPermutation, Vec}
+use Rattle.std.specs.declared.alloc.Global.{Global}
+use Rattle.sg_model.specs.Commitments.{AreLegal}
 use Rattle.sg_model.specs.Games.{Game}
+use Rattle.sg_bounds.specs.Accepted.{IsAccepted}
+use Rattle.sg_commit.specs.Committed.{Committed}
+use Rattle.sg_roster.specs.Days.{days_of}
 use Rattle.sg_shelf.specs.Files.{Files, HandsOver}
 use Rattle.sg_shelf.specs.States.{ShelfState}
+use Rattle.sg_tickets.specs.Expansion.{IsLongTotal, places_of}
+use Rattle.sg_tickets.specs.ExpansionLaws.{ArePositive}
+use Rattle.sg_tickets.specs.declared.expansion.LongFault.{LongFault}
+use Rattle.sg_tickets.specs.declared.expansion.LongFault.TheVariants as LongFault
+use Rattle.sg_tickets.proofs.Facts.{days_cover_as_tickets}
 use Rattle.sg_tree.specs.declared.report.Report.{Report}
 use Rattle.sg_cli.specs.Inputs.{Content, Hold, Input, game, game_file, report, report_file}
 use Rattle.sg_cli.specs.Commands.{Plan, TakesBefore}
 use Rattle.sg_cli.specs.Effects.{Stops}
 use Rattle.sg_cli.specs.Judging.{judging, refuses_wrong, takes_accepted}
 use Rattle.sg_cli.specs.Progress.{HasRead, ReachesInput}
-use Rattle.sg_cli.specs.RosterSteps.{OrderFails}
+use Rattle.sg_cli.specs.RosterSteps.{HasOrder, OrderFails}
 use Rattle.sg_cli.specs.Rostering.{HasLongTotal, IsRostered, refuses_unrostered, rostering_plan}
 use Rattle.sg_cli.specs.declared.refusal.CommandRefusal.{CommandRefusal}
 use Rattle.sg_cli.specs.declared.refusal.CommandRefusal.TheVariants.{NotYet, ReportWrong, RosterTooLong}
@@ -44,6 +55,31 @@ refuses_so contents NotYet h = h
 refuses_so contents (ReportWrong line reason) h = h
 refuses_so contents (RosterTooLong total) h = absurd (no_total contents total h)
 
+-- ---- the order of the tickets
+
+module _ (g : Game) (r : Report) (seed : ℕ) (k : Committed) (days : List ℕ) where
+  pub has_order : k ≡ record { tickets = r.tickets.tickets; total = r.tickets.total } → IsAccepted g r → ¬ (IsLongTotal k.total) → days ≡ days_of k.tickets seed
+      → All (λ i. i < length k.tickets) days → IsPermutation (places_of k.tickets) days → HasOrder g r seed g k days
+  has_order of accepted few ordered known permutation =
+      let tickets : k.tickets ≡ r.tickets.tickets = ap (λ (c : Committed). c.tickets) of in
+      let total : k.total ≡ r.tickets.total = ap (λ (c : Committed). c.total) of in
+      let legal : AreLegal g k.tickets = subst (AreLegal g) (sym tickets) accepted.tickets.legal in
+      let positive : ArePositive k.tickets = subst ArePositive (sym tickets) accepted.tickets.positive in
+      record {
+        same = refl;
+        tickets = tickets;
+        few = λ long. few (subst IsLongTotal (sym total) long);
+        ordered = ordered;
+        legal = legal;
+        known = known;
+        permutation = permutation;
+        covers = days_cover_as_tickets g k.tickets days positive legal permutation;
+      }
+
+-- tickets that have an order are not too many
+pub not_long : (long : Type 0) (total : ℤ) (days : Vec ℕ Global) (result : Result (Vec ℕ Global) LongFault) → (long → result ≡ Err (LongFault.TooLong total)) → result ≡ Ok days → ¬ long
+not_long long total days result h is yet = let both : ◌≡◌ {A = Result (Vec ℕ Global) LongFault} (Err (LongFault.TooLong total)) (Ok days) = sym (h yet) ∙ is in cc
+
 -- ---- a run that `check` stops
 
 module _ (hands : HandsOver) (name named : List ℕ) where
@@ -52,7 +88,7 @@ module _ (hands : HandsOver) (name named : List ℕ) where
   as_many files [] [] h = refl
   as_many files [] (content ∷ contents) h = absurd h
   as_many files (input ∷ inputs) [] h = absurd h
-  as_many files (input ∷ inputs) (content ∷ contents) h = ap (λ (n : ℕ). 1 + n) (as_many files inputs contents h.1)
+  as_many files (input ∷ inputs) (content ∷ contents) h = ap suc (as_many files inputs contents h.1)
 
   -- what was read of two files
   at_most_two : (files : Option Files) (front rest : List Input) (contents : List Content) → (judging name named).inputs ≡ front ++ rest → Hold hands files front contents → length contents + length rest ≡ 2
