@@ -20,7 +20,8 @@ use Rattle.sg_cli.specs.Commands.{Plan, TakesBefore}
 use Rattle.sg_cli.specs.Effects.{Stops}
 use Rattle.sg_cli.specs.Judging.{judging, refuses_wrong, takes_accepted}
 use Rattle.sg_cli.specs.Progress.{HasRead, ReachesInput}
-use Rattle.sg_cli.specs.RosterSteps.{HasOrder, OrderFails}
+use Rattle.sg_cli.specs.RosterSteps.{HasOrder, HasRoster, OrderFails}
+use Rattle.sg_cli.specs.Steps.{HasAccepted}
 use Rattle.sg_cli.specs.Rostering.{HasLongTotal, IsRostered, refuses_unrostered, rostering_plan}
 use Rattle.sg_cli.specs.declared.refusal.CommandRefusal.{CommandRefusal}
 use Rattle.sg_cli.specs.declared.refusal.CommandRefusal.TheVariants.{NotYet, ReportWrong, RosterTooLong}
@@ -163,3 +164,24 @@ module _ (hands : HandsOver) (name named : List ℕ) where
         }
     stops_ordering first whole NotWritten h = absurd h
     stops_ordering first whole Memory h = all_read hands a b (game_file name ∷ report_file named ∷ []) (game g ∷ report r ∷ []) read
+
+  -- one that gets them
+  pub roster_of : (seed : ℕ) (a b : ShelfState) (first : Game) (r : Report) (g : Game) (k : Committed) (days : List ℕ) → HasAccepted hands (judging name named) a b first r → HasOrder first r seed g k days
+      → HasRoster hands name named seed a b g k days
+  roster_of seed a b first r g k days h o =
+      record {
+        of = r;
+        read = subst (λ (x : Game). HasRead hands a b (game_file name ∷ report_file named ∷ []) (game x ∷ report r ∷ [])) (sym o.same) h.read;
+        first = subst (λ (x : Game). IsRostered (game x ∷ [])) (sym o.same) (takes_one (game first) h.is_checked);
+        whole = subst (λ (x : Game). IsRostered (game x ∷ report r ∷ [])) (sym o.same) (record { accepted = h.judged; few = λ total long. o.few (subst IsLongTotal (sym long.0) long.1) });
+        order = record {
+          same = refl;
+          tickets = o.tickets;
+          few = o.few;
+          ordered = o.ordered;
+          legal = o.legal;
+          known = o.known;
+          permutation = o.permutation;
+          covers = o.covers;
+        };
+      }
