@@ -3,26 +3,29 @@ use Rattle.std.proofs.Common.{◌≡◌, ℕ, suc, ℤ, ◌+◌, ◌<◌, ◌≤
 use Rattle.std.specs.Prelude.{All, IsPermutation, Vec}
 use Rattle.std.specs.declared.alloc.Global.{Global}
 use Rattle.sg_model.specs.Commitments.{AreLegal}
+use Rattle.sg_model.specs.declared.ticket.Ticket.{Ticket}
 use Rattle.sg_model.specs.Games.{Game}
 use Rattle.sg_bounds.specs.Accepted.{IsAccepted}
 use Rattle.sg_commit.specs.Committed.{Committed}
 use Rattle.sg_roster.specs.Days.{days_of}
+use Rattle.sg_roster.specs.Rows.{roster_text}
 use Rattle.sg_shelf.specs.Files.{Files, HandsOver}
-use Rattle.sg_shelf.specs.States.{ShelfState}
+use Rattle.sg_shelf.specs.States.{ShelfState, SinkState}
+use Rattle.sg_shelf.specs.Taken.{TakesFront}
 use Rattle.sg_tickets.specs.Expansion.{IsLongTotal, places_of}
-use Rattle.sg_tickets.specs.ExpansionLaws.{ArePositive}
+use Rattle.sg_tickets.specs.ExpansionLaws.{ArePositive, CoverAsTickets}
 use Rattle.sg_tickets.specs.declared.expansion.LongFault.{LongFault}
 use Rattle.sg_tickets.specs.declared.expansion.LongFault.TheVariants as LongFault
 use Rattle.sg_tickets.proofs.Facts.{days_cover_as_tickets}
 use Rattle.sg_tree.specs.declared.report.Report.{Report}
 use Rattle.sg_cli.specs.Inputs.{Content, Hold, Input, game, game_file, report, report_file}
 use Rattle.sg_cli.specs.Commands.{Plan, TakesBefore}
-use Rattle.sg_cli.specs.Effects.{Stops}
+use Rattle.sg_cli.specs.Effects.{IsCutShort, Stops, Writes, surroundings}
 use Rattle.sg_cli.specs.Judging.{judging, refuses_wrong, takes_accepted}
 use Rattle.sg_cli.specs.Progress.{HasRead, ReachesInput}
 use Rattle.sg_cli.specs.RosterSteps.{HasOrder, HasRoster, OrderFails}
 use Rattle.sg_cli.specs.Steps.{HasAccepted}
-use Rattle.sg_cli.specs.Rostering.{HasLongTotal, IsRostered, refuses_unrostered, rostering_plan}
+use Rattle.sg_cli.specs.Rostering.{HasLongTotal, IsRoster, IsRostered, refuses_unrostered, rostering, rostering_plan}
 use Rattle.sg_cli.specs.declared.refusal.CommandRefusal.{CommandRefusal}
 use Rattle.sg_cli.specs.declared.refusal.CommandRefusal.TheVariants.{NotYet, ReportWrong, RosterTooLong}
 use Rattle.sg_cli.specs.declared.refusal.Refusal.{Refusal}
@@ -185,3 +188,30 @@ module _ (hands : HandsOver) (name named : List ℕ) where
           covers = o.covers;
         };
       }
+
+  -- ---- what is written
+
+  module _ (seed : ℕ) (a b : ShelfState) (g : Game) (k : Committed) (days : List ℕ) (h : HasRoster hands name named seed a b g k days) where
+    is_roster : IsRoster g h.of.tickets.tickets seed (roster_text g k.tickets days)
+    is_roster =
+        let o = h.order in
+        let same : days ≡ days_of h.of.tickets.tickets seed = o.ordered ∙ ap (λ (tickets : List Ticket). days_of tickets seed) o.tickets in
+        record {
+          written = ap (λ (tickets : List Ticket). roster_text g tickets days) o.tickets ∙ ap (roster_text g h.of.tickets.tickets) same;
+          permutation = subst (λ (tickets : List Ticket). IsPermutation (places_of tickets) (days_of tickets seed)) o.tickets (subst (IsPermutation (places_of k.tickets)) o.ordered o.permutation);
+          covers = subst (λ (tickets : List Ticket). CoverAsTickets g tickets (days_of tickets seed)) o.tickets (subst (CoverAsTickets g k.tickets) o.ordered o.covers);
+        }
+
+    pub writes_roster_of : Writes hands (rostering name named seed) a b 0 (roster_text g k.tickets days)
+    writes_roster_of = record { contents = game g ∷ report h.of ∷ []; read = h.read; took = (starts, (h.first, tt)); takes = h.whole; ends = refl; writes = is_roster }
+
+    -- of which a front was taken
+    pub cut_short : (before after : SinkState) (list : List ℕ) → list ≡ days → TakesFront before.bytes after.bytes (roster_text g k.tickets list)
+        → IsCutShort hands (rostering name named seed) (surroundings a before) (surroundings b after)
+    cut_short before after list same taken =
+        record {
+          status = 0;
+          text = roster_text g k.tickets days;
+          writes = writes_roster_of;
+          taken = subst (λ (l : List ℕ). TakesFront before.bytes after.bytes (roster_text g k.tickets l)) same taken;
+        }
