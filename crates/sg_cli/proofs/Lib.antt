@@ -7,6 +7,7 @@ pub mod OneStatus
 pub mod Outcomes
 pub mod Pairs
 pub mod Progress
+pub mod RosterPairs
 pub mod RosterStatus
 pub mod RosterStops
 pub mod SmallNumbers

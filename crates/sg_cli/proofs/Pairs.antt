@@ -36,16 +36,16 @@ no_cover g r a =
     ap (λ t. node_has_cover (node_of t)) a.is_right.tree ∙ ap node_has_cover (node_of-Closed (Water a.is_right.level a.is_right.why)) in
     rw a.is_right.caps tree
 
-judged : (g : Game) → IsGame g → (r : Report) → IsAnswer g r → IsJudged g r
+pub judged : (g : Game) → IsGame g → (r : Report) → IsAnswer g r → IsJudged g r
 judged g is r a = record { is_checkable = no_cover g r a; accepted = a.is_right.accepted; means = accepted_means g is r a.is_right.accepted }
 
 -- ---- what is due for it
 
 module _ (files : Files) (name named : List ℕ) (w : IsWritten files name named) where
-  says_game : IsHandedAs any_bytes (Some files) (game_file name) (Ok (game w.solved))
+  pub says_game : IsHandedAs any_bytes (Some files) (game_file name) (Ok (game w.solved))
   says_game = record { bytes = w.bytes; handed = tt; reads = w.reads; holds = ap (held_as game faults.Game) w.says }
 
-  says_report : IsGame w.solved → IsHandedAs any_bytes (Some files) (report_file named) (Ok (report w.answer.report))
+  pub says_report : IsGame w.solved → IsHandedAs any_bytes (Some files) (report_file named) (Ok (report w.answer.report))
   says_report is =
       let le : length w.text ≤ 536870912 = omega (arith, ap length w.answer.written, short w.solved is w.answer.report w.answer.answer) in
       let reads : report_of w.text ≡ Ok w.answer.report = ap report_of w.answer.written ∙ whole_again w.answer.report w.answer.answer.in_ranges in

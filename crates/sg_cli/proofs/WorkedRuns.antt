@@ -1,5 +1,5 @@
 -- Runs worked out by hand, by computing.
-use Rattle.std.proofs.Common.{◌≡◌, ℕ, ◌+◌, ◌/◌, ◌%◌, ◌<◌, ◌≤◌, List, [], ◌∷◌, ◌++◌, length, decimal, codes, Option, Some, None, IsSomeAnd, false, Ok, Err, refl, sym, ◌∙◌, ap, subst, arith, inl, inr}
+use Rattle.std.proofs.Common.{◌≡◌, ℕ, ◌+◌, ◌/◌, ◌%◌, ◌<◌, ◌≤◌, ◌^◌, List, [], ◌∷◌, ◌++◌, length, decimal, codes, Option, Some, None, IsSomeAnd, false, Ok, Err, refl, sym, ◌∙◌, ap, subst, arith, inl, inr}
 use Rattle.std.proofs.lemmas.Fmt.{decimal_digit, decimal_step}
 use Rattle.sg_model.specs.declared.fault.GameFault.{GameFault}
 use Rattle.sg_model.specs.Games.{Game}
@@ -34,6 +34,19 @@ two_digits : (n : ℕ) → 10 ≤ n → n < 100 → decimal n ≡ (48 + n / 10) 
 two_digits n low high =
     decimal_step n low (omega (arith, high)) ∙ ap (λ (front : List ℕ). front ++ (48 + n % 10) ∷ []) (decimal_digit (n / 10) (omega (arith, high)))
 
+-- the last digit comes behind the others
+last_digit : (n : ℕ) (front : List ℕ) → 10 ≤ n → n < 2 ^ 64 → decimal (n / 10) ≡ front → decimal n ≡ front ++ (48 + n % 10) ∷ []
+last_digit n front low high is = decimal_step n low high ∙ ap (λ (f : List ℕ). f ++ (48 + n % 10) ∷ []) is
+
+million_and_one : decimal 1000001 ≡ codes "1000001"
+million_and_one =
+    let ten : decimal 10 ≡ codes "10" = last_digit 10 (codes "1") (omega arith) (omega arith) (decimal_digit 1 (omega arith)) in
+    let hundred : decimal 100 ≡ codes "100" = last_digit 100 (codes "10") (omega arith) (omega arith) ten in
+    let thousand : decimal 1000 ≡ codes "1000" = last_digit 1000 (codes "100") (omega arith) (omega arith) hundred in
+    let ten_thousand : decimal 10000 ≡ codes "10000" = last_digit 10000 (codes "1000") (omega arith) (omega arith) thousand in
+    let hundred_thousand : decimal 100000 ≡ codes "100000" = last_digit 100000 (codes "10000") (omega arith) (omega arith) ten_thousand in
+    last_digit 1000001 (codes "100000") (omega arith) (omega arith) hundred_thousand
+
 pub worked_refusals : WorkedRefusals
 worked_refusals =
     let one : decimal 1 ≡ 49 ∷ [] = decimal_digit 1 (omega arith) in
@@ -61,6 +74,7 @@ worked_refusals =
       report_too_long = (refl, refl);
       report_refused = (refl, rw (nine, line_23) refl);
       report_wrong = (refl, rw (six, line_18) refl);
+      roster_too_long = (refl, rw million_and_one refl);
       not_written = (refl, refl);
       memory = (refl, refl);
     }

@@ -1,6 +1,7 @@
 //! Laws about the commands together, each as the contract of a function that does nothing.
 
 ghost use Rattle.sg_cli.specs.Laws.{OneStatusIsDue, RightReportsAreShort, SolvedIsChecked};
+ghost use Rattle.sg_cli.specs.RosterLaws.{SolvedIsRostered};
 ghost use Rattle.sg_cli.specs.WorkedRuns.{WorkedChecks, WorkedLimits, WorkedRefusals};
 
 /// Told files decide one status for each command.
@@ -16,6 +17,11 @@ pub fn right_reports_are_short()
 /// What `solve` writes for a game is accepted by `check` and shown by `show`.
 pub fn solved_is_checked()
     ensures { SolvedIsChecked }
+{}
+
+/// What `solve` writes for a game gets its roster by each seed, or 8 where it has more than a million tickets.
+pub fn solved_is_rostered()
+    ensures { SolvedIsRostered }
 {}
 
 /// The status and the line of each refusal.

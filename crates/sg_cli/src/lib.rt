@@ -29,7 +29,7 @@ pub use call::run;
 pub use input::{GAME_LIMIT, InputFault, InputKind, REPORT_LIMIT};
 pub use laws::{
     checks_are_worked, limits_are_worked, one_status_is_due, refusals_are_worked,
-    right_reports_are_short, solved_is_checked,
+    right_reports_are_short, solved_is_checked, solved_is_rostered,
 };
 pub use process::run_process;
 pub use program::run_program;
