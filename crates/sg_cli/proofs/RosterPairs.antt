@@ -9,7 +9,7 @@ use Rattle.sg_cli.specs.Inputs.{game, game_file, report, report_file}
 use Rattle.sg_cli.specs.ExpectedStatus.{ByRest, ExpectedStatus}
 use Rattle.sg_cli.specs.Laws.{IsWritten}
 use Rattle.sg_cli.specs.RosterLaws.{SolvedIsRostered}
-use Rattle.sg_cli.specs.Rostering.{IsRostered, rostering}
+use Rattle.sg_cli.specs.Rostering.{rostering}
 use Rattle.sg_cli.specs.declared.refusal.CommandRefusal.TheVariants.{RosterTooLong}
 use Rattle.sg_cli.proofs.Completes.{by_said}
 use Rattle.sg_cli.proofs.Pairs.{judged, says_game, says_report}

@@ -12,15 +12,14 @@ use Rattle.sg_shelf.specs.Files.{Files, bytes_under}
 use Rattle.sg_cli.specs.Inputs.{Content, content_of, game, held_as, report, report_file}
 use Rattle.sg_cli.specs.Commands.{Command, Plan}
 use Rattle.sg_cli.specs.ExpectedStatus.{ByContent, ByFile, ByPlan, ByRest, ExpectedStatus}
-use Rattle.sg_cli.specs.Judging.{judging, refuses_wrong, takes_accepted}
-use Rattle.sg_cli.specs.Refusals.{own_status}
-use Rattle.sg_cli.specs.Rostering.{HasLongTotal, IsRostered, ends_rostered, refuses_unrostered, rostering, rostering_plan}
+use Rattle.sg_cli.specs.Judging.{judging, refuses_wrong}
+use Rattle.sg_cli.specs.Rostering.{ends_rostered, refuses_unrostered, rostering, rostering_plan}
 use Rattle.sg_cli.specs.declared.input.InputFault.TheVariants as faults
 use Rattle.sg_cli.specs.declared.input.InputKind.TheVariants as kinds
 use Rattle.sg_cli.specs.declared.refusal.CommandRefusal.{CommandRefusal}
 use Rattle.sg_cli.specs.declared.refusal.CommandRefusal.TheVariants.{NotYet, ReportWrong, RosterTooLong}
 use Rattle.sg_cli.proofs.JudgingStatus.{one_judging}
-use Rattle.sg_cli.proofs.OneStatus.{IsOne, just}
+use Rattle.sg_cli.proofs.OneStatus.{IsOne}
 use Rattle.sg_cli.proofs.RosterStops.{refuses_so, starts, takes_one}
 
 -- ---- one condition for another

@@ -1,5 +1,5 @@
 -- What the steps of `roster` come of in the whole run.
-use Rattle.std.proofs.Common.{◌≡◌, ℕ, suc, ℤ, ◌+◌, ◌<◌, ◌≤◌, List, [], ◌∷◌, ◌++◌, length, length-append, Option, Result, Ok, Err, refl, sym, ◌∙◌, ap, subst, arith, inl, inr}
+use Rattle.std.proofs.Common.{◌≡◌, ℕ, suc, ℤ, ◌+◌, ◌<◌, ◌≤◌, List, [], ◌∷◌, ◌++◌, length, length-append, Option, Result, Ok, Err, refl, sym, ◌∙◌, ap, subst, arith}
 use Rattle.std.specs.Prelude.{All, IsPermutation, Vec}
 use Rattle.std.specs.declared.alloc.Global.{Global}
 use Rattle.sg_model.specs.Commitments.{AreLegal}
@@ -15,11 +15,10 @@ use Rattle.sg_shelf.specs.Taken.{TakesFront}
 use Rattle.sg_tickets.specs.Expansion.{IsLongTotal, places_of}
 use Rattle.sg_tickets.specs.ExpansionLaws.{ArePositive, CoverAsTickets}
 use Rattle.sg_tickets.specs.declared.expansion.LongFault.{LongFault}
-use Rattle.sg_tickets.specs.declared.expansion.LongFault.TheVariants as LongFault
 use Rattle.sg_tickets.proofs.Facts.{days_cover_as_tickets}
 use Rattle.sg_tree.specs.declared.report.Report.{Report}
 use Rattle.sg_cli.specs.Inputs.{Content, Hold, Input, game, game_file, report, report_file}
-use Rattle.sg_cli.specs.Commands.{Plan, TakesBefore}
+use Rattle.sg_cli.specs.Commands.{TakesBefore}
 use Rattle.sg_cli.specs.Effects.{IsCutShort, Stops, Writes, surroundings}
 use Rattle.sg_cli.specs.Judging.{judging, refuses_wrong, takes_accepted}
 use Rattle.sg_cli.specs.Progress.{HasRead, ReachesInput}

@@ -1,15 +1,14 @@
 -- Rows as the writer of `csv` forms them, field by field.
-use Rattle.std.proofs.Common.{◌≡◌, ◌≢◌, ℕ, suc, map, slice_index, ◌+◌, ◌-◌, ◌^◌, ◌<◌, ◌≤◌, min, Bool, true, false, not, cond, ◌==◌, List, [], ◌∷◌, ◌++◌, length, Vec, sym, ◌∙◌, ap, subst, refl, arith, append_assoc, length-append}
+use Rattle.std.proofs.Common.{◌≡◌, ◌≢◌, ℕ, suc, map, slice_index, ◌+◌, ◌-◌, ◌^◌, ◌<◌, ◌≤◌, min, Bool, true, false, not, cond, ◌==◌, List, [], ◌∷◌, ◌++◌, length, sym, ◌∙◌, ap, subst, refl, arith, append_assoc, length-append}
 use Rattle.std.proofs.lemmas.Bool.Decides.{nat_tests}
 use Rattle.std.specs.Prelude.{Option, Some, None}
-use Rattle.std.specs.declared.alloc.Global.{Global}
 use Rattle.std.specs.Io.KnownBytes.{Appends, Keeps}
 use Rattle.std.proofs.lemmas.List.{append-nil}
 use Rattle.std.proofs.lemmas.Fmt.{decimal_nonempty}
 use Rattle.std.specs.Prelude.{codes, decimal}
 use Rattle.std.proofs.lemmas.List.{map-append}
 use Rattle.csv.specs.declared.writer.QuoteStyle.TheVariants as style
-use Rattle.csv.specs.Writing.{default_writer, end_text, field_text, fields_text, fields_written, has_written, is_blank, needs_quotes, next_sep, quoted, row_body, row_text, tail_text, writer_pending, writer_setup}
+use Rattle.csv.specs.Writing.{default_writer, field_text, fields_text, fields_written, has_written, is_blank, needs_quotes, next_sep, quoted, row_text, tail_text, writer_pending, writer_setup}
 use Rattle.sg_model.specs.Games.{Game, is_matrix, resource_count}
 use Rattle.sg_model.specs.Sums.{nth, numbers}
 use Rattle.sg_game.specs.Counts.{resource_name}

@@ -1,4 +1,4 @@
-use Rattle.std.proofs.Common.{Err, refl, ◌∙◌, ap, inl, inr}
+use Rattle.std.proofs.Common.{Err, refl, ap, inr}
 use Rattle.sg_cli.proofs.RosterStops.{cut_short}
 use Rattle.sg_cli.proofs.rostering.roster_named.Goals as goal
 

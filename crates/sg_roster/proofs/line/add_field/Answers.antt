@@ -1,4 +1,3 @@
-use Rattle.std.proofs.Common.{[], ◌∷◌}
 use Rattle.sg_roster.proofs.Rowed.{field_added}
 use Rattle.sg_roster.proofs.line.add_field.Goals as goal
 use Rattle.sg_roster.proofs.line.add_field.Goals.{in-Ok, in-Err}

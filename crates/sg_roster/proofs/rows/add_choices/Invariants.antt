@@ -1,6 +1,5 @@
 use Rattle.std.proofs.Common.{map}
 use Rattle.sg_model.specs.Sums.{nth, numbers}
-use Rattle.sg_game.specs.Counts.{resource_name}
 use Rattle.sg_roster.specs.Rows.{choice_name}
 use Rattle.sg_roster.specs.Writing.{AddsFields}
 use Rattle.sg_roster.proofs.rows.add_choices.Given as goal

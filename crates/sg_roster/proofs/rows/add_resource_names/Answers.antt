@@ -1,4 +1,4 @@
-use Rattle.std.proofs.Common.{◌≡◌, ◌∙◌, ℕ, List, map, ap, arith, sym, subst}
+use Rattle.std.proofs.Common.{◌≡◌, ◌∙◌, ℕ, map, ap, arith, sym, subst}
 use Rattle.sg_model.specs.Games.{resource_count}
 use Rattle.sg_model.specs.Sums.{numbers}
 use Rattle.sg_game.specs.Counts.{resource_name}

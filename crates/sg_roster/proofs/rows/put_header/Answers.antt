@@ -1,9 +1,9 @@
-use Rattle.std.proofs.Common.{◌≡◌, ◌∙◌, ◌∷◌, ℕ, List, Vec, ap, arith, drop, length, subst, sym}
-use Rattle.std.specs.Prelude.{OnErr, OnOk, decimal}
+use Rattle.std.proofs.Common.{◌≡◌, ◌∙◌, ℕ, List, Vec, ap, arith, drop, length, subst}
+use Rattle.std.specs.Prelude.{OnErr, OnOk}
 use Rattle.std.specs.declared.alloc.Global.{Global}
 use Rattle.csv.specs.Writing.{default_writer, row_text}
 use Rattle.sg_shelf.specs.Taken.{Takes, TakesFront}
-use Rattle.sg_roster.specs.Rows.{assignments, header_fields}
+use Rattle.sg_roster.specs.Rows.{header_fields}
 use Rattle.sg_roster.specs.Writing.{block_of}
 use Rattle.sg_roster.proofs.Rowed.{longer}
 use Rattle.sg_roster.proofs.Putting.{added_row, no_front}

@@ -1,4 +1,4 @@
-use Rattle.std.proofs.Common.{◌≡◌, ◌+◌, ◌∷◌, ◌++◌, ℕ, List, arith, drop, get_or, subst}
+use Rattle.std.proofs.Common.{◌+◌, ◌∷◌, ℕ, List, arith, drop, subst}
 use Rattle.std.specs.Prelude.{decimal}
 use Rattle.csv.specs.Writing.{default_writer, row_text}
 use Rattle.sg_model.specs.declared.ticket.Ticket.{Ticket}
