@@ -14,21 +14,9 @@ const ONE: Shares = &[(1, &[1])];
 
 const THREE: Shares = &[(1, &[1]), (1, &[2]), (1, &[3])];
 
-const FIVE: Shares = &[
-    (5, &[1]),
-    (4, &[2]),
-    (3, &[3]),
-    (2, &[4]),
-    (1, &[5]),
-];
+const FIVE: Shares = &[(5, &[1]), (4, &[2]), (3, &[3]), (2, &[4]), (1, &[5])];
 
-const FORTY: Shares = &[
-    (10, &[1]),
-    (9, &[2]),
-    (8, &[3]),
-    (7, &[4]),
-    (6, &[5]),
-];
+const FORTY: Shares = &[(10, &[1]), (9, &[2]), (8, &[3]), (7, &[4]), (6, &[5])];
 
 /// More than a million tickets.
 const LONG: Shares = &[(500_001, &[1]), (500_000, &[2])];
@@ -56,8 +44,16 @@ fn many() -> &'static [Case] {
     const CASES: &'static [Case] = &[
         Case(FIVE, 0, &[1, 2, 0, 0, 0, 1, 2, 1, 2, 0, 3, 3, 4, 0, 1]),
         Case(FIVE, 12_345, &[3, 0, 2, 0, 1, 0, 4, 1, 1, 2, 1, 3, 2, 0, 0]),
-        Case(FIVE, 4_294_967_296, &[1, 1, 0, 1, 3, 2, 0, 3, 4, 0, 0, 1, 0, 2, 2]),
-        Case(FIVE, u64::MAX, &[2, 0, 3, 0, 1, 2, 2, 1, 1, 0, 0, 3, 4, 1, 0]),
+        Case(
+            FIVE,
+            4_294_967_296,
+            &[1, 1, 0, 1, 3, 2, 0, 3, 4, 0, 0, 1, 0, 2, 2],
+        ),
+        Case(
+            FIVE,
+            u64::MAX,
+            &[2, 0, 3, 0, 1, 2, 2, 1, 1, 0, 0, 3, 4, 1, 0],
+        ),
         Case(
             FORTY,
             2026,
@@ -147,7 +143,13 @@ fn begins_so(alloc: Global, k: &Commitment, wanted: &[u32]) -> bool {
 fn a_million_days_are_the_most(rt: HostRuntime) -> Result<(), Fail> {
     let alloc = rt.alloc();
     let k = commitment(alloc, LONGEST)?;
-    assert!(rt; begins_so(alloc, &k, &[0, 0, 1, 0, 0, 1, 1, 1, 0, 1, 1, 1, 1, 0, 1, 1, 1, 1, 1, 1]));
+    assert!(rt;
+        begins_so(
+            alloc,
+            &k,
+            &[0, 0, 1, 0, 0, 1, 1, 1, 0, 1, 1, 1, 1, 0, 1, 1, 1, 1, 1, 1]
+        )
+    );
     assert!(rt; are_too_many(alloc, LONG, 1_000_001)?);
     assert!(rt; are_too_many(alloc, HUGE, 36_893_488_147_419_103_235)?);
     Ok(())

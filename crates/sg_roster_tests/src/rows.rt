@@ -150,7 +150,12 @@ fn front_of(text: &[u8], rows: u64) -> usize {
 }
 
 /// Whether the rows before the put with this number, and three bytes of its row, are taken where that put fails.
-fn is_cut_short(alloc: Global, game: &Game, k: &Commitment, number: u64) -> Result<bool, AllocError> {
+fn is_cut_short(
+    alloc: Global,
+    game: &Game,
+    k: &Commitment,
+    number: u64,
+) -> Result<bool, AllocError> {
     let wanted = "day,p1,p2\n1,t1,t2\n2,t2,t3\n3,t1,t3\n".as_bytes();
     let mut out = sink(alloc, number, 3)?;
     let answer = put(alloc, game, k, &[0, 2, 1], &mut out);

@@ -66,7 +66,12 @@ struct Case(
 const SEEDS: [Case; 5] = [
     Case(TWO_PATROLS, PAIRS, &["--seed", "7"], THREE_DAYS),
     Case(TWO_PATROLS, PAIRS, &["--seed=7"], THREE_DAYS),
-    Case(TWO_PATROLS, PAIRS, &[], "day,p1,p2\n1,t1,t2\n2,t2,t3\n3,t1,t3\n"),
+    Case(
+        TWO_PATROLS,
+        PAIRS,
+        &[],
+        "day,p1,p2\n1,t1,t2\n2,t2,t3\n3,t1,t3\n",
+    ),
     Case(
         TWO_PATROLS,
         PAIRS,
@@ -112,8 +117,20 @@ fn is_written(alloc: Global, case: &Case) -> Result<bool, AllocError> {
         out,
         err: "",
     };
-    let first = answers(alloc, words.as_slice(), game.as_bytes(), Some(*report), &expected)?;
-    let again = answers(alloc, words.as_slice(), game.as_bytes(), Some(*report), &expected)?;
+    let first = answers(
+        alloc,
+        words.as_slice(),
+        game.as_bytes(),
+        Some(*report),
+        &expected,
+    )?;
+    let again = answers(
+        alloc,
+        words.as_slice(),
+        game.as_bytes(),
+        Some(*report),
+        &expected,
+    )?;
     Ok(first && again)
 }
 
@@ -163,7 +180,13 @@ fn are_no_command(alloc: Global, behind: &[&str]) -> Result<bool, AllocError> {
         out: "",
         err: "words refused\n",
     };
-    answers(alloc, words.as_slice(), TWO_PATROLS.as_bytes(), Some(PAIRS), &expected)
+    answers(
+        alloc,
+        words.as_slice(),
+        TWO_PATROLS.as_bytes(),
+        Some(PAIRS),
+        &expected,
+    )
 }
 
 #[test]
@@ -188,13 +211,31 @@ const REFUSED: [Refused; 8] = [
     Refused(TWO_PATROLS, Some(PAIRS), &[1], 4, "game not read\n"),
     Refused(TWO_PATROLS, Some(PAIRS), &[2], 4, "report not read\n"),
     Refused(TWO_PATROLS, None, &[], 4, "report not read\n"),
-    Refused("version = 9\n", Some(PAIRS), &[], 6, "game refused 2 at document\n"),
-    Refused(TWO_PATROLS, Some(""), &[], 7, "report refused 2 at line 1\n"),
+    Refused(
+        "version = 9\n",
+        Some(PAIRS),
+        &[],
+        6,
+        "game refused 2 at document\n",
+    ),
+    Refused(
+        TWO_PATROLS,
+        Some(""),
+        &[],
+        7,
+        "report refused 2 at line 1\n",
+    ),
     // A report of another game.
     Refused(TWO_PATROLS, Some(NOBODY), &[], 7, "no 1 at line 3\n"),
     Refused(ALIKE, Some(ONE_TOO_MANY), &[], 7, "no 3 at line 5\n"),
     // An accepted report with too many tickets.
-    Refused(ALMOST_ALIKE, Some(ONE_TOO_MANY), &[], 8, "roster too long 1000001\n"),
+    Refused(
+        ALMOST_ALIKE,
+        Some(ONE_TOO_MANY),
+        &[],
+        8,
+        "roster too long 1000001\n",
+    ),
 ];
 
 /// Whether a roster is refused so.
@@ -206,7 +247,13 @@ fn is_refused(alloc: Global, case: &Refused) -> Result<bool, AllocError> {
         out: "",
         err,
     };
-    answers_on(alloc, &["roster", "game.toml", "report"], &mut shelf, &NO_PUT, &expected)
+    answers_on(
+        alloc,
+        &["roster", "game.toml", "report"],
+        &mut shelf,
+        &NO_PUT,
+        &expected,
+    )
 }
 
 #[test]
@@ -267,7 +314,8 @@ fn writes_a_million_days(alloc: Global) -> Result<bool, AllocError> {
     let mut out = sink_of(alloc, &[], 0)?;
     let mut err = sink_of(alloc, &[], 0)?;
     let status = run(alloc, &words, &mut shelf, &mut out, &mut err);
-    let first = b"day,p1\n1,a\n2,a\n3,b\n4,a\n5,a\n6,a\n7,b\n8,a\n9,a\n10,a\n11,a\n12,b\n".as_slice();
+    let first =
+        b"day,p1\n1,a\n2,a\n3,b\n4,a\n5,a\n6,a\n7,b\n8,a\n9,a\n10,a\n11,a\n12,b\n".as_slice();
     let last = b"999996,b\n999997,b\n999998,a\n999999,a\n1000000,b\n".as_slice();
     Ok(
         status == 0
