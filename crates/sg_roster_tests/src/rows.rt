@@ -77,17 +77,19 @@ fn sink(alloc: Global, fails: u64, keep: usize) -> Result<MemSink, AllocError> {
     MemSink::new(alloc, Vec::from_slice(alloc, &[fails])?, keep)
 }
 
-/// Whether each day has a ticket.
+/// Whether the ticket at this place is one of so many.
+fn is_place(place: u32, count: usize) -> bool
+    ensures { IsTrue result → place < count }
+{
+    (place as usize) < count
+}
+
+/// Whether each day has one of the tickets.
 fn are_places(k: &Commitment, days: &[u32]) -> bool
     ensures { IsTrue result → All (λ i. i < length k.now.tickets) days.now }
 {
     let count = k.tickets().len();
-    for place in days {
-        if *place as usize >= count {
-            return false;
-        }
-    }
-    true
+    days.iter().all(|place| is_place(*place, count))
 }
 
 /// Puts the rows of legal tickets.
