@@ -1,8 +1,8 @@
 #!/usr/bin/env python3
 """Times a pricing pass of the proved listed family, and the making of its tables.
 
-The game has 4,096 legal plays and 200 targets, and one type, which is fixed to an action: 12 resources with one schedule each, as many as a game of
-4,096 plays can have (each further one would double them), and schedules that part the targets among them. 20 multipliers are above 0, of some 70 to
+The game has 4,096 legal plays, 32 resources and 200 targets, and one type, which is fixed to an action: 12 resources with one schedule each, as many as a
+game of 4,096 plays can have (each further one would double them), 20 without schedules, and schedules that part the targets among them. 20 multipliers are above 0, of some 70 to
 90 bits, and no play enters, so a pass tests all plays. Builds a proved program over `sg_dobss`; without arguments it makes the tables `TABLES` times,
 with one argument it makes them once and prices `PASSES` times. Prints the milliseconds of each (least of five runs, of the processor, the start of the
 process among them) and the greatest memory of a process. `rt` has to be there.
@@ -46,6 +46,9 @@ fn text(alloc: Global) -> Result<String, AllocError> {{
     }}
     for s in 0..12u16 {{
         text.push_str(format!(in alloc; "[[resource]]\\nname = \\"r{{s}}\\"\\nschedules = [\\"s{{s}}\\"]\\n")?.as_str())?;
+    }}
+    for r in 12..32u16 {{
+        text.push_str(format!(in alloc; "[[resource]]\\nname = \\"r{{r}}\\"\\nschedules = []\\n")?.as_str())?;
     }}
     text.push_str("[[type]]\\nname = \\"thief\\"\\nprior = 7\\npayoffs = [")?;
     for t in 0..200u16 {{

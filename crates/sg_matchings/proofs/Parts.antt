@@ -14,7 +14,7 @@ use Rattle.sg_matchings.specs.Tables.{cell, HasLineSum, IsPerfectMatching}
 use Rattle.sg_matchings.specs.Matchings.{AreMatched}
 use Rattle.sg_matchings.specs.Padding.{AreWithin, IsPadded, row_total, column_total}
 use Rattle.sg_matchings.specs.Decompositions.{IsDecomposition, IsMatching, positive_counts, cell_weight}
-use Rattle.sg_matchings.specs.Mirrors.{IsFront, IsMirrored, IsOnce, IsStep, IsTurned, positive_cells}
+use Rattle.sg_matchings.specs.Mirrors.{IsFront, IsMirrored, IsOnce, IsMatchingStep, IsTurned, positive_cells}
 use Rattle.sg_matchings.proofs.Counts.{occurrences-set}
 use Rattle.sg_matchings.proofs.Places.{sum_below-same, sum_below-nonnegative}
 use Rattle.sg_matchings.proofs.PaddedSums.{padded-line_sum}
@@ -98,7 +98,7 @@ front-weight : (i j : ℕ) (columns front : List ℕ) (weight : ℤ) → get_or 
 front-weight i j columns front weight e = ap (λ (x : ℕ). cond (eqb x j) weight (pos 0)) e
 
 pub parts-more : (counts : List (List ℤ)) (width : ℕ) (most : ℤ) (parts parts' : List Part) (rows rows' : List (List ℤ)) (left left' : ℤ) (columns front : List ℕ) (weight : ℤ)
-    → AreParts counts width most parts rows left → IsStep rows (record { columns = columns; weight = weight }) rows' → IsTurned (length counts) width columns → IsFront (length counts) columns front
+    → AreParts counts width most parts rows left → IsMatchingStep rows (record { columns = columns; weight = weight }) rows' → IsTurned (length counts) width columns → IsFront (length counts) columns front
     → left' ≡ left -ℤ weight → parts' ≡ parts ++ record { columns = front; weight = weight } ∷ [] → AreParts counts width most parts' rows' left'
 parts-more counts width most parts parts' rows rows' left left' columns front weight are step turned at e f =
     let full : Part = record { columns = columns; weight = weight } in

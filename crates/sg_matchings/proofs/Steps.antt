@@ -7,7 +7,7 @@ use Rattle.sg_matchings.specs.declared.part.Part.{Part}
 use Rattle.sg_linear.specs.Sums.{sum_below}
 use Rattle.sg_matchings.specs.Tables.{cell, HasLineSum}
 use Rattle.sg_matchings.specs.Decompositions.{cell_weight}
-use Rattle.sg_matchings.specs.Mirrors.{IsMirrored, IsStep, IsTurned, positive_cells}
+use Rattle.sg_matchings.specs.Mirrors.{IsMirrored, IsMatchingStep, IsTurned, positive_cells}
 use Rattle.sg_matchings.proofs.Places.{sum_below-le, sum_below-sub, sum_below-less, sum_below-once, sum_below-nonnegative, hits}
 
 -- a summand of a sum of numbers from 0 is at most the sum
@@ -21,17 +21,17 @@ member (suc n) k f lt h = elim (cases_eq k n) [
 pub cell-upto : (rows : List (List ℤ)) (sum : ℤ) → HasLineSum rows sum → (i j : ℕ) → i < length rows → j < length rows → cell rows i j ≤ℤ sum
 cell-upto rows sum table i j li lj = omega (arith, ints, member (length rows) j (λ k. cell rows i k) lj (λ k lk. table.nonnegative i k li lk), table.rows_sum i li)
 
-pub weight-upto : (rows : List (List ℤ)) (sum : ℤ) → HasLineSum rows sum → (part : Part) (rows' : List (List ℤ)) → IsStep rows part rows' → part.weight ≤ℤ sum
+pub weight-upto : (rows : List (List ℤ)) (sum : ℤ) → HasLineSum rows sum → (part : Part) (rows' : List (List ℤ)) → IsMatchingStep rows part rows' → part.weight ≤ℤ sum
 weight-upto rows sum table part rows' step =
     let i : ℕ = step.least.reached.0 in
     let lt = step.least.reached.1.0 in
     omega (arith, ints, step.least.reached.1.1, cell-upto rows sum table i (get_or part.columns i 0) lt (step.matching.within i lt))
 
-pub weight-positive : (rows : List (List ℤ)) (part : Part) (rows' : List (List ℤ)) → IsStep rows part rows' → pos 1 ≤ℤ part.weight
+pub weight-positive : (rows : List (List ℤ)) (part : Part) (rows' : List (List ℤ)) → IsMatchingStep rows part rows' → pos 1 ≤ℤ part.weight
 weight-positive rows part rows' step =
     omega (arith, ints, step.least.reached.1.1, step.matching.positive step.least.reached.0 step.least.reached.1.0)
 
-module _ (rows : List (List ℤ)) (sum : ℤ) (table : HasLineSum rows sum) (part : Part) (rows' : List (List ℤ)) (step : IsStep rows part rows') where
+module _ (rows : List (List ℤ)) (sum : ℤ) (table : HasLineSum rows sum) (part : Part) (rows' : List (List ℤ)) (step : IsMatchingStep rows part rows') where
   abbrev n : ℕ
   n = length rows
 

@@ -59,7 +59,7 @@ pub record IsLeastWeight (rows : List (List ℤ)) (columns : List ℕ) (weight :
   pub reached : (i : ℕ) × ((i < length rows) × (cell rows i (slice_index columns i) ≡ weight))
 
 -- one step: a perfect matching is taken off as often as can be
-pub record IsStep (rows : List (List ℤ)) (part : Part) (rows' : List (List ℤ)) : Type 0 where
+pub record IsMatchingStep (rows : List (List ℤ)) (part : Part) (rows' : List (List ℤ)) : Type 0 where
   pub matching : IsPerfectMatching rows part.columns
   pub least : IsLeastWeight rows part.columns part.weight
   pub less : IsLess rows part rows'
@@ -67,7 +67,7 @@ pub record IsStep (rows : List (List ℤ)) (part : Part) (rows' : List (List ℤ
 -- a part of the counts that is taken off the table, as the front of a matching that is its own mirror
 pub record IsTaken (count width : ℕ) (rows : List (List ℤ)) (part : Part) (rows' : List (List ℤ)) : Type 0 where
   pub columns : List ℕ
-  pub step : IsStep rows (record { columns = columns; weight = part.weight }) rows'
+  pub step : IsMatchingStep rows (record { columns = columns; weight = part.weight }) rows'
   pub turned : IsTurned count width columns
   pub front : IsFront count columns part.columns
 

@@ -5,7 +5,7 @@ ghost use Rattle.sg_matchings.specs.Tables.{cell, HasPositiveLineSum, IsPerfectM
 ghost use Rattle.sg_matchings.specs.Matchings.{AreMatched};
 ghost use Rattle.sg_matchings.specs.Padding.{AreWithin, IsPadded};
 ghost use Rattle.sg_matchings.specs.Decompositions.{IsDecomposition};
-ghost use Rattle.sg_matchings.specs.Mirrors.{IsFront, IsLeastWeight, IsLess, IsMirrored, IsOnce, IsStep, IsTaken, IsTurned};
+ghost use Rattle.sg_matchings.specs.Mirrors.{IsFront, IsLeastWeight, IsLess, IsMirrored, IsOnce, IsMatchingStep, IsTaken, IsTurned};
 
 use crate::augmenting::{complete, is_positive};
 use crate::mirror::mirror;
@@ -85,7 +85,7 @@ fn take_matching(
     requires mirrored { IsMirrored count width rows.old }
     requires fits { count + width < 2 ^ 64 }
     requires matched { AreMatched rows.old matched.old 0 }
-    ensures step { IfOk result (λ weight. IsStep rows.old (record { columns = matched.new; weight = weight }) rows.new) }
+    ensures step { IfOk result (λ weight. IsMatchingStep rows.old (record { columns = matched.new; weight = weight }) rows.new) }
     ensures turned { IfOk result (λ weight. IsTurned count width matched.new) }
 {
     complete(alloc, rows, matched)?;

@@ -1,1 +1,4 @@
+pub mod Examples
+pub mod Rests
+pub mod Tops
 pub mod TreeSteps

@@ -2,5 +2,11 @@
 #![tactic(auto)]
 
 mod budget;
+mod examples;
+mod leaf;
+mod leaves;
+mod rest;
 
 pub use budget::{Budget, node_budget};
+pub use examples::worked_uppers;
+pub use leaves::upper;
