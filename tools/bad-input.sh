@@ -41,6 +41,10 @@ expect 2 'words refused' solve -x "$game"
 expect 2 'words refused' check "$game"
 expect 2 'words refused' show "$game" "$game" "$game"
 expect 2 'words refused' solve $'\377'
+for words in '--seed=3 --seed=3' '--seed 3 --seed 3' '--seed -1' '--seed=-1' '--seed 01' '--seed=' '--seed' '--see 3' '--seed 18446744073709551616' '-s 3' '3'; do
+  # shellcheck disable=SC2086
+  expect 2 'words refused' roster "$game" "$game" $words
+done
 expect 4 'game not read' solve missing.toml
 expect 4 'game not read' solve folder
 expect 5 'game too long' solve long.toml
@@ -54,7 +58,7 @@ expect 3 'not yet' solve "$top/examples/inspection.toml"
 
 "$program" solve "$game" >right.report
 sed 's/^value 2 3/value 1 1/' right.report >wrong.report
-for command in check show; do
+for command in check show roster; do
   expect 4 'game not read' "$command" missing.toml missing.report
   expect 6 'game refused 3 at document' "$command" empty.toml missing.report
   expect 3 'not yet' "$command" "$top/examples/two-attackers.toml" missing.report

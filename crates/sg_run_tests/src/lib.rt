@@ -10,6 +10,8 @@ mod faults;
 #[cfg(test)]
 mod reports;
 #[cfg(test)]
+mod rosters;
+#[cfg(test)]
 mod scenes;
 #[cfg(test)]
 mod solving;

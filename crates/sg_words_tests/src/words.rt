@@ -1,7 +1,7 @@
 //! The words of a call, and the commands that they give.
 use sg_words::{
     Command, Kind, Setting, Usage, command_of, number, read_words, refused_words, words_give,
-    worked_words,
+    worked_rosters, worked_words,
 };
 use std::alloc::{AllocError, Global};
 
@@ -413,6 +413,39 @@ static TRIES: [(&[&str], Option<&[&str]>); 30] = [
     (&["game", "f", "--lanes", "best", "--order", "3"], None),
     (&["game", "f", "--lanes", "--order", "best"], None),
 ];
+
+/// The roster that these arguments ask for.
+fn roster<'a>(arguments: Option<&[&'a str]>) -> Option<Command<'a>> {
+    match arguments {
+        Some([game, report, seed]) => Some(Command::Roster {
+            game: *game,
+            report: *report,
+            seed: number(*seed),
+        }),
+        _ => None,
+    }
+}
+
+/// The first words, counted from 0, that ask for another roster.
+fn first_wrong_roster(
+    alloc: Global,
+    rows: &[(&[&str], Option<&[&str]>)],
+) -> Result<Option<usize>, AllocError> {
+    for k in 0..rows.len() {
+        let (texts, want) = rows[k];
+        if !give(alloc, &["roster"], texts, roster(want))? {
+            return Ok(Some(k));
+        }
+    }
+    Ok(None)
+}
+
+#[test]
+fn rosters_name_a_seed(rt: HostRuntime) -> Result<(), AllocError> {
+    worked_rosters();
+    assert_eq!(rt; first_wrong_roster(rt.alloc(), &LISTS)?, None);
+    Ok(())
+}
 
 /// Whether the words give these arguments of a command of the made-up table.
 fn are_read(
