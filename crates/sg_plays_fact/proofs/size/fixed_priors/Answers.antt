@@ -1,16 +1,25 @@
-use Rattle.std.proofs.Common.{◌≡◌, ◌∙◌, ℕ, ◌*◌, ◌≤◌, ◌^◌, arith, ap, pos, ℤ, ◌+ℤ◌}
-use Rattle.std.proofs.lemmas.Int.{ints}
+use Rattle.std.proofs.Common.{◌≡◌, ◌∙◌, ℕ, ◌*◌, ◌≤◌, ◌^◌, arith, ap, pos, ℤ, ◌+ℤ◌, rules, to_z, of_z}
+use Rattle.std.specs.Int.{w64}
+use Rattle.std.proofs.lemmas.Int.{ints, to_z-of_z}
 use Rattle.sg_model.specs.Games.{attacker}
-use Rattle.sg_model.specs.Sums.{total}
-use Rattle.sg_model.proofs.Sums.{total-append}
-use Rattle.sg_plays_fact.proofs.Fixes.{fixed-all, fixed-few, fixed-more}
+use Rattle.sg_plays_fact.proofs.Adding.{priors-end, priors-next}
+use Rattle.sg_plays_fact.proofs.Fixes.{fixed-few}
 use Rattle.sg_plays_fact.proofs.size.fixed_priors.Goals as goal
 
 pub overflow_add-sum : goal.overflow_add-sum
-overflow_add-sum c = ?
+overflow_add-sum c =
+    let p = c.prior-sum.result in
+    let e : to_z w64 (of_z w64 p) ≡ p = search (rules, to_z-of_z) in
+    let few = fixed-few c.args.game.now c.args.fix.now c.promises.ensures c.requires in
+    omega (arith, ints, e, c.loop-i.invariant.1, c.loop-i.invariant.2, c.prior-sum.ensures, few)
 
 pub loop-i-preserved : goal.loop-i-preserved
-loop-i-preserved c = ?
+loop-i-preserved c =
+    let p = c.prior-sum.result in
+    let e : to_z w64 (of_z w64 p) ≡ p = search (rules, to_z-of_z) in
+    let few = fixed-few c.args.game.now c.args.fix.now c.promises.ensures c.requires in
+    priors-next c.args.game.now c.args.fix.now c.loop-i.i c.type_at.result _ p _ (omega arith) c.type_at.ensures.number c.prior-sum.ensures.prior c.prior-sum.ensures.some c.prior-sum.ensures.few
+    c.loop-i.invariant.0 c.loop-i.invariant.1 c.loop-i.invariant.2 (omega (arith, ints, e, c.loop-i.invariant.1, c.loop-i.invariant.2, c.prior-sum.ensures, few))
 
 pub returns : goal.returns
-returns c = ?
+returns c = priors-end c.args.game.now c.args.fix.now c.loop-i.i _ (omega arith) c.loop-i.invariant.0
