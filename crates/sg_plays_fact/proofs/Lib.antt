@@ -5,3 +5,6 @@ pub mod Fixes
 pub mod Adding
 pub mod Ranges
 pub mod Greatests
+pub mod Formed
+pub mod Payments
+pub mod Placed

@@ -67,6 +67,20 @@ fn weigh_types(game: &Game, fix: &Fix, rho: i128, weights: &mut [i128])
     }
 }
 
+/// What covering target `t` adds to what the mark's type gets there, times the mark's multiplier.
+fn marked_part(game: &Game, mark: &Mark, t: u16) -> i128
+    requires security { is_matrix game.now ≡ false }
+    requires known_type { IsTypeOf game.now mark.now.l }
+    requires known_target { IsActionOf game.now mark.now.l t }
+    requires positive { pos 1 ≤ℤ mark.now.v }
+    requires load { (mark.now.v *ℤ attacker_most game.now) ≤ℤ pos (2 ^ 127 - 1) }
+    ensures value { result ≡ mark.now.v *ℤ ((payoff game.now mark.now.l t).ac -ℤ (payoff game.now mark.now.l t).au) }
+    ensures small { IsAtMost (pos (2 ^ 127 - 1)) result }
+{
+    game.promises();
+    mark.v * pay_added(game, mark.l, t)
+}
+
 /// Takes off what covering each target adds to a marked comparison, times its multiplier.
 fn weigh_mark(game: &Game, fix: &Fix, mark: &Mark, weights: &mut [i128])
     requires security { is_matrix game.now ≡ false }
@@ -77,14 +91,12 @@ fn weigh_mark(game: &Game, fix: &Fix, mark: &Mark, weights: &mut [i128])
     requires room { (t : ℕ) → IsCount 1 (length weights.old) t → IsAtMost (pos (2 ^ 127 - 1)) (nth weights.old t (pos 0) -ℤ (mark.now.v *ℤ mark_entry game.now fix.now t mark.now)) }
     ensures { (t : ℕ) → IsCount 1 (length weights.old) t → nth weights.new t (pos 0) ≡ nth weights.old t (pos 0) -ℤ (mark.now.v *ℤ mark_entry game.now fix.now t mark.now) }
 {
-    game.promises();
+    let _types = game.types();
     let act = act_of(game, fix, mark.l);
-    add_at(
-        weights,
-        mark.a,
-        0 - mark.v * pay_added(game, mark.l, mark.a),
-    );
-    add_at(weights, act, mark.v * pay_added(game, mark.l, act));
+    let marked = marked_part(game, mark, mark.a);
+    let fixed = marked_part(game, mark, act);
+    add_at(weights, mark.a, 0 - marked);
+    add_at(weights, act, fixed);
 }
 
 /// The weight of each target, from weights that are all 0.

@@ -1,14 +1,13 @@
-use Rattle.std.proofs.Common.{rules, ◌≡◌, ◌+ℤ◌, ◌*ℤ◌, ◌≤ℤ◌, ◌^◌, ◌↔◌, ◌++◌, ◌∷◌, [], All, IsTrue, List, ℤ, map, pos, ℕ, ◌+◌, ◌-◌, ◌*◌, ◌<◌, ◌≤◌, length, ◌/◌, ◌%◌, Bool, true, false, nat_eq, nat_lt, slice_index_or, slice_set, bit_and, bit_or, w8, w32, w64, Bor, MutBor, ◌-ℤ◌, ◌<ℤ◌, FitsSigned, to_z, of_z}
-use Rattle.sg_model.specs.Sums.{total}
-use Rattle.sg_num.specs.Exact.{Fits}
-use Rattle.sg_tree.specs.declared.fact.Line.{Line}
-use Rattle.sg_tree.specs.declared.fact.Mark.{Mark}
-use Rattle.sg_bounds.specs.Regions.{IsFix}
-use Rattle.sg_bounds.specs.Sizes.{fixed_priors, running, size_sums}
-use Rattle.sg_plays_fact.specs.Measuring.{AreMeasures}
-use Rattle.sg_plays_fact.specs.Sizing.{IsWhereAllFit}
+use Rattle.std.proofs.Common.{◌≡◌, arith, rules, of_z, to_z}
+use Rattle.std.specs.Int.{w128}
+use Rattle.std.proofs.lemmas.Int.{to_z-of_z}
+use Rattle.sg_plays_fact.proofs.Formed.{gain-formed}
 use Rattle.sg_plays_fact.proofs.size.most_gain.Goals as goal
 
--- src/size.rt:61:1
 pub returns-in-Some : goal.returns-in-Some
-returns-in-Some c = ?
+returns-in-Some c =
+    let e : to_z w128 (of_z w128 c.args.rho) ≡ c.args.rho = search (rules, to_z-of_z) in
+    let f : to_z w128 (of_z w128 c.args.priors) ≡ c.args.priors = search (rules, to_z-of_z) in
+    let k : to_z w128 (of_z w128 c.args.most) ≡ c.args.most = search (rules, to_z-of_z) in
+    let h = c.in-Some.ensures in
+    gain-formed c.multiplied-in-Some.result c.args.rho c.args.priors c.args.most _ _ _ c.in-Some.share e f k h.0 h.1 c.multiplied-in-Some.ensures

@@ -1,14 +1,12 @@
-use Rattle.std.proofs.Common.{rules, ◌≡◌, ◌+ℤ◌, ◌*ℤ◌, ◌≤ℤ◌, ◌^◌, ◌↔◌, ◌++◌, ◌∷◌, [], All, IsTrue, List, ℤ, map, pos, ℕ, ◌+◌, ◌-◌, ◌*◌, ◌<◌, ◌≤◌, length, ◌/◌, ◌%◌, Bool, true, false, nat_eq, nat_lt, slice_index_or, slice_set, bit_and, bit_or, w8, w32, w64, Bor, MutBor, ◌-ℤ◌, ◌<ℤ◌, FitsSigned, to_z, of_z}
-use Rattle.sg_model.specs.Sums.{total}
-use Rattle.sg_num.specs.Exact.{Fits}
-use Rattle.sg_tree.specs.declared.fact.Line.{Line}
-use Rattle.sg_tree.specs.declared.fact.Mark.{Mark}
-use Rattle.sg_bounds.specs.Regions.{IsFix}
-use Rattle.sg_bounds.specs.Sizes.{fixed_priors, running, size_sums}
-use Rattle.sg_plays_fact.specs.Measuring.{AreMeasures}
-use Rattle.sg_plays_fact.specs.Sizing.{IsWhereAllFit}
+use Rattle.std.proofs.Common.{◌≡◌, ◌∙◌, arith, rules, of_z, to_z}
+use Rattle.std.specs.Int.{w128}
+use Rattle.std.proofs.lemmas.Int.{ints, to_z-of_z}
+use Rattle.sg_plays_fact.proofs.Formed.{all-formed}
 use Rattle.sg_plays_fact.proofs.size.size_fits.Goals as goal
+use Rattle.sg_plays_fact.proofs.size.size_fits.Goals.{in-Plays, in-Cover}
 
--- src/size.rt:94:1
 pub returns : goal.returns
-returns c = ?
+returns c = elim c.match-fact.branch [
+  | in-Plays w ↦ ?
+  | in-Cover w ↦ ?
+]

@@ -1,22 +1,17 @@
-use Rattle.std.proofs.Common.{rules, ◌≡◌, ◌+ℤ◌, ◌*ℤ◌, ◌≤ℤ◌, ◌^◌, ◌↔◌, ◌++◌, ◌∷◌, [], All, IsTrue, List, ℤ, map, pos, ℕ, ◌+◌, ◌-◌, ◌*◌, ◌<◌, ◌≤◌, length, ◌/◌, ◌%◌, Bool, true, false, nat_eq, nat_lt, slice_index_or, slice_set, bit_and, bit_or, w8, w32, w64, Bor, MutBor, ◌-ℤ◌, ◌<ℤ◌, FitsSigned, to_z, of_z}
-use Rattle.sg_model.specs.Sums.{total}
-use Rattle.sg_num.specs.Exact.{Fits}
-use Rattle.sg_tree.specs.declared.fact.Line.{Line}
-use Rattle.sg_tree.specs.declared.fact.Mark.{Mark}
-use Rattle.sg_bounds.specs.Regions.{IsFix}
-use Rattle.sg_bounds.specs.Sizes.{fixed_priors, running, size_sums}
-use Rattle.sg_plays_fact.specs.Measuring.{AreMeasures}
-use Rattle.sg_plays_fact.specs.Sizing.{IsWhereAllFit}
+use Rattle.std.proofs.Common.{◌≡◌, arith, rules, of_z, to_z}
+use Rattle.std.specs.Int.{w128}
+use Rattle.std.proofs.lemmas.Int.{to_z-of_z}
+use Rattle.sg_plays_fact.proofs.Formed.{no-gain, no-regret, no-sum}
 use Rattle.sg_plays_fact.proofs.size.sum_fits.Goals as goal
 
--- src/size.rt:81:1
 pub returns-in-None : goal.returns-in-None
-returns-in-None c = ?
+returns-in-None c =
+    let e : to_z w128 (of_z w128 c.in-Some-Some.gain) ≡ c.in-Some-Some.gain = search (rules, to_z-of_z) in
+    let f : to_z w128 (of_z w128 c.in-Some-Some.regret) ≡ c.in-Some-Some.regret = search (rules, to_z-of_z) in
+    no-sum c.args.gain c.args.regret c.in-Some-Some.gain c.in-Some-Some.regret _ _ c.in-Some-Some.is-0 c.in-Some-Some.is-1 e f c.in-None.ensures
 
--- src/size.rt:81:1
 pub returns-in_default : goal.returns-in_default
-returns-in_default c = ?
+returns-in_default c = no-regret c.args.gain c.args.regret c.in_default.is-1
 
--- src/size.rt:81:1
 pub returns-in_default-2 : goal.returns-in_default-2
-returns-in_default-2 c = ?
+returns-in_default-2 c = no-gain c.args.gain c.args.regret c.in_default.is-0

@@ -1,17 +1,15 @@
-use Rattle.std.proofs.Common.{rules, ◌≡◌, ◌+ℤ◌, ◌-ℤ◌, ◌*ℤ◌, ◌≤ℤ◌, ◌^◌, ◌-◌, ℕ, false, length, pos, ◌+◌, ◌*◌, ◌<◌, ◌≤◌, ◌/◌, ◌%◌, Bool, true, nat_eq, nat_lt, List, [], ◌∷◌, ◌++◌, slice_index_or, slice_set, bit_and, bit_or, w8, w32, w64, Bor, MutBor, ℤ, ◌<ℤ◌, FitsSigned, to_z, of_z}
-use Rattle.sg_model.specs.Games.{attacker, is_matrix, payoff}
-use Rattle.sg_model.specs.Limits.{IsCount}
-use Rattle.sg_model.specs.Sums.{nth}
-use Rattle.sg_num.specs.Exact.{Fits, IsAtMost}
-use Rattle.sg_game.specs.Counts.{IsActionOf, IsTypeOf}
-use Rattle.sg_bounds.specs.Coverage.{column_cost, covering, where_same}
-use Rattle.sg_bounds.specs.Facts.{IsMarkOf}
-use Rattle.sg_bounds.specs.Regions.{IsFix}
-use Rattle.sg_bounds.specs.Sizes.{attacker_most, defender_most, fixed_priors}
-use Rattle.sg_plays_fact.specs.Testing.{IsSizedFact}
-use Rattle.sg_plays_fact.specs.Weighing.{mark_entry, target_weight}
+use Rattle.std.proofs.Common.{◌≡◌, ◌<◌, ◌-ℤ◌, ap, length, List, ℤ, arith, pos, slice_index_or}
+use Rattle.std.proofs.lemmas.Int.{ints}
+use Rattle.sg_model.specs.Games.{payoff}
 use Rattle.sg_plays_fact.proofs.weights.pay_added.Goals as goal
 
--- src/weights.rt:42:1
 pub returns : goal.returns
-returns c = ?
+returns c =
+    let p = payoff c.args.game.now c.args.l c.args.t in
+    let e = c.payoffs.ensures.payoffs in
+    let covered : slice_index_or c.payoffs.result 2 (pos 0) ≡ p.ac = ap (λ (xs : List ℤ). slice_index_or xs 2 (pos 0)) e in
+    let uncovered : slice_index_or c.payoffs.result 3 (pos 0) ≡ p.au = ap (λ (xs : List ℤ). slice_index_or xs 3 (pos 0)) e in
+    let count : length c.payoffs.result ≡ 4 = ap length e in
+    let h = c.payoffs.ensures.within 2 (pos 0) (omega (arith, count)) in
+    let k = c.payoffs.ensures.within 3 (pos 0) (omega (arith, count)) in
+    omega (arith, ints, c.from.ensures, covered, uncovered, h.at_least, h.at_most, k.at_least, k.at_most)
