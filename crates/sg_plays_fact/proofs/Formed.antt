@@ -16,7 +16,7 @@ use Rattle.sg_tree.specs.declared.fix.Fix.{Fix}
 use Rattle.sg_tree.specs.declared.fact.Fact.TheVariants.{Plays}
 use Rattle.sg_tree.specs.declared.fact.Mark.{Mark}
 use Rattle.sg_bounds.specs.Sizes.{attacker_most, defender_most, fixed_priors, running, size_sum, size_sums}
-use Rattle.sg_plays_fact.specs.Sizing.{IsWhereAllFit}
+use Rattle.sg_plays_fact.specs.Sizing.{IsWhereAllFit, size_numbers}
 
 All-left : (xs ys : List ℤ) → All Fits (xs ++ ys) → All Fits xs
 All-left xs ys h = subst (All Fits) (take_at xs ys (length xs) refl) (All-take Fits (length xs) (xs ++ ys) h)
@@ -93,15 +93,10 @@ no-regret gain regret b xs ys x y h k =
     let q : All Fits ys → ⊥ = subst (λ (o : Option ℤ). IsWhereAllFit o ys y) b k in
     (never, λ t. absurd (q (All-left ys ((x +ℤ y) ∷ []) (All-right xs (ys ++ (x +ℤ y) ∷ []) t))))
 
--- the numbers under a size sum
-abbrev pub numbers_under : ℤ → ℤ → ℤ → List ℤ → ℤ → List ℤ
-numbers_under rho p d vs a =
-    (rho *ℤ p) ∷ ((rho *ℤ p) *ℤ d) ∷ (running (pos 0) vs ++ ((total (λ v. v) vs *ℤ a) ∷ (((rho *ℤ p) *ℤ d) +ℤ (total (λ v. v) vs *ℤ a)) ∷ []))
-
 pub all-formed : (b : Bool) (gain regret sum : Option ℤ) (rho p d a : ℤ) (vs : List ℤ) → IsWhereAllFit gain ((rho *ℤ p) ∷ ((rho *ℤ p) *ℤ d) ∷ []) ((rho *ℤ p) *ℤ d)
     → IsWhereAllFit sum (running (pos 0) vs) (total (λ v. v) vs)
     → ((under : List ℤ) (s : ℤ) → IsWhereAllFit sum under s → IsWhereAllFit regret (under ++ (s *ℤ a) ∷ []) (s *ℤ a))
-    → SumFits b gain regret → IsTrue b ↔ All Fits (numbers_under rho p d vs a)
+    → SumFits b gain regret → IsTrue b ↔ All Fits (size_numbers rho p d vs a)
 all-formed b gain regret sum rho p d a vs h k f s =
     let under : List ℤ = running (pos 0) vs in
     let z : ℤ = total (λ v. v) vs *ℤ a in
@@ -109,6 +104,9 @@ all-formed b gain regret sum rho p d a vs h k f s =
     let ends : (under ++ z ∷ []) ++ (y +ℤ z) ∷ [] ≡ under ++ (z ∷ (y +ℤ z) ∷ []) = append_assoc under (z ∷ []) ((y +ℤ z) ∷ []) in
     subst (λ (xs : List ℤ). IsTrue b ↔ All Fits ((rho *ℤ p) ∷ y ∷ xs)) ends
     (s ((rho *ℤ p) ∷ y ∷ []) (under ++ z ∷ []) y z h (f under (total (λ v. v) vs) k))
+
+pub same-numbers : (b : Bool) (rho p d a rho' p' d' a' : ℤ) (vs : List ℤ) → rho' ≡ rho → p' ≡ p → d' ≡ d → a' ≡ a → IsTrue b ↔ All Fits (size_numbers rho' p' d' vs a') → IsTrue b ↔ All Fits (size_numbers rho p d vs a)
+same-numbers b rho p d a rho' p' d' a' vs e f h k is = subst (λ (xs : List ℤ). IsTrue b ↔ All Fits xs) (λ i. size_numbers (e i) (f i) (h i) vs (k i)) is
 
 -- ---- what a size sum that fits gives
 

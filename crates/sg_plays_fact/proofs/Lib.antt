@@ -8,3 +8,5 @@ pub mod Greatests
 pub mod Formed
 pub mod Payments
 pub mod Placed
+pub mod Coverings
+pub mod Regrets

@@ -6,9 +6,9 @@ ghost use Rattle.sg_num.specs.Exact.{Fits};
 ghost use Rattle.sg_tree.specs.declared.fact.Line.{Line};
 ghost use Rattle.sg_tree.specs.declared.fact.Mark.{Mark};
 ghost use Rattle.sg_bounds.specs.Regions.{IsFix};
-ghost use Rattle.sg_bounds.specs.Sizes.{fixed_priors, running, size_sums};
+ghost use Rattle.sg_bounds.specs.Sizes.{attacker_most, defender_most, fixed_priors, running, size_sums};
 ghost use Rattle.sg_plays_fact.specs.Measuring.{AreMeasures};
-ghost use Rattle.sg_plays_fact.specs.Sizing.{IsWhereAllFit};
+ghost use Rattle.sg_plays_fact.specs.Sizing.{IsWhereAllFit, size_numbers};
 
 use crate::fixed::type_at;
 use crate::measures::Measures;
@@ -90,18 +90,32 @@ fn sum_fits(gain: Option<i128>, regret: Option<i128>) -> bool
     }
 }
 
+/// Whether the size sum and each number under it fit, from what the total of the multipliers is.
+fn parts_fit(game: &Game, measures: &Measures, fix: &Fix, rho: i128, sum: Option<i128>) -> bool
+    requires is_fix { IsFix game.now fix.now }
+    requires measures { AreMeasures game.now measures.now }
+    ensures { (vs : List ℤ) → IsWhereAllFit sum (running (pos 0) vs) (total (λ v. v) vs) → (IsTrue result ↔ All Fits (size_numbers rho (fixed_priors game.now fix.now) (defender_most game.now) vs (attacker_most game.now))) }
+{
+    let priors = i128::from(fixed_priors(game, fix));
+    let gain = most_gain(rho, priors, measures.defender_most);
+    sum_fits(gain, most_regret(sum, measures.attacker_most))
+}
+
 /// Whether the size sum of a fact and each number under it fit 128 bits. A water level has none.
 pub fn size_fits(game: &Game, measures: &Measures, fix: &Fix, fact: &Fact) -> bool
     requires is_fix { IsFix game.now fix.now }
     requires measures { AreMeasures game.now measures.now }
     ensures { IsTrue result ↔ All Fits (size_sums game.now fix.now fact.now) }
 {
-    let (rho, total) = match fact {
-        Fact::Plays { rho, marks, .. } => (*rho, marks_total(marks.as_slice())),
-        Fact::Cover { rho, lines, .. } => (*rho, lines_total(lines.as_slice())),
-        Fact::Water { .. } => return true,
-    };
-    let priors = i128::from(fixed_priors(game, fix));
-    let gain = most_gain(rho, priors, measures.defender_most);
-    sum_fits(gain, most_regret(total, measures.attacker_most))
+    match fact {
+        Fact::Plays { rho, marks, .. } => {
+            let sum = marks_total(marks.as_slice());
+            parts_fit(game, measures, fix, *rho, sum)
+        }
+        Fact::Cover { rho, lines, .. } => {
+            let sum = lines_total(lines.as_slice());
+            parts_fit(game, measures, fix, *rho, sum)
+        }
+        Fact::Water { .. } => true,
+    }
 }
