@@ -10,3 +10,4 @@ pub mod Payments
 pub mod Placed
 pub mod Coverings
 pub mod Regrets
+pub mod Fresh
