@@ -1,9 +1,10 @@
 -- How few choices and types a game has, and its rows as plays.
-use Rattle.std.proofs.Common.{◌≡◌, ◌∙◌, ℕ, ◌+◌, ◌-◌, ◌<◌, ◌≤◌, Bool, true, false, cond, List, [], ◌∷◌, length, Option, Some, None, slice_index, ap, subst, sym, refl, arith, inl, inr}
+use Rattle.std.proofs.Common.{◌≡◌, ◌∙◌, ℕ, zero, suc, replicate, ◌+◌, ◌-◌, ◌<◌, ◌≤◌, Bool, true, false, cond, List, [], ◌∷◌, length, Option, Some, None, slice_index, ap, subst, sym, refl, arith, inl, inr}
 use Rattle.std.specs.List.{All}
 use Rattle.std.proofs.lemmas.List.Elements.{All-nil, All-weaker}
 use Rattle.sg_model.specs.Sums.{nth, numbers}
-use Rattle.sg_model.specs.Games.{Game, Named, is_matrix, resource_schedules, unnamed}
+use Rattle.std.proofs.lemmas.List.{length-replicate}
+use Rattle.sg_model.specs.Games.{Game, Named, is_matrix, resource_count, resource_schedules, unnamed}
 use Rattle.sg_model.specs.Plays.{IsLegal, IsRow}
 use Rattle.sg_model.specs.Limits.{AreListed, AreMembers, IsDefended, IsGame, is_scaled}
 use Rattle.sg_model.proofs.Numbers.{length-numbers_from}
@@ -55,3 +56,16 @@ row-legal g matrix k lt = rw matrix (record { one = refl; from_one = omega arith
 
 pub types-few : (g : Game) → IsGame g → length g.types ≤ 8
 types-few g h = elim (game_cases g h) [ inl s ↦ s.game.types.count.at_most | inr m ↦ m.game.types.count.at_most ]
+
+-- no choice at all is a legal play
+pub idle-legal : (g : Game) → is_matrix g ≡ false → IsLegal g (replicate (resource_count g) 0)
+idle-legal g security = rw security (record { one_each = length-replicate (resource_count g) 0; in_list = λ k lt. omega (arith, idle-at (resource_count g) k) })
+  where
+    idle-at : (n k : ℕ) → slice_index (replicate n 0) k ≡ 0
+    idle-at zero k = refl
+    idle-at (suc n) zero = refl
+    idle-at (suc n) (suc k) = idle-at n k
+
+-- what holds of each row's play holds of each legal play in matrix form
+pub each-row : (g : Game) (P : List ℕ → Type 0) → is_matrix g ≡ true → ((k : ℕ) → k < length g.goals → P ((k + 1) ∷ [])) → (play : List ℕ) → IsLegal g play → P play
+each-row g P matrix h play legal = rows_all g P h play (rw matrix at legal)

@@ -192,3 +192,7 @@ module _ (ws : List ℤ) (ts : List ℕ) (i x : ℕ) (c d : List Bool) (before s
     covered-room room =
         let f = rw m at next in
         subst (IsAtMost top) (omega (arith, ints, h.value, f)) (room (member (take (i + 1) ts)))
+
+pub marked-at : (xs : List Bool) (x : ℕ) → 1 ≤ x → is_marked xs x ≡ slice_index_or xs (x - 1) false
+marked-at xs zero p = absurd (omega arith)
+marked-at xs (suc j) p = let e : suc j - 1 ≡ j = omega arith in ap (λ (q : ℕ). slice_index_or xs q false) (sym e)
