@@ -11,3 +11,4 @@ pub mod Placed
 pub mod Coverings
 pub mod Regrets
 pub mod Fresh
+pub mod Choosing

@@ -35,6 +35,14 @@ fn choice_targets(game: &Game, r: u16, choice: u16) -> &[u16]
     game.schedule_targets(s)
 }
 
+/// The weight of a target.
+fn weight_of(weights: &[i128], t: u16) -> i128
+    requires { IsCount 1 (length weights.now) t }
+    ensures { result ≡ nth weights.now t (pos 0) }
+{
+    weights[t as usize - 1]
+}
+
 /// Marks the targets as covered, and tells the sum with the weights of those that weren't.
 fn cover(weights: &[i128], targets: &[u16], covered: &mut [bool], sum: i128) -> i128
     requires known { All (IsCount 1 (length weights.now)) targets.now }
@@ -48,7 +56,7 @@ fn cover(weights: &[i128], targets: &[u16], covered: &mut [bool], sum: i128) -> 
         let i = *t as usize - 1;
         if !covered[i] {
             covered[i] = true;
-            total += weights[i];
+            total += weight_of(weights, *t);
         }
     }
     total

@@ -2,10 +2,8 @@ use Rattle.std.proofs.Common.{◌≡◌, ◌∙◌, ◌<◌, ◌≤◌, ◌+◌,
 use Rattle.std.specs.Int.{w128}
 use Rattle.std.proofs.lemmas.Int.{ints, to_z-of_z}
 use Rattle.std.proofs.lemmas.List.{take_all}
-use Rattle.sg_model.specs.Sums.{nth}
 use Rattle.sg_plays_fact.specs.Searching.{HasRoom, fresh_sum, is_marked}
 use Rattle.sg_plays_fact.proofs.Fresh.{IsCoveredTo, covered-again, covered-none, covered-now, covered-room, marked-at, member}
-use Rattle.sg_plays_fact.proofs.Placed.{nth-at}
 use Rattle.sg_plays_fact.proofs.Within.{fits_between}
 use Rattle.sg_plays_fact.proofs.search.cover.Goals as goal
 use Rattle.sg_plays_fact.proofs.search.cover.Goals.{then-not-covered-i, else-not-covered-i}
@@ -23,12 +21,11 @@ overflow_add-total c =
     let before : ℤ = to_z w128 (of_z w128 c.args.sum) in
     let start : before ≡ c.args.sum = search (rules, to_z-of_z) in
     let room : HasRoom ws c.args.covered.now before = subst (HasRoom ws c.args.covered.now) (sym start) c.requires.room in
-    let w : ℤ = get_or ws (x - 1) (pos 0) in
+    let w = c.weight_of-total.result in
     let e : to_z w128 (of_z w128 w) ≡ w = search (rules, to_z-of_z) in
     let m : is_marked c.loop-t.covered x ≡ false = marked-at c.loop-t.covered x known.at_least ∙ c.if-not-covered-i.true in
     let small = covered-room ws c.args.targets.now i x c.args.covered.now c.loop-t.covered before (to_z w128 c.loop-t.total-bits) lt (λ _. x) known c.loop-t.invariant m (omega (arith, c.requires.enough, c.loop-t.auto.covered)) room in
-    let at = nth-at ws x known.at_least in
-    fits_between _ (omega (arith, ints, e, at, small.0)) (omega (arith, ints, e, at, small.1))
+    fits_between _ (omega (arith, ints, e, c.weight_of-total.ensures, small.0)) (omega (arith, ints, e, c.weight_of-total.ensures, small.1))
 
 pub loop-t-preserved : goal.loop-t-preserved
 loop-t-preserved c =
@@ -40,17 +37,16 @@ loop-t-preserved c =
     let before : ℤ = to_z w128 (of_z w128 c.args.sum) in
     let start : before ≡ c.args.sum = search (rules, to_z-of_z) in
     let room : HasRoom ws c.args.covered.now before = subst (HasRoom ws c.args.covered.now) (sym start) c.requires.room in
-    let w : ℤ = get_or ws (x - 1) (pos 0) in
-    let e : to_z w128 (of_z w128 w) ≡ w = search (rules, to_z-of_z) in
-    let at = nth-at ws x known.at_least in
     let enough : length ws ≤ length c.loop-t.covered = omega (arith, c.requires.enough, c.loop-t.auto.covered) in
     elim c.if-not-covered-i.branch [
       | then-not-covered-i b ↦ (
+          let w = b.weight_of-total.result in
+          let e : to_z w128 (of_z w128 w) ≡ w = search (rules, to_z-of_z) in
           let m : is_marked c.loop-t.covered x ≡ false = marked-at c.loop-t.covered x known.at_least ∙ b.if-not-covered-i.true in
           let small = covered-room ws c.args.targets.now i x c.args.covered.now c.loop-t.covered before (to_z w128 c.loop-t.total-bits) lt (λ _. x) known c.loop-t.invariant m enough room in
           subst (λ (d : List Bool). IsCoveredTo ws c.args.targets.now (i + 1) c.args.covered.now d before (to_z w128 c.if-not-covered-i.total-bits)) (sym b.covered-is)
           (covered-now ws c.args.targets.now i x c.args.covered.now c.loop-t.covered before (to_z w128 c.loop-t.total-bits) lt (λ _. x) known c.loop-t.invariant m enough (to_z w128 c.if-not-covered-i.total-bits)
-          (omega (arith, ints, e, at, small.0, small.1, b.total-is))))
+          (omega (arith, ints, e, b.weight_of-total.ensures, small.0, small.1, b.total-is))))
       | else-not-covered-i b ↦ (
           let m : is_marked c.loop-t.covered x ≡ true = marked-at c.loop-t.covered x known.at_least ∙ b.if-not-covered-i.false in
           subst (λ (d : List Bool). IsCoveredTo ws c.args.targets.now (i + 1) c.args.covered.now d before (to_z w128 c.if-not-covered-i.total-bits)) (sym b.covered-is)
