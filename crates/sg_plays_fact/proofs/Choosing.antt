@@ -214,3 +214,16 @@ module _ (g : Game) (ws : List ℤ) (c : List Bool) where
       let b = choices-open (k + 1) rest in
       let d = ap (λ (m : ℕ). sum_by (most_gain g ws c) (numbers_from (k + 1) m)) n in
       omega (arith, ints, le, a, b, d)
+
+-- ---- as the code reads and writes them
+
+pub cover-adds : (g : Game) (ws : List ℤ) (c d : List Bool) (k j : ℕ) (ts : List ℕ) → ts ≡ schedule_targets g (taken g (k + 1) j)
+    → ((t : ℕ) → IsCount 1 (length ws) t → is_marked d t ≡ (is_marked c t || member ts t)) → AddsTo ws c (holds g (taken g (k + 1) j)) d
+cover-adds g ws c d k j ts is h = record { each = λ t known. h t known ∙ ap (λ (xs : List ℕ). is_marked c t || member xs t) is }
+
+pub cover-value : (g : Game) (ws : List ℤ) (c : List Bool) (k j : ℕ) (ts : List ℕ) (sum' sum more : ℤ) → ts ≡ schedule_targets g (taken g (k + 1) j) → sum' ≡ sum → more ≡ sum' +ℤ fresh_sum ws c (member ts)
+    → more ≡ sum +ℤ fresh_sum ws c (holds g (taken g (k + 1) j))
+cover-value g ws c k j ts sum' sum more is e h = let same = ap (λ (xs : List ℕ). fresh_sum ws c (member xs)) is in omega (arith, ints, h, e, same)
+
+pub stays-as : (g : Game) (ws : List ℤ) (c : List Bool) (k : ℕ) (mu mu' sum sum' : ℤ) → mu' ≡ mu → sum' ≡ sum → StaysWithin g ws mu c k sum → StaysWithin g ws mu' c k sum'
+stays-as g ws c k mu mu' sum sum' e f h = subst (λ (z : ℤ). StaysWithin g ws z c k sum') (sym e) (subst (λ (z : ℤ). StaysWithin g ws mu c k z) (sym f) h)

@@ -51,7 +51,14 @@ fn plays_hold_among<const N: usize>(
     let weights = &mut room[..targets];
     weigh(game, fix, stated, marks, weights);
     let idle = idle_sum(game, measures, fix, stated, marks);
-    stays_within(game, weights, stated.mu, &[false; N], 0, idle)
+    stays_within(
+        game,
+        weights,
+        stated.mu,
+        &[false; SCALED_TARGET_LIMIT],
+        0,
+        idle,
+    )
 }
 
 /// Whether the fact's sum is at most `mu` for each legal play.

@@ -10,6 +10,7 @@ ghost use Rattle.sg_plays_fact.specs.Searching.{HasRoom, StaysWithin, fresh_sum,
 
 use crate::bounding::rest_gain;
 use sg_game::Game;
+use sg_model::limit::SCALED_TARGET_LIMIT;
 
 /// How many schedules a resource may take.
 fn choices(game: &Game, r: u16) -> u16
@@ -73,17 +74,17 @@ fn is_cut(sum: i128, most: u128, mu: i128) -> bool
 /// Whether the sum stays within `mu`, whatever the resources after the first `k` choose.
 ///
 /// A branch and bound over their choices: where the bound of what they can add keeps the sum within `mu`, none is tried.
-pub(crate) fn stays_within<const N: usize>(
+pub(crate) fn stays_within(
     game: &Game,
     weights: &[i128],
     mu: i128,
-    covered: &[bool; N],
+    covered: &[bool; SCALED_TARGET_LIMIT],
     k: u16,
     sum: i128,
 ) -> bool
     requires security { is_matrix game.now ≡ false }
     requires one_each { length weights.now ≡ length game.now.goals }
-    requires enough { length weights.now ≤ N }
+    requires enough { length weights.now ≤ SCALED_TARGET_LIMIT }
     requires few { k ≤ resource_count game.now }
     requires room { HasRoom weights.now covered.now sum }
     ensures { IsTrue result ↔ StaysWithin game.now weights.now mu covered.now k sum }
