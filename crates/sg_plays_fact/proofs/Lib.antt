@@ -12,3 +12,4 @@ pub mod Coverings
 pub mod Regrets
 pub mod Fresh
 pub mod Choosing
+pub mod Weighed
