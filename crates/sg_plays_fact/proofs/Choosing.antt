@@ -167,7 +167,7 @@ greatest-at f a [] k d h = absurd (omega arith)
 greatest-at f a (x ∷ xs) zero d h = omega (arith, greatest-first f (max a (f x)) xs)
 greatest-at f a (x ∷ xs) (suc k) d h = greatest-at f (max a (f x)) xs k d (omega arith)
 
-idle-targets : (g : Game) → schedule_targets g 0 ≡ []
+pub idle-targets : (g : Game) → schedule_targets g 0 ≡ []
 idle-targets g = by g.patrols refl
   where
     by : (o : Option ℕ) → g.patrols ≡ o → schedule_targets g 0 ≡ []

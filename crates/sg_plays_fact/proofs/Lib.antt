@@ -13,3 +13,4 @@ pub mod Regrets
 pub mod Fresh
 pub mod Choosing
 pub mod Weighed
+pub mod Affine
