@@ -14,3 +14,4 @@ pub mod Fresh
 pub mod Choosing
 pub mod Weighed
 pub mod Affine
+pub mod Rooms

@@ -24,7 +24,7 @@ use Rattle.sg_bounds.proofs.SizeBounds.{play_sums}
 use Rattle.sg_bounds.proofs.Small.{at_most-more}
 use Rattle.sg_bounds.proofs.Spans.{one-at-most}
 use Rattle.sg_plays_fact.specs.declared.stated.Stated.{Stated}
-use Rattle.sg_plays_fact.specs.Testing.{IsSizedFact, play_sum}
+use Rattle.sg_plays_fact.specs.Testing.{IsSizedFact, NonePlaysAbove, play_sum}
 use Rattle.sg_plays_fact.proofs.Formed.{has-size}
 use Rattle.sg_plays_fact.proofs.Running.{total-map}
 use Rattle.sg_plays_fact.proofs.Within.{fits_between, top, top_from_Fits}
@@ -127,3 +127,7 @@ module _ (g : Game) (game : IsGame g) (fix : Fix) (s : Stated) (marks : List Mar
     sum-top =
         let small = (play_sums g (peopled g game) fix h.is_fix s.rho s.mu h.rho marks h.marked play legal).difference in
         at_most-more _ top (play_sum g fix s.rho marks play) (top_from_Fits _ (has-size g fix s.rho s.mu marks h.size).sum) small
+
+-- as the code reads them
+pub above-as : (g : Game) (fix : Fix) (s t : Stated) (marks : List Mark) → s.rho ≡ t.rho → s.mu ≡ t.mu → NonePlaysAbove g fix s marks → NonePlaysAbove g fix t marks
+above-as g fix s t marks e f h play legal = subst (λ (z : ℤ). play_sum g fix z marks play ≤ℤ t.mu) e (subst (λ (z : ℤ). play_sum g fix s.rho marks play ≤ℤ z) f (h play legal))

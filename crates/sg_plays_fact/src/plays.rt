@@ -1,7 +1,9 @@
 //! A fact over the legal plays of a game in security form.
 
-ghost use Rattle.std.specs.Prelude.{◌≡◌, ◌↔◌, ◌≤◌, IsTrue, false, length, replicate};
+ghost use Rattle.std.specs.Prelude.{◌≡◌, ◌↔◌, ◌≤◌, ℕ, IsTrue, false, length, pos, replicate};
 ghost use Rattle.sg_model.specs.Games.{is_matrix, resource_count};
+ghost use Rattle.sg_model.specs.Limits.{IsCount};
+ghost use Rattle.sg_model.specs.Sums.{nth};
 ghost use Rattle.sg_plays_fact.specs.Measuring.{AreMeasures};
 ghost use Rattle.sg_plays_fact.specs.Testing.{IsSizedFact, NonePlaysAbove, play_sum};
 
@@ -32,23 +34,24 @@ fn idle_sum(game: &Game, measures: &Measures, fix: &Fix, stated: &Stated, marks:
     )
 }
 
-/// Whether the fact's sum is at most `mu` for each legal play of a game of at most `N` targets.
-fn plays_hold_among<const N: usize>(
+/// Whether the fact's sum is at most `mu` for each legal play; the weights of the targets, all 0 before, are formed in the room for them.
+fn plays_hold_in(
     game: &Game,
     measures: &Measures,
     fix: &Fix,
     stated: &Stated,
     marks: &[Mark],
+    weights: &mut [i128],
 ) -> bool
     requires security { is_matrix game.now ≡ false }
-    requires few { length game.now.goals ≤ N }
+    requires one_each { length weights.old ≡ length game.now.goals }
+    requires zero { (t : ℕ) → IsCount 1 (length weights.old) t → nth weights.old t (pos 0) ≡ pos 0 }
     requires measures { AreMeasures game.now measures.now }
     requires sized { IsSizedFact game.now fix.now stated.now marks.now }
     ensures { IsTrue result ↔ NonePlaysAbove game.now fix.now stated.now marks.now }
 {
-    let targets = game.targets() as usize;
-    let mut room = [0i128; N];
-    let weights = &mut room[..targets];
+    game.promises();
+    let _targets = game.targets();
     weigh(game, fix, stated, marks, weights);
     let idle = idle_sum(game, measures, fix, stated, marks);
     stays_within(
@@ -59,6 +62,43 @@ fn plays_hold_among<const N: usize>(
         0,
         idle,
     )
+}
+
+/// Whether the fact's sum is at most `mu` for each legal play of a game without a scale, which has few targets.
+fn plays_hold_of_few(
+    game: &Game,
+    measures: &Measures,
+    fix: &Fix,
+    stated: &Stated,
+    marks: &[Mark],
+) -> bool
+    requires security { is_matrix game.now ≡ false }
+    requires few { length game.now.goals ≤ TARGET_LIMIT }
+    requires measures { AreMeasures game.now measures.now }
+    requires sized { IsSizedFact game.now fix.now stated.now marks.now }
+    ensures { IsTrue result ↔ NonePlaysAbove game.now fix.now stated.now marks.now }
+{
+    let mut room = [0i128; TARGET_LIMIT];
+    let weights = &mut room[..game.targets() as usize];
+    plays_hold_in(game, measures, fix, stated, marks, weights)
+}
+
+/// Whether the fact's sum is at most `mu` for each legal play, however many targets there are.
+fn plays_hold_of_many(
+    game: &Game,
+    measures: &Measures,
+    fix: &Fix,
+    stated: &Stated,
+    marks: &[Mark],
+) -> bool
+    requires security { is_matrix game.now ≡ false }
+    requires measures { AreMeasures game.now measures.now }
+    requires sized { IsSizedFact game.now fix.now stated.now marks.now }
+    ensures { IsTrue result ↔ NonePlaysAbove game.now fix.now stated.now marks.now }
+{
+    let mut room = [0i128; SCALED_TARGET_LIMIT];
+    let weights = &mut room[..game.targets() as usize];
+    plays_hold_in(game, measures, fix, stated, marks, weights)
 }
 
 /// Whether the fact's sum is at most `mu` for each legal play.
@@ -75,8 +115,8 @@ pub(crate) fn plays_hold(
     ensures { IsTrue result ↔ NonePlaysAbove game.now fix.now stated.now marks.now }
 {
     if game.targets() as usize <= TARGET_LIMIT {
-        plays_hold_among::<TARGET_LIMIT>(game, measures, fix, stated, marks)
+        plays_hold_of_few(game, measures, fix, stated, marks)
     } else {
-        plays_hold_among::<SCALED_TARGET_LIMIT>(game, measures, fix, stated, marks)
+        plays_hold_of_many(game, measures, fix, stated, marks)
     }
 }
