@@ -1,13 +1,12 @@
 -- The sum of a fact over a play is that of the idle play and the weights of the covered targets.
-use Rattle.std.proofs.Common.{◌≡◌, ◌∙◌, ℕ, zero, suc, ◌+◌, ◌-◌, ◌<◌, ◌≤◌, ◌^◌, Bool, true, false, cond, not, ◌&&◌, ◌||◌, List, [], ◌∷◌, length, replicate, ℤ, pos, ◌+ℤ◌, ◌-ℤ◌, ◌*ℤ◌, ◌≤ℤ◌, eqb, ap, subst, sym, refl, arith, inl, inr, Option, Some, None, ◌↔◌}
+use Rattle.std.proofs.Common.{◌≡◌, ◌∙◌, ℕ, zero, suc, ◌+◌, ◌≤◌, Bool, true, false, cond, not, ◌&&◌, List, [], ◌∷◌, length, replicate, ℤ, pos, ◌+ℤ◌, ◌-ℤ◌, ◌*ℤ◌, ◌≤ℤ◌, eqb, ap, subst, sym, refl, arith, inl, inr, ◌↔◌}
 use Rattle.std.specs.Prelude.{slice_index}
 use Rattle.std.specs.List.{All, list_any}
 use Rattle.std.proofs.lemmas.Bool.{cases_eq}
 use Rattle.std.proofs.lemmas.Bool.Decides.{nat_tests}
 use Rattle.std.proofs.lemmas.Int.{ints}
-use Rattle.std.proofs.lemmas.List.{get_or-replicate, get_or_default}
 use Rattle.std.proofs.lemmas.List.Elements.{All-head, All-tail}
-use Rattle.sg_model.specs.Games.{Game, attacker, is_matrix, payoff, resource_count, resource_schedules, schedule_targets}
+use Rattle.sg_model.specs.Games.{Game, attacker, is_matrix, payoff, resource_count}
 use Rattle.sg_model.specs.Limits.{IsCount, IsGame}
 use Rattle.sg_model.specs.Payoffs.{shift_of}
 use Rattle.sg_model.specs.Plays.{IsLegal, covers, covers_from}
@@ -19,16 +18,15 @@ use Rattle.sg_num.specs.Exact.{IsAtMost}
 use Rattle.sg_tree.specs.declared.fact.Mark.{Mark}
 use Rattle.sg_tree.specs.declared.fix.Fix.{Fix}
 use Rattle.sg_bounds.specs.Coverage.{column_cost, covering, where_same}
-use Rattle.sg_bounds.specs.Facts.{IsMarkOf}
-use Rattle.sg_bounds.specs.Regions.{IsFix, act_of, fixed}
+use Rattle.sg_bounds.specs.Regions.{act_of, fixed}
 use Rattle.sg_plays_fact.specs.declared.stated.Stated.{Stated}
-use Rattle.sg_plays_fact.specs.Searching.{AreChoicesAfter, HasRoom, StaysWithin, fresh_sum, fresh_weight, is_marked}
+use Rattle.sg_plays_fact.specs.Searching.{HasRoom, StaysWithin, fresh_sum, fresh_weight, is_marked}
 use Rattle.sg_plays_fact.specs.Testing.{IsSizedFact, NonePlaysAbove, play_sum}
 use Rattle.sg_plays_fact.specs.Weighing.{mark_entry, target_weight}
 use Rattle.sg_plays_fact.proofs.Choosing.{idle-targets}
 use Rattle.sg_plays_fact.proofs.Fixes.{act_of-known}
 use Rattle.sg_plays_fact.proofs.Fresh.{single}
-use Rattle.sg_plays_fact.proofs.Weighed.{IsFixed, all-fixed, gain_where, sum_where, target-high, where-top, worth_gap, worth_where}
+use Rattle.sg_plays_fact.proofs.Weighed.{all-fixed, gain_where, sum_where, target-high, where-top, worth_gap, worth_where}
 use Rattle.sg_plays_fact.proofs.Within.{top}
 
 -- ---- sums over covered targets

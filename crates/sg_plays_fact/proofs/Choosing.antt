@@ -1,8 +1,7 @@
 -- What the choices of the resources can add: one choice, then the others, and no more than the bound.
-use Rattle.std.proofs.Common.{◌≡◌, ◌≢◌, ◌∙◌, ℕ, zero, suc, ◌+◌, ◌-◌, ◌<◌, ◌≤◌, ◌^◌, Bool, true, false, cond, not, ◌&&◌, ◌||◌, List, [], ◌∷◌, length, map, get_or, ℤ, pos, negsuc, ◌+ℤ◌, ◌-ℤ◌, ◌≤ℤ◌, eqb, ap, subst, sym, refl, arith, Option, Some, None, ◌⊎◌, inl, inr, slice_index, ◌↔◌}
-use Rattle.std.specs.Prelude.{max, IsTrue}
-use Rattle.std.specs.List.{All, fold, list_any, sum_by}
-use Rattle.std.proofs.lemmas.Bool.{false≢true}
+use Rattle.std.proofs.Common.{◌≡◌, ◌∙◌, ℕ, zero, suc, ◌+◌, ◌-◌, ◌<◌, ◌≤◌, ◌^◌, Bool, true, false, cond, not, ◌&&◌, ◌||◌, List, [], ◌∷◌, length, map, get_or, ℤ, pos, negsuc, ◌+ℤ◌, ◌≤ℤ◌, eqb, ap, subst, sym, refl, arith, Option, Some, None, ◌⊎◌, inl, inr, slice_index, ◌↔◌}
+use Rattle.std.specs.Prelude.{max}
+use Rattle.std.specs.List.{fold, list_any, sum_by}
 use Rattle.std.proofs.lemmas.Bool.Decides.{nat_tests}
 use Rattle.std.proofs.lemmas.Int.{ints}
 use Rattle.std.proofs.lemmas.List.Sums.{sum_by-cons}
@@ -11,11 +10,11 @@ use Rattle.sg_model.specs.Limits.{IsCount}
 use Rattle.sg_model.specs.Plays.{covers_from}
 use Rattle.sg_model.specs.Sums.{nth, numbers, numbers_from, positive_part, total}
 use Rattle.sg_model.proofs.Numbers.{All-numbers, once}
-use Rattle.sg_model.proofs.Sums.{total-add, total-le, total-same, total-zero}
+use Rattle.sg_model.proofs.Sums.{total-add, total-le, total-zero}
 use Rattle.sg_num.specs.Exact.{IsAtMost}
 use Rattle.sg_plays_fact.specs.Bounding.{most_gain, open_weight, rest_gain, schedule_gain}
 use Rattle.sg_plays_fact.specs.Searching.{AreChoicesAfter, HasRoom, StaysWithin, fresh_sum, fresh_weight, is_marked}
-use Rattle.sg_plays_fact.proofs.Fresh.{AddsTo, fresh-none, fresh-same, fresh-split, member}
+use Rattle.sg_plays_fact.proofs.Fresh.{AddsTo, fresh-none, fresh-split, member}
 
 -- the schedule of choice c of resource r
 abbrev pub taken : Game → ℕ → ℕ → ℕ

@@ -1,6 +1,5 @@
 -- What targets pay, covered or not, within the most of the game.
-use Rattle.std.proofs.Common.{◌≡◌, ℕ, ◌≤◌, Bool, false, true, length, ℤ, pos, ◌-ℤ◌, ◌≤ℤ◌, refl, subst, sym, arith}
-use Rattle.std.proofs.lemmas.Int.{ints}
+use Rattle.std.proofs.Common.{◌≡◌, ℕ, ◌≤◌, false, length, ℤ, ◌-ℤ◌, refl, subst, sym}
 use Rattle.sg_model.specs.declared.kind.Kind.{Kind}
 use Rattle.sg_model.specs.declared.kind.Kind.TheVariants.{Security, Matrix}
 use Rattle.sg_model.specs.Games.{Game, action_count, is_kind_matrix, is_matrix, payoff}

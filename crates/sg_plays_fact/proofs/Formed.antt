@@ -1,11 +1,11 @@
 -- Numbers that are formed one after the other, and their size sum.
-use Rattle.std.proofs.Common.{◌≡◌, ◌∙◌, Bool, true, false, List, [], ◌∷◌, ◌++◌, length, map, ℤ, pos, ◌+ℤ◌, ◌*ℤ◌, Option, Some, None, ap, subst, sym, refl, arith, append_assoc, ◌↔◌}
+use Rattle.std.proofs.Common.{◌≡◌, ◌∙◌, Bool, false, List, [], ◌∷◌, ◌++◌, length, map, ℤ, pos, ◌+ℤ◌, ◌*ℤ◌, Option, Some, None, ap, subst, sym, refl, append_assoc, ◌↔◌}
 use Rattle.std.specs.Prelude.{IsTrue, MatchOption}
 use Rattle.std.specs.List.{All}
 use Rattle.std.specs.Int.{w128}
 use Rattle.std.proofs.Common.{of_z, to_z}
 use Rattle.std.proofs.lemmas.Bool.{false≢true}
-use Rattle.std.proofs.lemmas.Int.{ints, to_z-of_z}
+use Rattle.std.proofs.lemmas.Int.{to_z-of_z}
 use Rattle.std.proofs.lemmas.List.{drop_at, take_at}
 use Rattle.std.proofs.lemmas.List.Elements.{All-append, All-cons, All-drop, All-head, All-nil, All-tail, All-take}
 use Rattle.sg_model.specs.Sums.{total}

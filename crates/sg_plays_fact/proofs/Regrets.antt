@@ -1,11 +1,11 @@
 -- The regret of a play, mark by mark, and the sum of a fact, within its size sum.
-use Rattle.std.proofs.Common.{◌≡◌, ◌∙◌, ℕ, zero, suc, ◌+◌, ◌-◌, ◌<◌, ◌≤◌, ◌^◌, List, [], ◌∷◌, ◌++◌, length, map, take, get_or, ℤ, pos, ◌+ℤ◌, ◌-ℤ◌, ◌*ℤ◌, ◌≤ℤ◌, of_z, to_z, ap, subst, sym, refl, arith}
+use Rattle.std.proofs.Common.{◌≡◌, ◌∙◌, ℕ, zero, suc, ◌+◌, ◌<◌, ◌≤◌, List, [], ◌∷◌, ◌++◌, length, map, take, get_or, ℤ, pos, ◌+ℤ◌, ◌*ℤ◌, ◌≤ℤ◌, of_z, to_z, ap, subst, sym, refl, arith}
 use Rattle.std.specs.Prelude.{FitsSigned}
 use Rattle.std.specs.Int.{w128}
 use Rattle.std.specs.List.{All}
 use Rattle.std.proofs.lemmas.Int.{ints, to_z-of_z}
 use Rattle.std.proofs.lemmas.List.{take_all, take_more}
-use Rattle.std.proofs.lemmas.List.Elements.{All-cons, All-head, All-nil, All-tail, All-take}
+use Rattle.std.proofs.lemmas.List.Elements.{All-cons, All-nil, All-tail, All-take}
 use Rattle.sg_model.specs.Sums.{total}
 use Rattle.sg_model.specs.Games.{Game}
 use Rattle.sg_model.specs.Limits.{IsGame}
@@ -14,7 +14,6 @@ use Rattle.sg_model.proofs.Ints.{mul-le}
 use Rattle.sg_model.proofs.Promises.{peopled}
 use Rattle.sg_model.proofs.Sums.{total-append, total-nonneg}
 use Rattle.sg_num.specs.Exact.{Fits, IsAtMost}
-use Rattle.sg_num.proofs.Steps.{FitsSigned-from_fits}
 use Rattle.sg_tree.specs.declared.fact.Mark.{Mark}
 use Rattle.sg_tree.specs.declared.fix.Fix.{Fix}
 use Rattle.sg_bounds.specs.Facts.{IsMarkOf, cost, regret}

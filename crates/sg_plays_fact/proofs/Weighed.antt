@@ -1,10 +1,10 @@
 -- The weights of targets, within the size sum of a fact.
-use Rattle.std.proofs.Common.{◌≡◌, ◌≢◌, ◌∙◌, ℕ, zero, suc, ◌+◌, ◌-◌, ◌<◌, ◌≤◌, Bool, true, false, cond, List, [], ◌∷◌, ◌++◌, length, map, take, get_or, ℤ, pos, negsuc, ◌+ℤ◌, ◌-ℤ◌, ◌*ℤ◌, ◌≤ℤ◌, eqb, sym, ap, subst, refl, arith, inl, inr, slice_index, slice_index_or}
+use Rattle.std.proofs.Common.{◌≡◌, ◌≢◌, ◌∙◌, ℕ, ◌+◌, ◌<◌, ◌≤◌, Bool, true, false, cond, List, [], ◌∷◌, length, map, take, get_or, ℤ, pos, ◌+ℤ◌, ◌-ℤ◌, ◌*ℤ◌, ◌≤ℤ◌, eqb, ap, subst, refl, arith, inl, inr, slice_index}
 use Rattle.std.specs.List.{All, Contains}
 use Rattle.std.proofs.lemmas.Bool.{cases_eq}
 use Rattle.std.proofs.lemmas.Bool.Decides.{nat_tests}
 use Rattle.std.proofs.lemmas.Int.{ints}
-use Rattle.std.proofs.lemmas.List.Elements.{All-cons, All-head, All-nil, All-tail, All-take}
+use Rattle.std.proofs.lemmas.List.Elements.{All-head, All-tail, All-take}
 use Rattle.sg_model.specs.Games.{Game, action_count, attacker, is_matrix, payoff}
 use Rattle.sg_model.specs.Limits.{IsGame}
 use Rattle.sg_model.specs.Payoffs.{shift_of}
@@ -24,7 +24,7 @@ use Rattle.sg_bounds.proofs.Small.{add-times, at_most-add, at_most-more, scaled-
 use Rattle.sg_bounds.proofs.Spans.{covered-listed, defender-between, difference-small, guarded-listed, of-type, one-at-most, open-listed, uncovered-listed}
 use Rattle.sg_plays_fact.specs.declared.stated.Stated.{Stated}
 use Rattle.sg_plays_fact.specs.Testing.{IsSizedFact}
-use Rattle.sg_plays_fact.specs.Weighing.{mark_entry, target_weight}
+use Rattle.sg_plays_fact.specs.Weighing.{mark_entry}
 use Rattle.sg_plays_fact.proofs.Adding.{prior_at, total-next}
 use Rattle.sg_plays_fact.proofs.Coverings.{is-security}
 use Rattle.sg_plays_fact.proofs.Fixes.{act_of-known, fixed-all, fixed-at, fixed-count}

@@ -1,5 +1,5 @@
 -- The numbers of a game that its facts are measured by.
-use Rattle.std.specs.Prelude.{◌≡◌, ◌+◌, ◌^◌, ℤ, pos, ◌-ℤ◌}
+use Rattle.std.specs.Prelude.{◌≡◌, ◌+◌, ◌^◌, pos, ◌-ℤ◌}
 use Rattle.sg_model.specs.Games.{Game}
 use Rattle.sg_model.specs.Limits.{IsWithin}
 use Rattle.sg_model.specs.Payoffs.{shift_of}

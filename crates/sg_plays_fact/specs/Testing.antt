@@ -1,5 +1,5 @@
 -- What testing a fact over plays asks of each play.
-use Rattle.std.specs.Prelude.{◌≡◌, List, ℕ, ℤ, pos, ◌-ℤ◌, ◌*ℤ◌, ◌≤ℤ◌, All}
+use Rattle.std.specs.Prelude.{List, ℕ, ℤ, pos, ◌-ℤ◌, ◌*ℤ◌, ◌≤ℤ◌, All}
 use Rattle.sg_model.specs.Games.{Game}
 use Rattle.sg_model.specs.Plays.{IsLegal}
 use Rattle.sg_num.specs.Exact.{Fits}

@@ -1,5 +1,5 @@
 -- What covering a target adds to the sum of a fact over a play, in security form.
-use Rattle.std.specs.Prelude.{◌≡◌, ℕ, Bool, if◌then◌else◌, List, ℤ, pos, ◌+ℤ◌, ◌-ℤ◌, ◌*ℤ◌}
+use Rattle.std.specs.Prelude.{ℕ, List, ℤ, ◌-ℤ◌, ◌*ℤ◌}
 use Rattle.sg_model.specs.Sums.{total}
 use Rattle.sg_model.specs.Games.{Game}
 use Rattle.sg_tree.specs.declared.fact.Mark.{Mark}

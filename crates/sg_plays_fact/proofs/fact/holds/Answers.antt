@@ -1,4 +1,4 @@
-use Rattle.std.proofs.Common.{◌≡◌, ℤ, List, pos, ◌≤ℤ◌, sym, subst, refl, arith, rules, of_z, to_z}
+use Rattle.std.proofs.Common.{◌≡◌, ℤ, sym, subst, refl, arith, rules, of_z, to_z}
 use Rattle.std.specs.Int.{w128}
 use Rattle.std.specs.List.{All}
 use Rattle.std.proofs.lemmas.Int.{ints, to_z-of_z}

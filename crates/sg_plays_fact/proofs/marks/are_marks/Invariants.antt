@@ -1,4 +1,4 @@
-use Rattle.std.proofs.Common.{[], ◌∷◌, take}
+use Rattle.std.proofs.Common.{take}
 use Rattle.std.specs.List.{All}
 use Rattle.sg_bounds.specs.Facts.{IsMarkOf}
 use Rattle.sg_plays_fact.proofs.marks.are_marks.Given as goal

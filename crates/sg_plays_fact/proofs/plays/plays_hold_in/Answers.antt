@@ -1,7 +1,6 @@
-use Rattle.std.proofs.Common.{◌≡◌, ◌∙◌, ℕ, ℤ, Bool, List, length, replicate, pos, false, refl, sym, arith, rules, of_z, to_z}
+use Rattle.std.proofs.Common.{◌≡◌, ◌∙◌, ℤ, Bool, List, length, replicate, false, refl, sym, arith, rules, of_z, to_z}
 use Rattle.std.specs.Int.{w128}
-use Rattle.std.proofs.lemmas.Int.{ints, to_z-of_z}
-use Rattle.sg_model.specs.Limits.{IsCount}
+use Rattle.std.proofs.lemmas.Int.{to_z-of_z}
 use Rattle.sg_plays_fact.proofs.Affine.{has-room, stays-is, unmarked-all}
 use Rattle.sg_plays_fact.proofs.Choosing.{stays-as}
 use Rattle.sg_plays_fact.proofs.plays.plays_hold_in.Goals as goal

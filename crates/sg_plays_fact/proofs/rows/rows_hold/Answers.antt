@@ -1,9 +1,8 @@
-use Rattle.std.proofs.Common.{◌≡◌, ◌<◌, ◌+◌, ◌≤ℤ◌, ℕ, List, [], ◌∷◌, length, arith, below_more, refl, rules, of_z, to_z}
+use Rattle.std.proofs.Common.{◌≡◌, ◌≤ℤ◌, ℕ, List, length, arith, below_more, refl, rules, of_z, to_z}
 use Rattle.std.specs.Int.{w128}
-use Rattle.std.proofs.lemmas.Bool.{false≢true}
 use Rattle.std.proofs.lemmas.Int.{ints, to_z-of_z}
 use Rattle.sg_plays_fact.specs.Testing.{play_sum}
-use Rattle.sg_plays_fact.proofs.Few.{each-row, row-legal}
+use Rattle.sg_plays_fact.proofs.Few.{each-row}
 use Rattle.sg_plays_fact.proofs.rows.rows_hold.Goals as goal
 
 pub loop-i-preserved : goal.loop-i-preserved

@@ -1,7 +1,6 @@
-use Rattle.std.proofs.Common.{◌≡◌, ◌∙◌, ℕ, ◌*◌, ◌≤◌, ◌^◌, arith, ap, pos, ℤ, ◌+ℤ◌, rules, to_z, of_z}
+use Rattle.std.proofs.Common.{◌≡◌, arith, rules, to_z, of_z}
 use Rattle.std.specs.Int.{w64}
 use Rattle.std.proofs.lemmas.Int.{ints, to_z-of_z}
-use Rattle.sg_model.specs.Games.{attacker}
 use Rattle.sg_plays_fact.proofs.Adding.{priors-end, priors-next}
 use Rattle.sg_plays_fact.proofs.Fixes.{fixed-few}
 use Rattle.sg_plays_fact.proofs.size.fixed_priors.Goals as goal

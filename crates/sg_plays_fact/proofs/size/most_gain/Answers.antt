@@ -1,4 +1,4 @@
-use Rattle.std.proofs.Common.{◌≡◌, arith, rules, of_z, to_z}
+use Rattle.std.proofs.Common.{◌≡◌, rules, of_z, to_z}
 use Rattle.std.specs.Int.{w128}
 use Rattle.std.proofs.lemmas.Int.{to_z-of_z}
 use Rattle.sg_plays_fact.proofs.Formed.{gain-formed}

@@ -1,4 +1,4 @@
-use Rattle.std.proofs.Common.{◌≡◌, List, ℤ, map, arith, subst, sym, ◌↔◌, refl, rules, of_z, to_z, pos}
+use Rattle.std.proofs.Common.{◌≡◌, List, ℤ, map, subst, sym, ◌↔◌, refl, rules, of_z, to_z, pos}
 use Rattle.std.specs.Prelude.{IsTrue}
 use Rattle.std.specs.List.{All}
 use Rattle.std.specs.Int.{w128}

@@ -1,4 +1,4 @@
-use Rattle.std.proofs.Common.{◌≡◌, ◌<◌, ◌-ℤ◌, ap, length, List, ℤ, arith, pos, slice_index_or}
+use Rattle.std.proofs.Common.{◌≡◌, ap, length, List, ℤ, arith, pos, slice_index_or}
 use Rattle.std.proofs.lemmas.Int.{ints}
 use Rattle.sg_model.specs.Games.{payoff}
 use Rattle.sg_plays_fact.proofs.weights.pay_added.Goals as goal

@@ -1,5 +1,4 @@
-use Rattle.std.proofs.Common.{◌≡◌, ℕ, length, pos, take, ◌*ℤ◌, ◌-ℤ◌}
-use Rattle.sg_tree.specs.declared.fact.Mark.{Mark}
+use Rattle.std.proofs.Common.{◌≡◌, ℕ, length, pos, take}
 use Rattle.sg_model.specs.Limits.{IsCount}
 use Rattle.sg_model.specs.Sums.{nth}
 use Rattle.sg_plays_fact.specs.Weighing.{target_weight}

@@ -1,15 +1,12 @@
-use Rattle.std.proofs.Common.{◌≡◌, ◌∙◌, ◌≤◌, ◌+ℤ◌, ◌-ℤ◌, ◌*ℤ◌, ℕ, ℤ, ap, length, pos, sym, subst, arith, rules, of_z, to_z}
+use Rattle.std.proofs.Common.{◌≡◌, ◌∙◌, ◌+ℤ◌, ◌-ℤ◌, ◌*ℤ◌, ℕ, ℤ, ap, length, pos, subst, arith, rules, of_z, to_z}
 use Rattle.std.specs.Int.{w128}
 use Rattle.std.proofs.lemmas.Int.{ints, to_z-of_z}
-use Rattle.sg_num.specs.Exact.{IsAtMost}
 use Rattle.sg_model.specs.Games.{payoff}
 use Rattle.sg_model.specs.Limits.{IsCount}
 use Rattle.sg_model.specs.Sums.{nth}
 use Rattle.sg_bounds.specs.Coverage.{where_same}
 use Rattle.sg_bounds.specs.Regions.{act_of}
-use Rattle.sg_plays_fact.specs.Weighing.{mark_entry}
 use Rattle.sg_plays_fact.proofs.Weighed.{off-fixed, off-marked, taken-off, target-high}
-use Rattle.sg_plays_fact.proofs.Within.{top}
 use Rattle.sg_plays_fact.proofs.weights.weigh_mark.Goals as goal
 
 pub add_at-requires-clause-fits : goal.add_at-requires-clause-fits

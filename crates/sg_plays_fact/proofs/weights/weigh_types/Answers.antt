@@ -1,11 +1,10 @@
-use Rattle.std.proofs.Common.{◌≡◌, ◌∙◌, ◌<◌, ◌≤◌, ◌+◌, ◌≤ℤ◌, ◌*ℤ◌, ◌-ℤ◌, ◌+ℤ◌, ℕ, ℤ, ap, length, take, pos, sym, subst, arith, rules, of_z, to_z}
+use Rattle.std.proofs.Common.{◌≡◌, ◌∙◌, ◌<◌, ◌+◌, ◌≤ℤ◌, ◌*ℤ◌, ◌+ℤ◌, ℕ, ℤ, length, pos, sym, subst, arith, rules, of_z, to_z}
 use Rattle.std.specs.Int.{w128}
 use Rattle.std.proofs.lemmas.Int.{ints, to_z-of_z}
 use Rattle.sg_num.specs.Exact.{Fits, IsAtMost}
 use Rattle.sg_model.specs.Limits.{IsCount}
 use Rattle.sg_model.specs.Sums.{nth, total}
 use Rattle.sg_bounds.specs.Coverage.{where_same}
-use Rattle.sg_bounds.specs.Regions.{fixed}
 use Rattle.sg_bounds.specs.Sizes.{defender_most, fixed_priors}
 use Rattle.sg_plays_fact.proofs.Fixes.{fixed-all}
 use Rattle.sg_plays_fact.proofs.Regrets.{product-fits, product-read}

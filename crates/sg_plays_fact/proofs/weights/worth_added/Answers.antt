@@ -1,4 +1,4 @@
-use Rattle.std.proofs.Common.{◌≡◌, ◌∙◌, ◌<◌, ◌^◌, ◌-ℤ◌, ◌*ℤ◌, ap, length, List, ℤ, arith, rules, of_z, to_z, pos, slice_index_or}
+use Rattle.std.proofs.Common.{◌≡◌, ◌∙◌, ◌^◌, ◌-ℤ◌, ◌*ℤ◌, ap, length, List, ℤ, arith, rules, of_z, to_z, pos, slice_index_or}
 use Rattle.std.specs.Int.{w128}
 use Rattle.std.proofs.lemmas.Int.{ints, to_z-of_z}
 use Rattle.sg_model.specs.Games.{attacker, payoff}
