@@ -30,7 +30,7 @@ lists_of g (suc k) = flat_map (λ acts. map (λ a. acts ++ (a ∷ [])) (numbers 
 abbrev prefixes : Game → List Fix
 prefixes g = flat_map (λ k. map prefix (lists_of g k)) (numbers (length g.types))
 
-abbrev cap_nodes_of : Game → ℕ → List Fix
+abbrev pub cap_nodes_of : Game → ℕ → List Fix
 cap_nodes_of g l = map (alone l) (numbers (action_count g l))
 
 abbrev all_nodes : Game → List Fix

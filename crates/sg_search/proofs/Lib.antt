@@ -13,3 +13,5 @@ pub mod Poorer
 pub mod Chosen
 pub mod Listing
 pub mod Opened
+pub mod Sorted
+pub mod Told

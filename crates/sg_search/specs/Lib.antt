@@ -10,5 +10,6 @@ pub mod CountLaws
 pub mod CapLaws
 pub mod GroupLaws
 pub mod ReportLaws
+pub mod ReadyLaws
 pub mod Sound
 pub mod Examples

@@ -1,5 +1,5 @@
 -- What a node's work gives: a fact that holds for it and, unless its region is empty, a commitment of its region that reaches the fact's bound.
-use Rattle.std.specs.Prelude.{◌≡◌, ℕ, ◌-◌, ◌⊎◌, List, [], map, length, ℤ, pos, ◌-ℤ◌, ◌*ℤ◌, ◌<ℤ◌, All, IfSome, Option, Some, None}
+use Rattle.std.specs.Prelude.{◌≡◌, ℕ, ◌-◌, List, [], map, length, ℤ, pos, ◌-ℤ◌, ◌*ℤ◌, ◌<ℤ◌, All, IfSome, Option, Some, None}
 use Rattle.sg_model.specs.declared.ticket.Ticket.{Ticket}
 use Rattle.sg_model.specs.Sums.{numbers_from}
 use Rattle.sg_model.specs.Games.{Game}
@@ -10,7 +10,7 @@ use Rattle.sg_tree.specs.declared.fact.Fact.{Fact}
 use Rattle.sg_tree.specs.declared.fix.Fix.{Fix}
 use Rattle.sg_tree.specs.declared.report.Cap.{Cap}
 use Rattle.sg_tree.specs.declared.worked.Worked.{Worked}
-use Rattle.sg_bounds.specs.Regions.{IsFix, IsInRegion, IsNode}
+use Rattle.sg_bounds.specs.Regions.{IsInRegion, IsNode}
 use Rattle.sg_bounds.specs.Facts.{HoldsFor, mu_of, rho_of, shifted_sum}
 use Rattle.sg_num.specs.Exact.{Fits}
 use Rattle.sg_bounds.specs.Sizes.{bound_sums, size_sums, value_sums}

@@ -13,6 +13,7 @@ mod event;
 mod examples;
 mod held;
 mod place_laws;
+mod ready_laws;
 mod tree_laws;
 
 pub use choice_laws::{choices_are_one, incumbent_is_best, open_where_prefix_waits};
@@ -24,4 +25,5 @@ pub use held::{Held, Stuck};
 pub use place_laws::{
     budget_kept, known_in_one_place, split_when_caps_are_done, taken_from_last_split, worked_differ,
 };
+pub use ready_laws::{choices_are_there, enabled_means, end_is_still, lanes_are_told};
 pub use tree_laws::{cap_is_least, caps_hold, proved_are_worked, report_is_accepted, tree_holds};
