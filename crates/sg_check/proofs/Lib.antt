@@ -1,16 +1,9 @@
-pub mod Few
 pub mod Firsts
-pub mod Gaps
 pub mod Joined
-pub mod Leaved
-pub mod OneType
 pub mod Proved
-pub mod Regrets
 pub mod Running
-pub mod Sizing
 pub mod Small
 pub mod Spans
-pub mod Tested
 pub mod Tops
 pub mod Totals
 pub mod Trees
