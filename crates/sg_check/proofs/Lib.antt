@@ -1,5 +1,7 @@
+pub mod Bounded
 pub mod Firsts
 pub mod Joined
+pub mod Placed
 pub mod Proved
 pub mod Running
 pub mod Small
@@ -8,6 +10,7 @@ pub mod Tops
 pub mod Totals
 pub mod Trees
 pub mod Valued
+pub mod Walked
 pub mod Watered
 pub mod Wetted
 pub mod Within

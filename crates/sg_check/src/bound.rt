@@ -88,7 +88,7 @@ fn rest(game: &Game, report: &Report, numbers: &Numbers, fixed: u8) -> i128
     requires types { fixed ≤ length game.now.types }
     ensures { result ≡ rest_of game.now report.now.caps fixed }
 {
-    open_caps(game, report, fixed) - numbers.shift * fixed_priors(game, fixed)
+    open_caps(game, report, fixed) - fixed_priors(game, fixed) * numbers.shift
 }
 
 /// The bound of a fact that fixes so many types, and none where a number under it doesn't fit.

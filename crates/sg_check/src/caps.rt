@@ -1,6 +1,6 @@
 //! The tests of the caps: of each its type, its form, its facts, and its bound against all of them.
 
-ghost use Rattle.std.specs.Prelude.{◌≡◌, ◌+◌, ◌≤◌, ◌^◌, ◌-ℤ◌, ◌+ℤ◌, ◌*ℤ◌, ◌≤ℤ◌, ◌↔◌, ℕ, All, IsTrue, length, pos};
+ghost use Rattle.std.specs.Prelude.{◌≡◌, ◌+◌, ◌≤◌, ◌<◌, ◌^◌, ◌-ℤ◌, ◌+ℤ◌, ◌*ℤ◌, ◌≤ℤ◌, ◌↔◌, ℕ, All, IsTrue, length, pos};
 ghost use Rattle.sg_model.specs.Games.{action_count, attacker};
 ghost use Rattle.sg_model.specs.Payoffs.{shift_of};
 ghost use Rattle.sg_game.specs.Counts.{IsTypeOf};

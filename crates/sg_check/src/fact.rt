@@ -106,6 +106,7 @@ pub(crate) fn test_fact(
     requires fix { IsFix game.now (prefix acts.now) }
     ensures { (n : ℕ) → line ≡ held_line n → BoundAnswers game.now report.now (fact_stops n acts.now fact.now) (listed (fact_bound game.now report.now.caps (length acts.now) fact.now)) result }
 {
+    let _types = game.types();
     match test_shown(game, report, 1, acts, fact, line) {
         Ok(()) => test_bound(game, report, numbers, acts.len() as u8, fact, line),
         Err(refusal) => Err(refusal),
