@@ -1,5 +1,12 @@
-use Rattle.std.proofs.Common.{arith, rules}
-use Rattle.sg_check.proofs.Placed.{actions-fix, actions-more, some-more}
+use Rattle.std.proofs.Common.{◌≡◌, ◌≢◌, ◌∙◌, ◌+◌, ◌∷◌, ◌++◌, ℕ, List, [], ap, arith, length, refl, rules, subst, sym, take}
+use Rattle.sg_tree.specs.declared.tree.Tree.{Tree}
+use Rattle.sg_tree.specs.declared.tree.Tree.TheVariants.{Split}
+use Rattle.sg_model.specs.Games.{action_count}
+use Rattle.sg_bounds.specs.Trees.{node_of}
+use Rattle.sg_check.specs.Answering.{NodeAnswers}
+use Rattle.sg_check.specs.Placing.{AreActions}
+use Rattle.sg_check.proofs.Trees.{part_count-length}
+use Rattle.sg_check.proofs.Placed.{actions-more, some-more}
 use Rattle.sg_check.proofs.Walked.{closed-answers, open-answers, split-answers, split-fails, walk-end, walk-fails, walk-more, walk-start}
 use Rattle.sg_check.proofs.tree.+tree.Goals as goal
 
@@ -10,22 +17,43 @@ pub test_node-returns-in-Closed : goal.test_node-returns-in-Closed
 test_node-returns-in-Closed t c = closed-answers c.args.game.now c.args.report.now c.args.acts.now c.args.node.now c.in-Closed.fact c.args.base.now c.args.top.now c.test_closed.result c.in-Closed.is (c.test_closed.ensures c.args.base.now)
 
 pub test_node-test_parts-requires : goal.test_node-test_parts-requires
-test_node-test_parts-requires t c = ?
+test_node-test_parts-requires t c =
+    let p = c.in-Ok.ensures.next in
+    let count = part_count-length c.as_slice-parts.result.now in
+    (search rules, (c.requires.setting, (c.requires.acts, (omega (arith, p.0, p.1), sym count ∙ (p.2 ∙ ap (action_count c.args.game.now) p.0)))))
 
 pub test_node-returns-in-Ok : goal.test_node-returns-in-Ok
-test_node-returns-in-Ok t c = ?
+test_node-returns-in-Ok t c =
+    let is : c.args.node.now ≡ Split c.in-Split.l c.in-Split.own c.as_slice-parts.result.now = c.in-Split.is ∙ ap (λ (ps : List Tree). Split c.in-Split.l c.in-Split.own ps) (sym c.as_slice-parts.ensures) in
+    split-answers c.args.game.now c.args.report.now c.args.acts.now c.args.node.now c.in-Split.l c.in-Split.own c.as_slice-parts.result.now c.args.base.now c.args.top.now
+    (record { next = c.in-Ok.fork.next; best = c.args.top.now.best }) c.in-Ok.fork c.test_parts.result is refl refl c.in-Ok.ensures.answers c.test_parts.ensures
 
 pub test_node-returns-in-Err : goal.test_node-returns-in-Err
-test_node-returns-in-Err t c = ?
+test_node-returns-in-Err t c =
+    let is : c.args.node.now ≡ Split c.in-Split.l c.in-Split.own c.as_slice-parts.result.now = c.in-Split.is ∙ ap (λ (ps : List Tree). Split c.in-Split.l c.in-Split.own ps) (sym c.as_slice-parts.ensures) in
+    split-fails c.args.game.now c.args.report.now c.args.acts.now c.args.node.now c.in-Split.l c.in-Split.own c.as_slice-parts.result.now c.args.base.now c.args.top.now c.in-Err.refusal is c.in-Err.ensures.answers
 
 pub test_parts-test_node-requires : goal.test_parts-test_node-requires
-test_parts-test_node-requires t c = ?
+test_parts-test_node-requires t c =
+    let code = c.extended-code.ensures in
+    let more = actions-more c.args.game.now c.args.acts.now (c.loop-part.a + 1) c.requires.acts c.requires.next (omega arith) (omega (arith, c.loop-part.invariant.count, c.loop-part-test.true, c.requires.count)) in
+    (search rules, (c.requires.setting, (subst (λ (xs : List ℕ). xs ≢ []) (sym code) (some-more c.args.acts.now (c.loop-part.a + 1)), subst (AreActions c.args.game.now) (sym code) more)))
 
 pub test_parts-returns-in-Err : goal.test_parts-returns-in-Err
-test_parts-returns-in-Err t c = ?
+test_parts-returns-in-Err t c = λ n above bounds shows so_far.
+    let code = c.extended-code.ensures ∙ ap (λ (i : ℕ). c.args.acts.now ++ (i + 1) ∷ []) c.loop-part.invariant.count in
+    let answers = subst (λ (xs : List ℕ). NodeAnswers c.args.game.now c.args.report.now xs (node_of c.part-item.result) c.args.base.now (record { next = c.loop-part.next; best = c.loop-part.best }) c.test_node.result) code c.test_node.ensures in
+    ?
 
 pub test_parts-loop-part-preserved : goal.test_parts-loop-part-preserved
-test_parts-loop-part-preserved t c = ?
+test_parts-loop-part-preserved t c = record {
+  count = omega (arith, c.loop-part.invariant.count);
+  walked = λ n above bounds shows so_far.
+      let code = c.extended-code.ensures ∙ ap (λ (i : ℕ). c.args.acts.now ++ (i + 1) ∷ []) c.loop-part.invariant.count in
+      walk-more c.args.game.now c.args.report.now c.args.acts.now n above bounds c.args.parts.now c.loop-part.next c.loop-part.best c.loop-part.part-index c.part-item.result c.loop-part-test.true c.part-item.is (c.loop-part.invariant.walked n above bounds shows so_far)
+      c.args.base.now shows (record { next = c.loop-part.next; best = c.loop-part.best }) c.in-Ok.more refl refl ?;
+}
 
 pub test_parts-returns : goal.test_parts-returns
-test_parts-returns t c = ?
+test_parts-returns t c = λ n above bounds shows so_far.
+    walk-end c.args.game.now c.args.report.now c.args.acts.now n above bounds c.args.parts.now c.loop-part.next c.loop-part.best c.loop-part.part-index c.loop-part-test.false (c.loop-part.invariant.walked n above bounds shows so_far)
