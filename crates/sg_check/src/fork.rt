@@ -1,7 +1,8 @@
 //! The tests of a split: its type and the number of its parts, and then its base.
 
-ghost use Rattle.std.specs.Prelude.{◌≡◌, ◌≢◌, ◌+◌, ◌≤◌, ◌↔◌, ℕ, [], IfOk, IsTrue, Option, Some, length, map};
+ghost use Rattle.std.specs.Prelude.{◌≡◌, ◌≢◌, ◌+◌, ◌<◌, ◌≤◌, ◌↔◌, ℕ, [], IfOk, IsTrue, Option, Some, length, map};
 ghost use Rattle.sg_frac.specs.Fractions.{Fraction};
+ghost use Rattle.sg_model.specs.Games.{action_count};
 ghost use Rattle.sg_bounds.specs.Checking.{Passes, base_lines, base_stops, forks};
 ghost use Rattle.sg_bounds.specs.Leaves.{base_bound, listed};
 ghost use Rattle.sg_bounds.specs.Trees.{node_of, part_count, parts_of};
@@ -78,7 +79,8 @@ pub(crate) fn test_fork(
     requires setting { IsSetting game.now report.now numbers.now }
     requires some { acts.now ≢ [] }
     requires acts { AreActions game.now acts.now }
-    ensures next { IfOk result (λ fork. Passes game.now report.now (forks acts.now l (part_count (parts_of (map node_of parts.now))))) }
+    ensures next { IfOk result (λ fork. length acts.now < length game.now.types) }
+    ensures count { IfOk result (λ fork. length parts.now ≡ action_count game.now (length acts.now + 1)) }
     ensures answers { (n : ℕ) (shown : Option Fraction) → line ≡ held_line n → ShowsOnly (listed shown) above.now → ForkAnswers game.now report.now acts.now l (part_count (parts_of (map node_of parts.now))) base.now n shown result }
 {
     if !is_fork(game, report, acts, l, parts) {

@@ -18,11 +18,17 @@ use sg_frac::Frac;
 use sg_game::Game;
 use sg_tree::{Fact, Report, Tree};
 
-/// The actions with one more behind them, of which there are at most 8.
-fn extended(acts: &[u16], a: u16) -> [u16; 8]
-    requires { length acts.now < 8 }
-    ensures { take (length acts.now + 1) result ≡ acts.now ++ a ∷ [] }
+/// The actions with one of the next type behind them, of which there are at most 8.
+fn extended(game: &Game, acts: &[u16], a: u16) -> [u16; 8]
+    requires acts { AreActions game.now acts.now }
+    requires next { length acts.now < length game.now.types }
+    requires from_one { 1 ≤ a }
+    requires action { a ≤ action_count game.now (length acts.now + 1) }
+    ensures list { take (length acts.now + 1) result ≡ acts.now ++ a ∷ [] }
+    ensures some { take (length acts.now + 1) result ≢ [] }
+    ensures acts { AreActions game.now (take (length acts.now + 1) result) }
 {
+    let _types = game.types();
     let mut all = [0; 8];
     for i in 0..acts.len() {
         all[i] = acts[i];
@@ -127,7 +133,7 @@ fn test_parts(
     let mut a: u16 = 0;
     for part in parts {
         a += 1;
-        let code = extended(acts, a);
+        let code = extended(game, acts, a);
         let so_far = Top { next, best };
         match test_node(
             game,

@@ -16,14 +16,6 @@ test_node-returns-in-Unproved t c = open-answers c.args.game.now c.args.report.n
 pub test_node-returns-in-Closed : goal.test_node-returns-in-Closed
 test_node-returns-in-Closed t c = closed-answers c.args.game.now c.args.report.now c.args.acts.now c.args.node.now c.in-Closed.fact c.args.base.now c.args.top.now c.test_closed.result c.in-Closed.is (c.test_closed.ensures c.args.base.now)
 
-pub test_node-test_parts-requires-clause-next : goal.test_node-test_parts-requires-clause-next
-test_node-test_parts-requires-clause-next t c = let p = c.in-Ok.ensures.next in omega (arith, p.0, p.1)
-
-pub test_node-test_parts-requires-clause-count : goal.test_node-test_parts-requires-clause-count
-test_node-test_parts-requires-clause-count t c =
-    let p = c.in-Ok.ensures.next in
-    sym (part_count-length c.as_slice-parts.result.now) ∙ (p.2 ∙ ap (action_count c.args.game.now) p.0)
-
 pub test_node-returns-in-Ok : goal.test_node-returns-in-Ok
 test_node-returns-in-Ok t c =
     let is : c.args.node.now ≡ Split c.in-Split.l c.in-Split.own c.as_slice-parts.result.now = c.in-Split.is ∙ ap (λ (ps : List Tree). Split c.in-Split.l c.in-Split.own ps) (sym c.as_slice-parts.ensures) in
@@ -35,17 +27,9 @@ test_node-returns-in-Err t c =
     let is : c.args.node.now ≡ Split c.in-Split.l c.in-Split.own c.as_slice-parts.result.now = c.in-Split.is ∙ ap (λ (ps : List Tree). Split c.in-Split.l c.in-Split.own ps) (sym c.as_slice-parts.ensures) in
     split-fails c.args.game.now c.args.report.now c.args.acts.now c.args.node.now c.in-Split.l c.in-Split.own c.as_slice-parts.result.now c.args.base.now c.args.top.now c.in-Err.refusal is c.in-Err.ensures.answers
 
-pub test_parts-test_node-requires-clause-some : goal.test_parts-test_node-requires-clause-some
-test_parts-test_node-requires-clause-some t c = subst (λ (xs : List ℕ). xs ≢ []) (sym c.extended-code.ensures) (some-more c.args.acts.now (c.loop-part.a + 1))
-
-pub test_parts-test_node-requires-clause-acts : goal.test_parts-test_node-requires-clause-acts
-test_parts-test_node-requires-clause-acts t c =
-    let more = actions-more c.args.game.now c.args.acts.now (c.loop-part.a + 1) c.requires.acts c.requires.next (omega arith) (omega (arith, c.loop-part.invariant.count, c.loop-part-test.true, c.requires.count)) in
-    subst (AreActions c.args.game.now) (sym c.extended-code.ensures) more
-
 pub test_parts-returns-in-Err : goal.test_parts-returns-in-Err
 test_parts-returns-in-Err t c = λ n above bounds shows so_far.
-    let code = c.extended-code.ensures ∙ ap (λ (i : ℕ). c.args.acts.now ++ (i + 1) ∷ []) c.loop-part.invariant.count in
+    let code = c.extended-code.ensures.list ∙ ap (λ (i : ℕ). c.args.acts.now ++ (i + 1) ∷ []) c.loop-part.invariant.count in
     let answers = subst (λ (xs : List ℕ). NodeAnswers c.args.game.now c.args.report.now xs (node_of c.part-item.result) c.args.base.now (record { next = c.loop-part.next; best = c.loop-part.best }) (Err c.in-Err.refusal)) code c.in-Err.ensures in
     walk-fails c.args.game.now c.args.report.now c.args.acts.now n above bounds c.args.parts.now c.loop-part.next c.loop-part.best c.loop-part.part-index c.part-item.result c.loop-part-test.true c.part-item.is (c.loop-part.invariant.walked n above bounds shows so_far)
     c.args.base.now shows (record { next = c.loop-part.next; best = c.loop-part.best }) c.in-Err.refusal refl refl answers
@@ -54,7 +38,7 @@ pub test_parts-loop-part-preserved : goal.test_parts-loop-part-preserved
 test_parts-loop-part-preserved t c = record {
   count = omega (arith, c.loop-part.invariant.count);
   walked = λ n above bounds shows so_far.
-      let code = c.extended-code.ensures ∙ ap (λ (i : ℕ). c.args.acts.now ++ (i + 1) ∷ []) c.loop-part.invariant.count in
+      let code = c.extended-code.ensures.list ∙ ap (λ (i : ℕ). c.args.acts.now ++ (i + 1) ∷ []) c.loop-part.invariant.count in
       let answers = subst (λ (xs : List ℕ). NodeAnswers c.args.game.now c.args.report.now xs (node_of c.part-item.result) c.args.base.now (record { next = c.loop-part.next; best = c.loop-part.best }) (Ok c.in-Ok.more)) code c.in-Ok.ensures in
       walk-more c.args.game.now c.args.report.now c.args.acts.now n above bounds c.args.parts.now c.loop-part.next c.loop-part.best c.loop-part.part-index c.part-item.result c.loop-part-test.true c.part-item.is (c.loop-part.invariant.walked n above bounds shows so_far)
       c.args.base.now shows (record { next = c.loop-part.next; best = c.loop-part.best }) c.in-Ok.more refl refl answers;

@@ -1,5 +1,7 @@
-use Rattle.std.proofs.Common.{◌≡◌, ◌∙◌, ◌∷◌, ◌++◌, ◌+◌, ◌<◌, ℕ, List, [], arith, ap, get_or, length, length-set, set, subst, sym, take}
+use Rattle.std.proofs.Common.{◌≡◌, ◌≢◌, ◌∙◌, ◌∷◌, ◌++◌, ◌+◌, ◌<◌, ℕ, List, [], arith, ap, get_or, length, length-set, set, subst, sym, take}
 use Rattle.std.proofs.lemmas.List.{take_all, take_more, take_more_set}
+use Rattle.sg_check.specs.Placing.{AreActions}
+use Rattle.sg_check.proofs.Placed.{actions-more, some-more}
 use Rattle.sg_check.proofs.tree.extended.Goals as goal
 
 -- one more action is written
@@ -16,10 +18,19 @@ finished all acts a i size few e same =
 pub loop-i-preserved : goal.loop-i-preserved
 loop-i-preserved c =
     let s = length-set c.loop-i.all c.loop-i.i _ in
+    let few : length c.args.acts.now < 8 = omega (arith, c.requires.next, c.types-types.ensures.count, c.types-types.ensures.few) in
     record {
       size = s ∙ c.loop-i.invariant.size;
-      same = written c.loop-i.all c.args.acts.now c.loop-i.i c.loop-i.invariant.size c.requires c.loop-i-test.true c.loop-i.invariant.same;
+      same = written c.loop-i.all c.args.acts.now c.loop-i.i c.loop-i.invariant.size few c.loop-i-test.true c.loop-i.invariant.same;
     }
 
 pub returns : goal.returns
-returns c = finished c.loop-i.all c.args.acts.now c.args.a c.loop-i.i c.loop-i.invariant.size c.requires (omega (arith, c.loop-i-test.false, c.loop-i.auto.i-end)) c.loop-i.invariant.same
+returns c =
+    let acts = c.args.acts.now in
+    let few : length acts < 8 = omega (arith, c.requires.next, c.types-types.ensures.count, c.types-types.ensures.few) in
+    let e = finished c.loop-i.all acts c.args.a c.loop-i.i c.loop-i.invariant.size few (omega (arith, c.loop-i-test.false, c.loop-i.auto.i-end)) c.loop-i.invariant.same in
+    record {
+      list = e;
+      some = subst (λ (xs : List ℕ). xs ≢ []) (sym e) (some-more acts c.args.a);
+      acts = subst (AreActions c.args.game.now) (sym e) (actions-more c.args.game.now acts c.args.a c.requires.acts c.requires.next c.requires.from_one c.requires.action);
+    }

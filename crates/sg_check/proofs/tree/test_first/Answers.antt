@@ -1,4 +1,4 @@
-use Rattle.std.proofs.Common.{◌≡◌, ◌∙◌, ap, arith, pos, refl, sym, ◌≤ℤ◌}
+use Rattle.std.proofs.Common.{◌≡◌, ◌∙◌, ap, arith, pos, refl, sym, ◌≤ℤ◌, Some}
 use Rattle.std.proofs.lemmas.Int.{ints}
 use Rattle.sg_model.specs.Games.{action_count}
 use Rattle.sg_bounds.specs.Leaves.{root_bound}
@@ -24,5 +24,5 @@ returns c = λ n e.
     let r = c.args.report.now in
     let h = c.requires.setting.numbers in
     let some : pos 1 ≤ℤ (root_bound g).den = omega (arith, ints, h.priors, h.priors_range.at_least) in
-    first-answers g r n c.args.l c.args.parts.now _ _ c.test_parts.result (c.if-not-is_fork.ensures.0 refl) (root-shown g c.open_bound.result some c.open_bound.ensures)
+    first-answers g r n c.args.l c.args.parts.now (Some c.open_bound.result) (record { next = c.saturating_add.result; best = c.stated_value.result }) c.test_parts.result (c.if-not-is_fork.ensures.0 refl) (root-shown g c.open_bound.result some c.open_bound.ensures)
     (root-start r n c.args.line c.saturating_add.result c.stated_value.result e c.saturating_add.ensures c.stated_value.ensures.value c.stated_value.ensures.reduced) c.test_parts.ensures
