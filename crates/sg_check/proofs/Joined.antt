@@ -20,6 +20,14 @@ refuses-behind g r xs ys f h k = (k.0, FirstFails-right g r xs ys k.0 f.reason h
 pub refuses-then : (g : Game) (r : Report) (xs ys : List Stop) (f : Refusal) → TellsFirst g r xs f → TellsFirst g r (xs ++ ys) f
 refuses-then g r xs ys f k = (k.0, FirstFails-left g r xs ys k.0 f.reason k.1, k.2)
 
+pass-right : (g : Game) (r : Report) (xs ys : List Stop) → AllPass g r (xs ++ ys) → AllPass g r ys
+pass-right g r [] ys h = h
+pass-right g r (x ∷ xs) ys h = pass-right g r xs ys h.1
+
+-- no cap is missing where the tests of the caps pass
+pub none_missing : (g : Game) (r : Report) → AllPass g r (bound_stops r) → length r.caps + 1 ≡ length g.types
+none_missing g r h = (pass-right g r (caps_stops 2 (value_line r + 1) r.caps) _ h).0
+
 -- all tests of two runs pass, and what is told of the second one
 pub bound-then : (g : Game) (r : Report) (xs ys : List Stop) (bounds : List Fraction) (result : Result (Option Fraction) Refusal) → AllPass g r xs → BoundAnswers g r ys bounds result → BoundAnswers g r (xs ++ ys) bounds result
 bound-then g r xs ys bounds (Ok b) h k = (AllPass-append g r xs ys h k.0, k.1)

@@ -1,4 +1,5 @@
 pub mod Bounded
+pub mod Capped
 pub mod Firsts
 pub mod Joined
 pub mod Placed
