@@ -61,13 +61,20 @@ fn are_under(game: &Game, numbers: &Numbers, l: u8, v: i64, facts: &[Fact]) -> b
     true
 }
 
+/// The bound that a cap states.
+fn bound_of_cap(cap: &Cap) -> i64
+    ensures { result ≡ cap.now.v }
+{
+    cap.v
+}
+
 /// Whether a cap of type `l` is plain at the greatest payoff, or has one fact for each action.
 fn has_shape(game: &Game, l: u8, cap: &Cap) -> bool
     requires { IsTypeOf game.now l }
     ensures { IsTrue result ↔ IsCapShape game.now l cap.now.v cap.now.proof }
 {
     if cap.proof.is_empty() {
-        return cap.v == greatest(game, l);
+        return bound_of_cap(cap) == greatest(game, l);
     }
     cap.proof.len() == game.actions(l) as usize
 }
@@ -127,7 +134,7 @@ fn test_cap(
     let facts = cap.proof.as_slice();
     match test_proof(game, report, cap.l, facts, line.saturating_add(1)) {
         Ok(next) => {
-            if !are_under(game, numbers, cap.l, cap.v, facts) {
+            if !are_under(game, numbers, cap.l, bound_of_cap(cap), facts) {
                 return Err(Refusal { line, reason: 4 });
             }
             Ok(next)

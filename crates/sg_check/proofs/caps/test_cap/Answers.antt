@@ -1,4 +1,6 @@
-use Rattle.std.proofs.Common.{◌≡◌, ◌+◌, ℕ, List, arith, refl, subst, sym, ap, Ok}
+use Rattle.std.proofs.Common.{◌≡◌, ◌∙◌, ◌+◌, ℕ, ℤ, List, arith, of_z, refl, rules, subst, sym, to_z, Ok}
+use Rattle.std.specs.Int.{w64}
+use Rattle.std.proofs.lemmas.Int.{ints, to_z-of_z}
 use Rattle.std.specs.List.{All}
 use Rattle.sg_tree.specs.declared.fact.Fact.{Fact}
 use Rattle.sg_bounds.specs.Caps.{IsUnderCap}
@@ -18,7 +20,12 @@ returns-then-not-are_under c = λ n e.
     let a = c.in-Ok.ensures (n + 1) next in
     let b = subst (λ (fs : List Fact). LineAnswers g r (proof_stops x.l 1 (n + 1) fs) (n + 1 + proof_lines fs) (Ok c.in-Ok.next)) c.as_slice-facts.ensures a in
     let d = subst (λ (m : ℕ). LineAnswers g r (proof_stops m 1 (n + 1) x.proof) (n + 1 + proof_lines x.proof) (Ok c.in-Ok.next)) passes.1 b in
-    cap-above g r l n x passes c.args.line e d.0 (λ all. ?)
+    let v : to_z w64 (of_z w64 c.bound_of_cap.result) ≡ x.v = omega (arith, ints, c.bound_of_cap.type_inv, c.bound_of_cap.ensures) in
+    cap-above g r l n x passes c.args.line e d.0 (λ all.
+        let here = subst (λ (fs : List Fact). All (IsUnderCap g l x.v) fs) (sym c.as_slice-facts.ensures) all in
+        let there = subst (λ (m : ℕ). All (IsUnderCap g m x.v) c.as_slice-facts.result.now) (sym passes.1) here in
+        let no = c.if-not-are_under.ensures.1 (subst (λ (z : ℤ). All (IsUnderCap g x.l z) c.as_slice-facts.result.now) (sym v) there) in
+        absurd (cc))
 
 pub returns-else-not-are_under : goal.returns-else-not-are_under
 returns-else-not-are_under c = λ n e.
@@ -31,8 +38,11 @@ returns-else-not-are_under c = λ n e.
     let a = c.in-Ok.ensures (n + 1) next in
     let b = subst (λ (fs : List Fact). LineAnswers g r (proof_stops x.l 1 (n + 1) fs) (n + 1 + proof_lines fs) (Ok c.in-Ok.next)) c.as_slice-facts.ensures a in
     let d = subst (λ (m : ℕ). LineAnswers g r (proof_stops m 1 (n + 1) x.proof) (n + 1 + proof_lines x.proof) (Ok c.in-Ok.next)) passes.1 b in
-    let u = c.if-not-are_under.ensures.0 refl in
-    ?
+    let v : to_z w64 (of_z w64 c.bound_of_cap.result) ≡ x.v = omega (arith, ints, c.bound_of_cap.type_inv, c.bound_of_cap.ensures) in
+    let one = subst (λ (z : ℤ). All (IsUnderCap g x.l z) c.as_slice-facts.result.now) v (c.if-not-are_under.ensures.0 refl) in
+    let two = subst (λ (m : ℕ). All (IsUnderCap g m x.v) c.as_slice-facts.result.now) passes.1 one in
+    let all = subst (λ (fs : List Fact). All (IsUnderCap g l x.v) fs) c.as_slice-facts.ensures two in
+    cap-passes g r l n x passes c.in-Ok.next d all
 
 pub returns-in-Err : goal.returns-in-Err
 returns-in-Err c = λ n e.
