@@ -12,6 +12,7 @@ ghost use Rattle.sg_check.specs.Placing.{AreNumbers};
 use crate::fact::{lines_of, stated_by, test_shown};
 use crate::numbers::Numbers;
 use crate::refusal::Refusal;
+use sg_fixed::FixedTypes;
 use sg_game::{Game, greatest};
 use sg_tree::{Cap, Fact, Report};
 
@@ -94,10 +95,12 @@ fn is_capped(game: &Game, i: usize, cap: &Cap) -> bool
 fn test_proof(
     game: &Game,
     report: &Report,
+    numbers: &Numbers,
     l: u8,
     facts: &[Fact],
     line: u64,
 ) -> Result<u64, Refusal>
+    requires numbers { AreNumbers game.now numbers.now }
     requires known { IsTypeOf game.now l }
     requires few { length facts.now ≤ action_count game.now l }
     ensures { (n : ℕ) → line ≡ held_line n → LineAnswers game.now report.now (proof_stops l 1 n facts.now) (n + proof_lines facts.now) result }
@@ -107,7 +110,7 @@ fn test_proof(
     let mut a: u16 = 0;
     for fact in facts {
         a += 1;
-        match test_shown(game, report, l, &[a], fact, next) {
+        match test_shown(game, report, numbers, &FixedTypes::alone(l, a), fact, next) {
             Ok(()) => next = next.saturating_add(lines_of(fact)),
             Err(refusal) => return Err(refusal),
         }
@@ -132,7 +135,7 @@ fn test_cap(
         return Err(Refusal { line, reason: 4 });
     }
     let facts = cap.proof.as_slice();
-    match test_proof(game, report, cap.l, facts, line.saturating_add(1)) {
+    match test_proof(game, report, numbers, cap.l, facts, line.saturating_add(1)) {
         Ok(next) => {
             if !are_under(game, numbers, cap.l, bound_of_cap(cap), facts) {
                 return Err(Refusal { line, reason: 4 });

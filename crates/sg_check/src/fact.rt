@@ -9,48 +9,53 @@ ghost use Rattle.sg_bounds.specs.Regions.{IsFix, prefix};
 ghost use Rattle.sg_bounds.specs.Sizes.{bound_sums, size_sums};
 ghost use Rattle.sg_check.specs.Answering.{AnswersTests, BoundAnswers, held_line};
 ghost use Rattle.sg_check.specs.Parts.{bounded_stops, shown_stops};
-ghost use Rattle.sg_check.specs.Placing.{IsSetting};
+ghost use Rattle.sg_check.specs.Placing.{AreNumbers, IsSetting};
 
 use crate::bound::{Stated, bound_of};
 use crate::numbers::Numbers;
 use crate::quotient::reduced;
 use crate::refusal::Refusal;
+use sg_fixed::FixedTypes;
 use sg_frac::Frac;
 use sg_game::Game;
 use sg_tree::{Fact, Report};
 
 /// Whether the size sum of a fact and the numbers under it fit.
-fn fits(game: &Game, first: u8, acts: &[u16], fact: &Fact) -> bool
-    ensures { IsTrue result ↔ All Fits (size_sums game.now (record { first = first; acts = acts.now }) fact.now) }
+fn fits(game: &Game, numbers: &Numbers, fix: &FixedTypes, fact: &Fact) -> bool
+    requires numbers { AreNumbers game.now numbers.now }
+    requires fix { IsFix game.now fix.now }
+    ensures { IsTrue result ↔ All Fits (size_sums game.now fix.now fact.now) }
 {
     false
 }
 
-/// Whether a fact holds where these types, from the first on, take these actions.
-fn holds(game: &Game, first: u8, acts: &[u16], fact: &Fact) -> bool
-    requires fix { IsFix game.now (record { first = first; acts = acts.now }) }
-    requires size { All Fits (size_sums game.now (record { first = first; acts = acts.now }) fact.now) }
-    ensures { IsTrue result ↔ HoldsFor game.now (record { first = first; acts = acts.now }) fact.now }
+/// Whether a fact holds where the fixed types take their actions.
+fn holds(game: &Game, numbers: &Numbers, fix: &FixedTypes, fact: &Fact) -> bool
+    requires numbers { AreNumbers game.now numbers.now }
+    requires fix { IsFix game.now fix.now }
+    requires size { All Fits (size_sums game.now fix.now fact.now) }
+    ensures { IsTrue result ↔ HoldsFor game.now fix.now fact.now }
 {
     false
 }
 
-/// Tests the size sum and the inequalities of a fact where these types, from the first on, take these actions.
+/// Tests the size sum and the inequalities of a fact where the fixed types take their actions.
 pub(crate) fn test_shown(
     game: &Game,
     report: &Report,
-    first: u8,
-    acts: &[u16],
+    numbers: &Numbers,
+    fix: &FixedTypes,
     fact: &Fact,
     line: u64,
 ) -> Result<(), Refusal>
-    requires { IsFix game.now (record { first = first; acts = acts.now }) }
-    ensures { (n : ℕ) → line ≡ held_line n → AnswersTests game.now report.now (shown_stops n (record { first = first; acts = acts.now }) fact.now) result }
+    requires numbers { AreNumbers game.now numbers.now }
+    requires fix { IsFix game.now fix.now }
+    ensures { (n : ℕ) → line ≡ held_line n → AnswersTests game.now report.now (shown_stops n fix.now fact.now) result }
 {
-    if !fits(game, first, acts, fact) {
+    if !fits(game, numbers, fix, fact) {
         return Err(Refusal { line, reason: 9 });
     }
-    if !holds(game, first, acts, fact) {
+    if !holds(game, numbers, fix, fact) {
         return Err(Refusal { line, reason: 6 });
     }
     Ok(())
@@ -107,7 +112,7 @@ pub(crate) fn test_fact(
     ensures { (n : ℕ) → line ≡ held_line n → BoundAnswers game.now report.now (fact_stops n acts.now fact.now) (listed (fact_bound game.now report.now.caps (length acts.now) fact.now)) result }
 {
     let _types = game.types();
-    match test_shown(game, report, 1, acts, fact, line) {
+    match test_shown(game, report, numbers, &FixedTypes::prefix(acts), fact, line) {
         Ok(()) => test_bound(game, report, numbers, acts.len() as u8, fact, line),
         Err(refusal) => Err(refusal),
     }

@@ -17,7 +17,7 @@ finished all acts a i size few e same =
 
 pub loop-i-preserved : goal.loop-i-preserved
 loop-i-preserved c =
-    let s = length-set c.loop-i.all c.loop-i.i _ in
+    let s : length (set c.loop-i.all c.loop-i.i (get_or c.args.acts.now c.loop-i.i 0)) ≡ length c.loop-i.all = length-set c.loop-i.all c.loop-i.i _ in
     let few : length c.args.acts.now < 8 = omega (arith, c.requires.next, c.types-types.ensures.count, c.types-types.ensures.few) in
     record {
       size = s ∙ c.loop-i.invariant.size;
