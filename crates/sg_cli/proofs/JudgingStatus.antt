@@ -35,8 +35,8 @@ wrong_report g r NotYet h = absurd h
 wrong_report g r (ReportWrong line reason) h = refl
 
 right_report : (g : Game) (r : Report) → IsAccepted g r → (own : CommandRefusal) → ¬ (refuses_wrong (game g ∷ report r ∷ []) own)
-right_report g r accepted NotYet h = h
-right_report g r accepted (ReportWrong line reason) h = (refusal_is_one g r).0 accepted line reason h
+right_report g r is NotYet h = h
+right_report g r is (ReportWrong line reason) h = (refusal_is_one g r).0 is line reason h
 
 -- ---- by the files
 
@@ -50,9 +50,9 @@ module _ (files : Files) (name named : List ℕ) (ends : List Content → ℕ �
   module _ (one : (g : Game) (r : Report) → IsOne (ends (game g ∷ report r ∷ []))) where
     -- by a report that was read
     by_report : (g : Game) → IsGame g → (r : Report) → IsAccepted g r ⊎ ((line : ℕ) × (reason : ℕ) × IsRefused g r line reason) → IsOne (by_both g r)
-    by_report g is r (inl accepted) =
-        one_taken (judging name named) (game g ∷ report r ∷ []) (ends (game g ∷ report r ∷ [])) (record { accepted = accepted; means = accepted_means g is r accepted })
-        (right_report g r accepted) (one g r)
+    by_report g is r (inl holds) =
+        one_taken (judging name named) (game g ∷ report r ∷ []) (ends (game g ∷ report r ∷ [])) (record { accepted = holds; means = accepted_means g is r holds })
+        (right_report g r holds) (one g r)
     by_report g is r (inr h) =
         one_refusal (judging name named) (game g ∷ report r ∷ []) (ends (game g ∷ report r ∷ [])) (ReportWrong h.0 h.1) h.2 (wrong_report g r)
         (λ taken. (refusal_is_one g r).0 taken.accepted h.0 h.1 h.2)

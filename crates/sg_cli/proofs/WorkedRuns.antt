@@ -86,11 +86,11 @@ worked_limits = record {
   longer_game = λ files name bytes h. by_longer any_bytes (solving name) files 5 [] (game_file name) [] tt (holds_more files name bytes 4194304 4194305 h (omega arith)) refl;
   longest_report = λ files name named bytes text fault h e k f.
       by_said any_bytes (checking name named) files 7 [] (game_file name) (report_file named ∷ []) (inputs.game one_player) tt (says files name bytes (Ok one_player) h.stands (omega (arith, h.count)) e)
-      (by_faulty any_bytes (checking name named) files 7 (inputs.game one_player ∷ []) (report_file named) [] (faults.Report fault) refl
+      (by_faulty any_bytes (checking name named) files 7 (inputs.game one_player ∷ []) (report_file named) [] (faults.Report fault) tt
       (spells files named text (Err fault) k.stands (omega (arith, k.count)) f) refl);
   longer_report = λ files name named bytes text h e k.
       by_said any_bytes (checking name named) files 5 [] (game_file name) (report_file named ∷ []) (inputs.game one_player) tt (says files name bytes (Ok one_player) h.stands (omega (arith, h.count)) e)
-      (by_longer any_bytes (checking name named) files 5 (inputs.game one_player ∷ []) (report_file named) [] refl (holds_more files named text 536870912 536870913 k (omega arith)) refl);
+      (by_longer any_bytes (checking name named) files 5 (inputs.game one_player ∷ []) (report_file named) [] tt (holds_more files named text 536870912 536870913 k (omega arith)) refl);
 }
 
 -- ---- reports
@@ -103,7 +103,7 @@ module _ (ends : List Content → ℕ → Type 0) (writes : List Content → ℕ
   both : ByRest command files (inputs.game one_player ∷ inputs.report r ∷ []) [] status → ExpectedStatus command files status
   both due =
       by_said any_bytes command files status [] (game_file name) (report_file named ∷ []) (inputs.game one_player) tt (says files name h.bytes (Ok one_player) h.holds_game (omega (arith, h.few)) h.says_game)
-      (by_said any_bytes command files status (inputs.game one_player ∷ []) (report_file named) [] (inputs.report r) refl
+      (by_said any_bytes command files status (inputs.game one_player ∷ []) (report_file named) [] (inputs.report r) tt
       (spells files named h.text (Ok r) h.holds_report (omega (arith, h.short)) h.says_report) due)
 
   -- a report that is accepted
