@@ -24,7 +24,7 @@ use Rattle.sg_matchings.specs.declared.part.Part.{Part}
 use Rattle.sg_linear.specs.Sums.{sum_below}
 use Rattle.sg_matchings.specs.Tables.{cell}
 use Rattle.sg_matchings.specs.Padding.{AreWithin, column_total}
-use Rattle.sg_matchings.specs.Decompositions.{IsDecomposition, IsMatching, weight_at}
+use Rattle.sg_matchings.specs.Decompositions.{IsDecomposition, IsMatching, cell_weight}
 use Rattle.sg_matchings.proofs.Places.{sum_below-same}
 use Rattle.sg_split.specs.ByTarget.{AreServed, AreTargetRows, AreTicketsFor, HasChoiceTo}
 use Rattle.sg_split.specs.Matched.{AreChoiceCounts, IsMatched, asked, positive_entries}
@@ -72,7 +72,7 @@ module _ (g : Game) (game : IsGame g) (counts : List (List ℤ)) (tickets : ℤ)
   covered_in : (t : ℕ) → t < length g.goals → cover_count g xs (suc t) ≡ asked g counts (suc t)
   covered_in t lt =
       tickets_cover g game are.single rows target.long t lt parts xs for is.matchings
-      ∙ (sum_below-same (resource_count g) (λ i. total (weight_at i t) parts) (λ i. cell rows i t) (λ i li. is.each_cell i t (omega (arith, li, target.long)) lt)
+      ∙ (sum_below-same (resource_count g) (λ i. total (cell_weight i t) parts) (λ i. cell rows i t) (λ i li. is.each_cell i t (omega (arith, li, target.long)) lt)
       ∙ (ap (λ (n : ℕ). sum_below n (λ i. cell rows i t)) (sym target.long) ∙ column_is g game counts tickets are rows target t lt))
 
   pub matched_is : (k : Committed) → AreMultiple xs k.tickets → IsCommitted k → IsMatched g counts tickets k

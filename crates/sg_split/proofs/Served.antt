@@ -18,7 +18,7 @@ use Rattle.sg_bounds.specs.Coverage.{choice_holds}
 use Rattle.sg_matchings.specs.declared.part.Part.{Part}
 use Rattle.sg_linear.specs.Sums.{sum_below}
 use Rattle.sg_matchings.specs.Tables.{cell}
-use Rattle.sg_matchings.specs.Decompositions.{IsMatching, weight_at}
+use Rattle.sg_matchings.specs.Decompositions.{IsMatching, cell_weight}
 use Rattle.sg_matchings.proofs.Places.{sum_below-add, sum_below-once, sum_below-same, sum_below-zero}
 use Rattle.sg_matchings.proofs.PadSteps.{each-pushed, length-pushed}
 use Rattle.sg_split.specs.ByTarget.{none, more, AreServed, AreTicketsFor, HasChoiceTo, IsChoiceFor, IsChoiceTo, IsPlayFor, IsTargetOf, IsTicketFor}
@@ -149,7 +149,7 @@ module _ (g : Game) (game : IsGame g) (single : IsSingle g) (rows : List (List �
   tickets_many (part ∷ parts) (x ∷ xs) (more _ _ _ _ is rest) = omega (arith, tickets_many parts xs rest)
 
   by_part : (t : ℕ) → t < length g.goals → (parts : List Part) (xs : List Ticket) → AreTicketsFor g parts xs → All Fits parts
-      → cover_count g xs (suc t) ≡ total (λ (part : Part). sum_below (resource_count g) (λ i. weight_at i t part)) parts
+      → cover_count g xs (suc t) ≡ total (λ (part : Part). sum_below (resource_count g) (λ i. cell_weight i t part)) parts
   by_part t lt [] [] none h = refl
   by_part t lt [] (x ∷ xs) e h = elim e [ ]
   by_part t lt (part ∷ parts) [] e h = elim e [ ]
@@ -157,13 +157,13 @@ module _ (g : Game) (game : IsGame g) (single : IsSingle g) (rows : List (List �
       let fits = All-head Fits part parts h in
       let apart = λ (i k : ℕ) (before : i < k) (lk : k < resource_count g) (low : get_or part.columns i 0 < length g.goals). fits.different i k before (omega (arith, lk, long)) low in
       let one = cover_sum g game single part.columns x.play.code is.play t x.weight lt apart in
-      let same : sum_below (resource_count g) (λ i. cond (eqb (get_or part.columns i 0) t) x.weight (pos 0)) ≡ sum_below (resource_count g) (λ i. weight_at i t part) =
+      let same : sum_below (resource_count g) (λ i. cond (eqb (get_or part.columns i 0) t) x.weight (pos 0)) ≡ sum_below (resource_count g) (λ i. cell_weight i t part) =
       ap (λ (w : ℤ). sum_below (resource_count g) (λ i. cond (eqb (get_or part.columns i 0) t) w (pos 0))) is.weight in
       omega (arith, ints, one, same, by_part t lt parts xs rest (All-tail Fits part parts h))
 
   pub tickets_cover : (t : ℕ) → t < length g.goals → (parts : List Part) (xs : List Ticket) → AreTicketsFor g parts xs → All Fits parts
-      → cover_count g xs (suc t) ≡ sum_below (resource_count g) (λ i. total (weight_at i t) parts)
-  tickets_cover t lt parts xs are h = by_part t lt parts xs are h ∙ total-below (resource_count g) (λ i part. weight_at i t part) parts
+      → cover_count g xs (suc t) ≡ sum_below (resource_count g) (λ i. total (cell_weight i t) parts)
+  tickets_cover t lt parts xs are h = by_part t lt parts xs are h ∙ total-below (resource_count g) (λ i part. cell_weight i t part) parts
 
 pub tickets-pushed : (g : Game) (parts : List Part) (xs : List Ticket) (part : Part) (x : Ticket) → AreTicketsFor g parts xs → IsTicketFor g part x → AreTicketsFor g (parts ++ part ∷ []) (xs ++ x ∷ [])
 tickets-pushed g [] [] part x none is = more part [] x [] is none
