@@ -27,7 +27,7 @@ fn report_after(alloc: Global, lines: &[&str], edits: &[Edit]) -> Result<Report,
     let mut number = 0usize;
     for line in lines {
         number = number.saturating_add(1);
-        text.extend_from_slice(line_at(number, line, edits).as_bytes())?;
+        text.extend_from_slice(line_at(number, line, &*edits).as_bytes())?;
     }
     read_report(alloc, &text)
 }

@@ -307,14 +307,14 @@ const NESTED: [&str; 22] = [
     "end\n",
 ];
 
-/// Its lines but the last ones, from a line on, with an edit.
-fn nested(alloc: Global, edit: &Edit, count: usize) -> Result<String, AllocError> {
+/// So many of its lines, after the edits.
+fn nested(alloc: Global, edits: &[Edit], count: usize) -> Result<String, AllocError> {
     let mut text = String::new(alloc);
     let mut number = 0usize;
     for line in NESTED {
         number = number.saturating_add(1);
         if number <= count {
-            text.push_str(line_at(number, line, &[*edit]))?;
+            text.push_str(line_at(number, line, edits))?;
         }
     }
     Ok(text)
@@ -374,7 +374,7 @@ static NESTED_RUNS: [(&str, &str, Edit, usize, u8, &str, &str); 7] = [
 #[test]
 fn checks_and_shows_reports_of_two_types(rt: HostRuntime) -> Result<(), AllocError> {
     for (command, game, edit, count, status, out, err) in &NESTED_RUNS {
-        let report = nested(rt.alloc(), edit, *count)?;
+        let report = nested(rt.alloc(), &[*edit], *count)?;
         let expected = Answer {
             status: *status,
             out,
