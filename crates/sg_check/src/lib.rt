@@ -20,6 +20,7 @@ mod checking;
 mod ending;
 mod fact;
 mod fork;
+mod height;
 mod numbers;
 mod quotient;
 mod refusal;
