@@ -6,6 +6,7 @@ use Rattle.sg_model.specs.Payoffs.{shift_of}
 use Rattle.sg_tree.specs.declared.report.Report.{Report}
 use Rattle.sg_num.specs.Exact.{Fits}
 use Rattle.sg_bounds.specs.Regions.{fixed, prefix}
+use Rattle.sg_plays_fact.specs.Measuring.{AreMeasures}
 use Rattle.sg_check.specs.declared.numbers.Numbers.{Numbers}
 use Rattle.sg_check.specs.declared.quotient.Quotient.{Quotient}
 
@@ -18,6 +19,7 @@ pub record AreActions (g : Game) (acts : List ℕ) : Type 0 where
 pub record AreNumbers (g : Game) (m : Numbers) : Type 0 where
   pub shift : m.shift ≡ shift_of g
   pub priors : m.priors ≡ prior_total g
+  pub measures : AreMeasures g m.measures
   pub shift_range : IsWithin (pos 1 -ℤ pos (2 ^ 30)) (pos (2 ^ 30 + 1)) m.shift
   pub priors_range : IsWithin (pos 1) (pos (2 ^ 23)) m.priors
 

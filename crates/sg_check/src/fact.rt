@@ -15,9 +15,11 @@ use crate::bound::{Stated, bound_of};
 use crate::numbers::Numbers;
 use crate::quotient::reduced;
 use crate::refusal::Refusal;
+use sg_cover_fact::holds as cover_holds;
 use sg_fixed::FixedTypes;
 use sg_frac::Frac;
 use sg_game::Game;
+use sg_plays_fact::{holds as plays_hold, size_fits};
 use sg_tree::{Fact, Report};
 
 /// Whether the size sum of a fact and the numbers under it fit.
@@ -26,7 +28,7 @@ fn fits(game: &Game, numbers: &Numbers, fix: &FixedTypes, fact: &Fact) -> bool
     requires fix { IsFix game.now fix.now }
     ensures { IsTrue result ↔ All Fits (size_sums game.now fix.now fact.now) }
 {
-    false
+    size_fits(game, &numbers.measures, fix, fact)
 }
 
 /// Whether a fact holds where the fixed types take their actions.
@@ -36,7 +38,13 @@ fn holds(game: &Game, numbers: &Numbers, fix: &FixedTypes, fact: &Fact) -> bool
     requires size { All Fits (size_sums game.now fix.now fact.now) }
     ensures { IsTrue result ↔ HoldsFor game.now fix.now fact.now }
 {
-    false
+    match fact {
+        Fact::Plays { rho, mu, marks } => {
+            plays_hold(game, &numbers.measures, fix, *rho, *mu, marks.as_slice())
+        }
+        Fact::Cover { rho, mu, lines } => cover_holds(game, fix, *rho, *mu, lines.as_slice()),
+        Fact::Water { .. } => false,
+    }
 }
 
 /// Tests the size sum and the inequalities of a fact where the fixed types take their actions.

@@ -4,6 +4,7 @@ ghost use Rattle.std.specs.Prelude.{◌≡◌};
 ghost use Rattle.sg_check.specs.Placing.{AreNumbers};
 
 use sg_game::{Game, prior_total, shift};
+use sg_plays_fact::{Measures, measures_of};
 
 /// Numbers of a game, found once.
 #[derive(Clone, Copy)]
@@ -12,6 +13,8 @@ pub(crate) struct Numbers {
     pub(crate) shift: i128,
     /// The sum of the priors.
     pub(crate) priors: i128,
+    /// What the facts are measured by.
+    pub(crate) measures: Measures,
 }
 
 /// The numbers of a game.
@@ -21,5 +24,6 @@ pub(crate) fn numbers_of(game: &Game) -> Numbers
     Numbers {
         shift: i128::from(shift(game)),
         priors: i128::from(prior_total(game)),
+        measures: measures_of(game),
     }
 }

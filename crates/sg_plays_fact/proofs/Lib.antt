@@ -1,0 +1,17 @@
+pub mod Within
+pub mod Running
+pub mod Few
+pub mod Fixes
+pub mod Adding
+pub mod Ranges
+pub mod Greatests
+pub mod Formed
+pub mod Payments
+pub mod Placed
+pub mod Coverings
+pub mod Regrets
+pub mod Fresh
+pub mod Choosing
+pub mod Weighed
+pub mod Affine
+pub mod Rooms
