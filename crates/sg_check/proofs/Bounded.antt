@@ -82,3 +82,13 @@ total-last f a n e = rw e refl
 pub sum-next : (f : ℕ → ℤ) (a n m : ℕ) (z x made whole : ℤ) → n ≡ suc m → z +ℤ total f (numbers_from a n) ≡ whole → x ≡ f a → made ≡ z +ℤ x
     → made +ℤ total f (numbers_from (a + 1) m) ≡ whole
 sum-next f a n m z x made whole e h is k = omega (arith, ints, total-step f a n m e, h, is, k)
+
+-- the numbers of a bound, formed one after another
+pub bound-made : (rho mu rest formed share num den priors : ℤ) → formed ≡ rest → Fits (rho *ℤ formed) × (share ≡ rho *ℤ formed) → Fits (mu +ℤ share) × (num ≡ mu +ℤ share)
+    → Fits (rho *ℤ priors) × (den ≡ rho *ℤ priors) → BoundFits rho mu rest priors × IsBoundOf (record { num = num; den = den }) rho mu rest priors
+bound-made rho mu rest formed share num den priors e a b d =
+    let is : rho *ℤ formed ≡ rho *ℤ rest = ap (λ (z : ℤ). rho *ℤ z) e in
+    let all : share ≡ rho *ℤ rest = a.1 ∙ is in (
+      record { share = subst Fits is a.0; num = subst (λ (z : ℤ). Fits (mu +ℤ z)) all b.0; den = d.0 },
+      record { num = b.1 ∙ ap (λ (z : ℤ). mu +ℤ z) all; den = d.1 },
+    )
