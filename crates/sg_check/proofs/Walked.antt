@@ -154,8 +154,8 @@ module _ (g : Game) (r : Report) (acts : List ℕ) (n : ℕ) (above : Option Fra
         let best_here = subst (λ (m : ℕ). IsGreatestBound more.best (so_far i ++ leaf_bounds g r.caps m above (node_of x))) count a.1.best in
         let before : List Fraction = part_bounds g r.caps (length acts + 1) above (nodes (take i parts)) in
         let taken : so_far i ++ here ≡ so_far (i + 1) =
-            append_assoc bounds before here
-            ∙ ap (λ (bs : List Fraction). bounds ++ bs) (sym (ap (λ (ts : List Tree). part_bounds g r.caps (length acts + 1) above (nodes ts)) (part_taken parts i x lt is) ∙ bounds-push g r.caps (length acts + 1) above (take i parts) x)) in
+        append_assoc bounds before here
+        ∙ ap (λ (bs : List Fraction). bounds ++ bs) (sym (ap (λ (ts : List Tree). part_bounds g r.caps (length acts + 1) above (nodes ts)) (part_taken parts i x lt is) ∙ bounds-push g r.caps (length acts + 1) above (take i parts) x)) in
         record {
           at = h.at + tree_lines (node_of x);
           line = a.1.next;
@@ -175,11 +175,13 @@ module _ (g : Game) (r : Report) (acts : List ℕ) (n : ℕ) (above : Option Fra
       let none = drop_all i parts le in
       let lines = subst (λ (ts : List Tree). h.at + part_lines (nodes ts) ≡ n + part_lines (nodes parts)) none h.lines in
       let pass = h.rest.pass (subst (λ (ts : List Tree). AllPass g r (part_stops h.at acts (i + 1) (nodes ts))) (sym none) tt) in
-      let same : h.at ≡ n + part_lines (nodes parts) = omega (arith, lines) in
-      (pass, record {
-        best = subst (λ (ts : List Tree). IsGreatestBound best (bounds ++ part_bounds g r.caps (length acts + 1) above (nodes ts))) (take_all i parts le) h.top;
-        next = h.line ∙ ap held_line same;
-      })
+      let same : h.at ≡ n + part_lines (nodes parts) = omega (arith, lines) in (
+        pass,
+        record {
+          best = subst (λ (ts : List Tree). IsGreatestBound best (bounds ++ part_bounds g r.caps (length acts + 1) above (nodes ts))) (take_all i parts le) h.top;
+          next = h.line ∙ ap held_line same;
+        },
+      )
 
 -- ---- the root
 

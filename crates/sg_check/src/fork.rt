@@ -86,5 +86,13 @@ pub(crate) fn test_fork(
     if !is_fork(game, report, acts, l, parts) {
         return Err(Refusal { line, reason: 5 });
     }
-    test_base(game, report, numbers, acts, above, base, line.saturating_add(1))
+    test_base(
+        game,
+        report,
+        numbers,
+        acts,
+        above,
+        base,
+        line.saturating_add(1),
+    )
 }

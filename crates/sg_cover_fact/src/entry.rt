@@ -149,7 +149,13 @@ fn add_entry(game: &Game, fix: &FixedTypes, row: TableRow, t: u16, v: i128, cove
 }
 
 /// Adds a multiplier of a row, times its entries in the columns of the targets, to the sums of these columns.
-pub(crate) fn add_covered(game: &Game, fix: &FixedTypes, row: TableRow, v: i128, covered: &mut [i128])
+pub(crate) fn add_covered(
+    game: &Game,
+    fix: &FixedTypes,
+    row: TableRow,
+    v: i128,
+    covered: &mut [i128],
+)
     requires security { game.now.kind ≡ Security }
     requires is_fix { IsFix game.now fix.now }
     requires row { IsTableRow game.now fix.now row }

@@ -18,7 +18,13 @@ use sg_model::limit::{SCALED_PATROL_LIMIT, SCALED_TARGET_LIMIT, TARGET_LIMIT};
 use sg_tree::Mark;
 
 /// The fact's sum for the play in which each resource is idle.
-fn idle_sum(game: &Game, measures: &Measures, fix: &FixedTypes, stated: &Stated, marks: &[Mark]) -> i128
+fn idle_sum(
+    game: &Game,
+    measures: &Measures,
+    fix: &FixedTypes,
+    stated: &Stated,
+    marks: &[Mark],
+) -> i128
     requires security { is_matrix game.now ≡ false }
     requires measures { AreMeasures game.now measures.now }
     requires sized { IsSizedFact game.now fix.now stated.now marks.now }

@@ -92,7 +92,13 @@ fn sum_fits(gain: Option<i128>, regret: Option<i128>) -> bool
 }
 
 /// Whether the size sum and each number under it fit, from what the total of the multipliers is.
-fn parts_fit(game: &Game, measures: &Measures, fix: &FixedTypes, rho: i128, sum: Option<i128>) -> bool
+fn parts_fit(
+    game: &Game,
+    measures: &Measures,
+    fix: &FixedTypes,
+    rho: i128,
+    sum: Option<i128>,
+) -> bool
     requires is_fix { IsFix game.now fix.now }
     requires measures { AreMeasures game.now measures.now }
     ensures { (vs : List ℤ) → IsWhereAllFit sum (running (pos 0) vs) (total (λ v. v) vs) → (IsTrue result ↔ All Fits (size_numbers rho (fixed_priors game.now fix.now) (defender_most game.now) vs (attacker_most game.now))) }

@@ -101,7 +101,13 @@ fn weigh_mark(game: &Game, fix: &FixedTypes, mark: &Mark, weights: &mut [i128])
 }
 
 /// The weight of each target, from weights that are all 0.
-pub(crate) fn weigh(game: &Game, fix: &FixedTypes, stated: &Stated, marks: &[Mark], weights: &mut [i128])
+pub(crate) fn weigh(
+    game: &Game,
+    fix: &FixedTypes,
+    stated: &Stated,
+    marks: &[Mark],
+    weights: &mut [i128],
+)
     requires security { is_matrix game.now ≡ false }
     requires one_each { length weights.old ≡ length game.now.goals }
     requires zero { (t : ℕ) → IsCount 1 (length weights.old) t → nth weights.old t (pos 0) ≡ pos 0 }

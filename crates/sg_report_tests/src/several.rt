@@ -108,18 +108,12 @@ static BASES: [Edited; 2] = [
 
 /// Tickets and value, each with a later test that fails too.
 static TICKETS: [Edited; 5] = [
-    Edited(
-        &[(2, "tickets 2 4\n"), (4, "t 1 3\n")],
-        Says::No(4, 1),
-    ),
+    Edited(&[(2, "tickets 2 4\n"), (4, "t 1 3\n")], Says::No(4, 1)),
     Edited(
         &[(3, "t 170141183460469231731687303715884105727 1\n")],
         Says::No(2, 9),
     ),
-    Edited(
-        &[(2, "tickets 2 4\n"), (5, "value 4 1\n")],
-        Says::No(2, 2),
-    ),
+    Edited(&[(2, "tickets 2 4\n"), (5, "value 4 1\n")], Says::No(2, 2)),
     Edited(
         &[
             (2, "tickets 2 6\n"),
@@ -237,10 +231,7 @@ static WIDE: [Edited; 5] = [
         Says::No(13, 6),
     ),
     Edited(
-        &[(
-            13,
-            "plays 50000000000000000000000000000000000000 0 0\n",
-        )],
+        &[(13, "plays 50000000000000000000000000000000000000 0 0\n")],
         Says::No(13, 9),
     ),
 ];

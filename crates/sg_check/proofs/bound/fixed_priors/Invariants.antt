@@ -8,5 +8,5 @@ abbrev pub invariant-loop-l : goal.invariant-loop-l
 invariant-loop-l s = record {
   whole : s.sum +ℤ total (λ (a : ℕ). (attacker s.game a).prior) (numbers_from (s.l + 1) (s.fixed - s.l)) ≡ total (λ (a : ℕ). (attacker s.game a).prior) (numbers s.fixed);
   low : pos 0 ≤ℤ s.sum;
-  high : s.sum ≤ℤ pos (s.l * 2 ^ 20)
+  high : s.sum ≤ℤ pos (s.l * 2 ^ 20);
 }

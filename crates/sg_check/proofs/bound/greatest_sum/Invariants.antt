@@ -10,5 +10,5 @@ invariant-loop-l s = record {
   whole : s.sum +ℤ total (λ (a : ℕ). (attacker s.game a).prior *ℤ greatest_of s.game a) (numbers_from (s.l + 1) (length s.game.types - s.l))
       ≡ total (λ (a : ℕ). (attacker s.game a).prior *ℤ greatest_of s.game a) (numbers (length s.game.types));
   low : (pos 0 -ℤ pos (s.l * 2 ^ 50)) ≤ℤ s.sum;
-  high : s.sum ≤ℤ pos (s.l * 2 ^ 50)
+  high : s.sum ≤ℤ pos (s.l * 2 ^ 50);
 }

@@ -10,5 +10,5 @@ invariant-loop-l s = record {
   whole : s.sum +ℤ total (λ (a : ℕ). (attacker s.game a).prior *ℤ (cap_of s.report.caps a).v) (numbers_from (s.l + 1) (length s.game.types - s.l))
       ≡ total (λ (a : ℕ). (attacker s.game a).prior *ℤ (cap_of s.report.caps a).v) (numbers_from (s.fn.fixed + 1) (length s.game.types - s.fn.fixed));
   low : (pos 0 -ℤ pos ((s.l - s.fn.fixed) * 2 ^ 83)) ≤ℤ s.sum;
-  high : s.sum ≤ℤ pos ((s.l - s.fn.fixed) * 2 ^ 83)
+  high : s.sum ≤ℤ pos ((s.l - s.fn.fixed) * 2 ^ 83);
 }

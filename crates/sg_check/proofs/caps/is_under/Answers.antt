@@ -12,7 +12,7 @@ above : (mu rho w mu' rho' w' : ℤ) (b : Bool) → mu' ≡ mu → rho' ≡ rho 
 above mu rho w mu' rho' w' b e f k h some =
     let q : mu' ≤ℤ (rho' *ℤ w') ≡ mu ≤ℤ (rho *ℤ w) = (λ i. e i ≤ℤ (f i *ℤ k i)) in (
       λ yes. inr (subst (λ (P : Type 0). P) q (h.0 yes)),
-      λ under. elim under [ | inl none ↦ absurd (some none) | inr le ↦ h.1 (subst (λ (P : Type 0). P) (sym q) le) ],
+      λ under. elim under [ inl none ↦ absurd (some none) | inr le ↦ h.1 (subst (λ (P : Type 0). P) (sym q) le) ],
     )
 
 pub returns : goal.returns

@@ -22,10 +22,10 @@ returns-then-not-are_under c = λ n e.
     let d = subst (λ (m : ℕ). LineAnswers g r (proof_stops m 1 (n + 1) x.proof) (n + 1 + proof_lines x.proof) (Ok c.in-Ok.next)) passes.1 b in
     let v : to_z w64 (of_z w64 c.bound_of_cap.result) ≡ x.v = omega (arith, ints, c.bound_of_cap.type_inv, c.bound_of_cap.ensures) in
     cap-above g r l n x passes c.args.line e d.0 (λ all.
-        let here = subst (λ (fs : List Fact). All (IsUnderCap g l x.v) fs) (sym c.as_slice-facts.ensures) all in
-        let there = subst (λ (m : ℕ). All (IsUnderCap g m x.v) c.as_slice-facts.result.now) (sym passes.1) here in
-        let no = c.if-not-are_under.ensures.1 (subst (λ (z : ℤ). All (IsUnderCap g x.l z) c.as_slice-facts.result.now) (sym v) there) in
-        absurd (cc))
+    let here = subst (λ (fs : List Fact). All (IsUnderCap g l x.v) fs) (sym c.as_slice-facts.ensures) all in
+    let there = subst (λ (m : ℕ). All (IsUnderCap g m x.v) c.as_slice-facts.result.now) (sym passes.1) here in
+    let no = c.if-not-are_under.ensures.1 (subst (λ (z : ℤ). All (IsUnderCap g x.l z) c.as_slice-facts.result.now) (sym v) there) in
+    absurd (cc))
 
 pub returns-else-not-are_under : goal.returns-else-not-are_under
 returns-else-not-are_under c = λ n e.

@@ -14,8 +14,8 @@ test_shown-requires-clause-fix c = subst (IsFix c.args.game.now) (sym c.alone.en
 pub returns-in-Err : goal.returns-in-Err
 returns-in-Err c = λ n e.
     let answers : (k : ℕ) → c.loop-fact.next ≡ held_line k → TellsFirst c.args.game.now c.args.report.now (shown_stops k (alone c.args.l (c.loop-fact.fact-index + 1)) c.fact-item.result) c.in-Err.refusal =
-        λ k at. subst (λ (i : ℕ). TellsFirst c.args.game.now c.args.report.now (shown_stops k (alone c.args.l (i + 1)) c.fact-item.result) c.in-Err.refusal) c.loop-fact.invariant.count
-        (subst (λ (fix : Fix). TellsFirst c.args.game.now c.args.report.now (shown_stops k fix c.fact-item.result) c.in-Err.refusal) c.alone.ensures (c.in-Err.ensures k at)) in
+    λ k at. subst (λ (i : ℕ). TellsFirst c.args.game.now c.args.report.now (shown_stops k (alone c.args.l (i + 1)) c.fact-item.result) c.in-Err.refusal) c.loop-fact.invariant.count
+    (subst (λ (fix : Fix). TellsFirst c.args.game.now c.args.report.now (shown_stops k fix c.fact-item.result) c.in-Err.refusal) c.alone.ensures (c.in-Err.ensures k at)) in
     shown-fails c.args.game.now c.args.report.now c.args.l n c.args.facts.now c.loop-fact.next c.loop-fact.fact-index c.fact-item.result c.loop-fact-test.true c.fact-item.is (c.loop-fact.invariant.shown n e) c.in-Err.refusal answers
 
 pub loop-fact-preserved : goal.loop-fact-preserved
@@ -23,7 +23,7 @@ loop-fact-preserved c = record {
   count = omega (arith, c.loop-fact.invariant.count);
   shown = λ n e.
       let answers : (k : ℕ) → c.loop-fact.next ≡ held_line k → AllPass c.args.game.now c.args.report.now (shown_stops k (alone c.args.l (c.loop-fact.fact-index + 1)) c.fact-item.result) =
-          λ k at. subst (λ (i : ℕ). AllPass c.args.game.now c.args.report.now (shown_stops k (alone c.args.l (i + 1)) c.fact-item.result)) c.loop-fact.invariant.count
-          (subst (λ (fix : Fix). AllPass c.args.game.now c.args.report.now (shown_stops k fix c.fact-item.result)) c.alone.ensures (c.in-Ok.ensures k at)) in
+      λ k at. subst (λ (i : ℕ). AllPass c.args.game.now c.args.report.now (shown_stops k (alone c.args.l (i + 1)) c.fact-item.result)) c.loop-fact.invariant.count
+      (subst (λ (fix : Fix). AllPass c.args.game.now c.args.report.now (shown_stops k fix c.fact-item.result)) c.alone.ensures (c.in-Ok.ensures k at)) in
       shown-more c.args.game.now c.args.report.now c.args.l n c.args.facts.now c.loop-fact.next c.loop-fact.fact-index c.fact-item.result c.loop-fact-test.true c.fact-item.is (c.loop-fact.invariant.shown n e) c.lines_of.result c.saturating_add-next.result answers c.lines_of.ensures c.saturating_add-next.ensures;
 }

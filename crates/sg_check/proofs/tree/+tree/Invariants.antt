@@ -9,5 +9,5 @@ use Rattle.sg_check.proofs.tree.+tree.Given as goal
 abbrev pub invariant-test_parts-loop-part : goal.invariant-test_parts-loop-part
 invariant-test_parts-loop-part l = record {
   count : l.a ≡ l.part-index;
-  walked : (n : ℕ) (above : Option Fraction) (bounds : List Fraction) → ShowsOnly (listed above) l.base → IsTopOf l.top bounds n → HasWalked l.game l.report l.acts n above bounds l.parts l.next l.best l.part-index
+  walked : (n : ℕ) (above : Option Fraction) (bounds : List Fraction) → ShowsOnly (listed above) l.base → IsTopOf l.top bounds n → HasWalked l.game l.report l.acts n above bounds l.parts l.next l.best l.part-index;
 }
