@@ -61,7 +61,7 @@ sed 's/^value 2 3/value 1 1/' right.report >wrong.report
 for command in check show roster; do
   expect 4 'game not read' "$command" missing.toml missing.report
   expect 6 'game refused 3 at document' "$command" empty.toml missing.report
-  expect 3 'not yet' "$command" "$top/examples/two-attackers.toml" missing.report
+  expect 4 'report not read' "$command" "$top/examples/two-attackers.toml" missing.report
   expect 4 'report not read' "$command" "$game" missing.report
   expect 4 'report not read' "$command" "$game" folder
   expect 7 'report refused 2 at line 1' "$command" "$game" empty.toml

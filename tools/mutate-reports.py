@@ -4,7 +4,7 @@
     tools/mutate-reports.py [CASES] [SEED] [--program PATH]    so many reports, made by the seed
     tools/mutate-reports.py --self-test                        no program: the checker on reports worked out by hand, and on the examples of docs/REPORT.md
 
-The reports are those that `solve` writes, some worked out by hand, and right ones made up by the seed for the games of examples/ and for small made-up
+The reports are those that `solve` writes, some worked out by hand, of several types and with cover facts too, and right ones made up by the seed for the games of examples/ and for small made-up
 games; each with none to three changes. Each run must end within ten seconds with the status, the standard output and the standard error that the
 checker tells, and one that refuses must leave standard output empty. Not part of the gate: it needs crates/patrol/out/patrol, as .ci/run leaves it.
 """
@@ -20,7 +20,7 @@ from fractions import Fraction
 from math import gcd
 
 sys.dont_write_bytecode = True
-from report_cases import COVERED, IN_A_ROW, INSPECTION, NEIGHBOURS, NESTED, ONE_TARGET, PAIRS, SHARED, SMALL, SPENT, TWO_TYPES, exchange, self_test
+from report_cases import COVERED, COVERED_TWICE, DEEP, IN_A_ROW, INSPECTION, NEIGHBOURS, NESTED, ONE_TARGET, PAIRS, SHARED, SMALL, SPENT, THREE_TYPES, TWO_TARGETS, TWO_TYPES, exchange, self_test
 from report_checker import LEAST, MOST, NUMBER, WORD, Game, Ticket, answer, fields_of, read_report, water_bound
 
 TOP = os.path.dirname(os.path.dirname(os.path.abspath(__file__)))
@@ -339,7 +339,7 @@ class Bench:
     def __init__(self, program, folder, draw):
         self.program, self.folder, self.draw = program, folder, draw
         self.games = []
-        for text in list(examples()) + [INSPECTION, NEVER_BEST, TWO_TYPES, ONE_TARGET, NEIGHBOURS, IN_A_ROW] + [made_up_game(draw) for _ in range(60)]:
+        for text in list(examples()) + [INSPECTION, NEVER_BEST, ONE_TARGET, NEIGHBOURS, IN_A_ROW] + [TWO_TYPES, THREE_TYPES, TWO_TARGETS] * 8 + [made_up_game(draw) for _ in range(60)]:
             self.add(text)
 
     def add(self, text):
@@ -352,7 +352,7 @@ class Bench:
     def reports(self, path, text, game):
         """Reports to start from: what `solve` writes, those worked out by hand, and some made up."""
         if len(game.types) > 1:
-            return [NESTED.encode()]
+            return [{THREE_TYPES: DEEP, TWO_TARGETS: COVERED_TWICE}.get(text, NESTED).encode()]
         found = [made_up_report(self.draw, game).encode() for _ in range(6)]
         if game.scale > 0:
             solved = subprocess.run([self.program, "solve", path], capture_output=True, timeout=10)

@@ -254,7 +254,7 @@ SMALL_CASES = [
     ("line 10 is `m 1 2 1`", "no 6 at line 9"),
     ("line 9 is `plays 3 10 1`", "no 6 at line 9"),
     ("line 8 is `water 4 3 resources`", "no 6 at line 8"),
-    ("line 8 is `cover 1 2 0`", "not yet"),
+    ("line 8 is `cover 1 2 0`", "no 6 at line 8"),
     ("line 11 is `upper 4 1`", "no 7 at line 11"),
     ("line 12 is `verdict gap nodes 5`", "no 8 at line 12"),
     # which of two faults of a line is told
@@ -367,24 +367,155 @@ LEVEL_CASES = [
     ("line 6 is `open`", "no 5 at line 6"),
     ("line 4 is `t 1 3`", "no 1 at line 4"),
 ]
+# three types, a plain cap and a proved one, a closed base and below it an open one
+THREE_TYPES = """version = 1
+form = "matrix"
+rows = ["A", "B"]
+
+[[type]]
+name = "thief"
+prior = 1
+actions = ["x", "y"]
+leader = [[2, 4], [1, 3]]
+follower = [[1, 0], [0, 2]]
+
+[[type]]
+name = "spy"
+prior = 2
+actions = ["x", "y"]
+leader = [[2, 4], [1, 3]]
+follower = [[0, 1], [2, 0]]
+
+[[type]]
+name = "guest"
+prior = 1
+actions = ["x", "y"]
+leader = [[2, 4], [1, 3]]
+follower = [[1, 0], [1, 0]]
+"""
+DEEP = """patrol-report 1
+tickets 2 3
+t 2 1
+t 1 2
+value 19 6
+cap 2 plain 4
+cap 3 proved 2 2
+plays 1 2 0
+plays 1 0 1
+m 3 1 4
+split 1 2
+open
+plays 1 2 0
+split 2 2
+plays 3 11 1
+m 1 1 1
+plays 1 8 0
+split 3 2
+open
+plays 3 38 1
+m 1 1 4
+plays 1 0 1
+m 3 1 16
+upper 19 6
+verdict optimal
+end
+"""
+DEEP_CASES = [
+    ("as it is", "yes optimal 19 6"),
+    ("line 22 is `open`; line 23 is left out; line 24 is `upper 41 12`; line 25 is `verdict gap nodes 1`", "yes gap 19 6 41 12"),
+    ("line 19 is `plays 3 33 1`, `m 1 1 3`; line 22 is `open`; line 23 is left out; line 24 is `upper 13 4`; line 25 is `verdict gap nodes 1`", "yes gap 19 6 13 4"),
+    ("line 7 is `cap 3 proved 4 2`; line 17 is `open`; line 24 is `upper 47 12`; line 25 is `verdict gap nodes 1`", "yes gap 19 6 47 12"),
+    ("line 7 is `cap 3 proved 1 2`; line 10 is `m 3 1 3`", "no 6 at line 9"),
+    ("line 7 is `cap 3 proved 1 2`", "no 4 at line 7"),
+    ("line 16 is `m 2 1 1`", "no 6 at line 15"),
+    ("line 20 is `plays 3 37 1`", "no 6 at line 20"),
+    ("line 23 is `m 3 1 15`", "no 6 at line 22"),
+]
+# two types, with facts of the coverage table in a cap, at a base and at nodes
+TWO_TARGETS = """version = 1
+form = "security"
+patrols = 1
+targets = ["a", "b"]
+
+[[type]]
+name = "thief"
+prior = 1
+payoffs = [[1, -1, 0, 1], [1, -1, 0, 1]]
+
+[[type]]
+name = "spy"
+prior = 2
+payoffs = [[1, -1, 0, 1], [1, -1, 0, 1]]
+"""
+COVERED_TWICE = """patrol-report 1
+tickets 2 2
+t 1 1
+t 1 2
+value 0 1
+cap 2 proved 0 2
+cover 1 4 4
+c 1 2
+c 2 2
+c 3 2
+c 6 2
+cover 1 4 4
+c 1 2
+c 2 2
+c 3 2
+c 6 2
+split 1 2
+open
+split 2 2
+cover 1 2 4
+c 1 1
+c 2 1
+c 3 1
+c 6 1
+cover 1 6 5
+c 1 3
+c 2 3
+c 3 3
+c 6 1
+c 7 2
+cover 1 6 4
+c 1 3
+c 2 3
+c 3 3
+c 7 1
+plays 1 2 1
+m 1 1 1
+upper 0 1
+verdict optimal
+end
+"""
+COVERED_TWICE_CASES = [
+    ("as it is", "yes optimal 0 1"),
+    ("line 25 is `cover 1 6 4`; line 29 is `c 6 3`; line 30 is left out", "yes optimal 0 1"),
+    ("line 7 is `cover 1 3 4`", "no 6 at line 7"),
+    ("line 11 is `c 7 2`", "no 6 at line 7"),
+    ("line 24 is `c 5 1`", "no 6 at line 20"),
+    ("line 30 is `c 7 1`", "no 6 at line 25"),
+    ("line 35 is `c 6 1`", "no 6 at line 31"),
+]
 SHOWN = [
     (LEVELS, LEVEL, "value 2/3\nupper 2/3\ntickets 3\ntarget gate 2\ntarget hall 1\ntype thief attacks gate\n"),
     (INSPECTION, SMALL, "value 11/3\nupper 11/3\ntickets 3\nrow A 2\nrow B 1\ntype first attacks y\n"),
     (INSPECTION, SPENT, "value 2/1\nupper 4/1\ntickets 1\nrow A 1\nrow B 0\ntype first attacks x\n"),
 ]
 WORKED = [
-    (INSPECTION, SMALL, SMALL_CASES, False),
-    (INSPECTION, SMALL, [("line 8 is `cover 1 2 0`", "no 6 at line 8")], True),
-    (INSPECTION, SPENT, SPENT_CASES, False),
-    (INSPECTION, NESTED, [("as it is", "no 4 at line 6")], False),
-    (TWO_TYPES, NESTED, NESTED_CASES, True),
-    (TWO_TYPES, NESTED, [("as it is", "not yet"), ("no bytes", "not yet")], False),
-    (TWO_TYPES, ONE_WORKED, ONE_WORKED_CASES, True),
-    (ONE_TARGET, COVERED, COVERED_CASES, True),
-    (ONE_TARGET, COVERED, [("as it is", "not yet"), ("line 4 is `value 2 1`", "not yet"), ("cut after line 7", "report refused 2 at line 8")], False),
-    (NEIGHBOURS, SHARED, SHARED_CASES, True),
-    (IN_A_ROW, PAIRS, PAIRS_CASES, False),
-    (LEVELS, LEVEL, LEVEL_CASES, False),
+    (INSPECTION, SMALL, SMALL_CASES),
+    (INSPECTION, SPENT, SPENT_CASES),
+    (INSPECTION, NESTED, [("as it is", "no 4 at line 6")]),
+    (TWO_TYPES, NESTED, NESTED_CASES),
+    (TWO_TYPES, NESTED, [("no bytes", "report refused 2 at line 1")]),
+    (TWO_TYPES, ONE_WORKED, ONE_WORKED_CASES),
+    (THREE_TYPES, DEEP, DEEP_CASES),
+    (ONE_TARGET, COVERED, COVERED_CASES),
+    (ONE_TARGET, COVERED, [("line 4 is `value 2 1`", "no 3 at line 4"), ("cut after line 7", "report refused 2 at line 8")]),
+    (TWO_TARGETS, COVERED_TWICE, COVERED_TWICE_CASES),
+    (NEIGHBOURS, SHARED, SHARED_CASES),
+    (IN_A_ROW, PAIRS, PAIRS_CASES),
+    (LEVELS, LEVEL, LEVEL_CASES),
 ]
 
 
@@ -446,10 +577,10 @@ def edited(report, how):
     return text[:-1] if how == "the last newline is missing" else text
 
 
-def fault_of_case(game, report, how, expected, is_whole):
+def fault_of_case(game, report, how, expected):
     """How the answer to an edited report differs from what is expected, or nothing."""
-    status, out, err = answer(Game(game), edited(report, how).encode(), is_whole=is_whole)
-    right = {"yes optimal": 0, "yes gap": 10, "not yet": 3}.get(re.match("yes [a-z]+|not yet|", expected)[0], 7)
+    status, out, err = answer(Game(game), edited(report, how).encode())
+    right = {"yes optimal": 0, "yes gap": 10}.get(re.match("yes [a-z]+|", expected)[0], 7)
     if status == right and (out or err) == expected + "\n" and bool(out) == (status in (0, 10)):
         return None
     return f"failed: {how}: {status}, {(out + err).strip()}, where {expected} is expected"
@@ -461,16 +592,16 @@ def blocks_of(document):
     for name, body in re.findall(r"^#+ The ([a-z-]+) report\n(.*?)(?=^#+ |\Z)", document, re.M | re.S):
         blocks = re.findall(r"^```[a-z]*\n(.*?)^```", body, re.M | re.S)
         reports[name] = next(it for it in blocks if it.startswith("version")), next(it for it in blocks if it.startswith("patrol-report"))
-    rows = re.findall(r"^\|.*\| (?:of the ([a-z-]+) report: )?([^|]*) \| `((?:yes|no|not yet|report refused)[^`|]*)` \|$", document, re.M)
+    rows = re.findall(r"^\|.*\| (?:of the ([a-z-]+) report: )?([^|]*) \| `((?:yes|no|report refused)[^`|]*)` \|$", document, re.M)
     return reports, [(name or "small", how, expected) for name, how, expected in rows]
 
 
 def self_test():
     """Compares the checker with the answers worked out by hand, and with those of docs/REPORT.md."""
-    cases = [(game, report, how, expected, is_whole) for game, report, rows, is_whole in WORKED for how, expected in rows]
+    cases = [(game, report, how, expected) for game, report, rows in WORKED for how, expected in rows]
     with open(PAGE, encoding="utf-8") as file:
         reports, examples = blocks_of(file.read())
-    cases += [(*reports[name], how, expected, expected != "not yet") for name, how, expected in examples]
+    cases += [(*reports[name], how, expected) for name, how, expected in examples]
     faults = [it for it in (fault_of_case(*case) for case in cases) if it]
     faults += [f"failed: show: {report}" for game, report, shown in SHOWN if answer(Game(game), report.encode(), "show") != (0, shown, "")]
     for fault in faults:

@@ -4,8 +4,8 @@
     tools/report_checker.py GAME REPORT    what `check` has to answer: its status, its line on standard output or standard error
 
 It follows docs/REPORT.md test by test, with Python's whole numbers and fractions. It takes a game file to be one: it is
-reports that it tests. It knows the whole format, several types of attacker and cover facts too; what the program does not serve yet is told apart
-in `answer`. tools/report_cases.py tries it on reports worked out by hand, tools/mutate-reports.py compares the program with it.
+reports that it tests. It knows the whole format, several types of attacker and cover facts too. tools/report_cases.py tries it on reports worked
+out by hand, tools/mutate-reports.py compares the program with it.
 """
 import re
 import sys
@@ -162,7 +162,6 @@ class Report(NamedTuple):
     upper_line: int
     upper: Fraction
     is_optimal: bool
-    has_cover: bool
 
 
 def shaped(fields, form, counted=None):
@@ -237,7 +236,7 @@ class Reader:
     """Reads a report line by line."""
 
     def __init__(self, text):
-        self.text, self.at, self.line, self.has_cover = text, 0, 0, False
+        self.text, self.at, self.line = text, 0, 0
 
     def peek(self):
         """The first field of the next line, where that is there and ends."""
@@ -295,7 +294,6 @@ class Reader:
         is_cover = fields[0] == b"cover"
         rho, mu, count = shaped(fields, fields[0] + b" # # #")
         rho, mu, count = ranged(rho, 1), ranged(mu, 0), ranged(count, 0)
-        self.has_cover |= is_cover
         return Fact(line, is_cover, rho, mu, self.repeated(self.row if is_cover else self.mark, count))
 
     def cap(self):
@@ -354,7 +352,7 @@ class Reader:
         if self.at < len(self.text):
             self.line += 1
             raise Fault(9)
-        return Report(total, tickets, value_line, value, caps, tree, upper_line, upper, is_optimal, self.has_cover)
+        return Report(total, tickets, value_line, value, caps, tree, upper_line, upper, is_optimal)
 
 
 def read_report(text):
@@ -601,14 +599,10 @@ def table(game, report):
     return "".join(line + "\n" for line in lines)
 
 
-def answer(game, text, command="check", is_whole=False):
-    """The status, standard output and standard error of a call. Where it is not whole, what this version does not serve is `not yet`."""
-    if len(game.types) > 1 and not is_whole:
-        return 3, "", "not yet\n"
+def answer(game, text, command="check"):
+    """The status, standard output and standard error of a call."""
     try:
         report = read_report(text)
-        if report.has_cover and not is_whole:
-            return 3, "", "not yet\n"
         Checker(game, report).check()
     except Refused as refused:
         return 7, "", "report refused %d at line %d\n" % refused.args

@@ -1,11 +1,12 @@
 -- Runs over tests, one behind another.
-use Rattle.std.proofs.Common.{◌≡◌, ◌+◌, List, [], ◌∷◌, ◌++◌, length, Result, Ok, Err, ap, subst, arith}
+use Rattle.std.proofs.Common.{◌≡◌, ◌+◌, List, [], ◌∷◌, ◌++◌, length, Option, Result, Ok, Err, ap, subst, arith}
 use Rattle.std.proofs.lemmas.List.{append_assoc, nil_from_length}
 use Rattle.sg_model.specs.Games.{Game}
+use Rattle.sg_frac.specs.Fractions.{Fraction}
 use Rattle.sg_tree.specs.declared.report.Report.{Report}
 use Rattle.sg_bounds.specs.Checking.{AllPass, Stop, bound_stops, cap_lines, caps_stops, root_line, stops_of, ticket_stops, value_line}
 use Rattle.sg_check.specs.declared.refusal.Refusal.{Refusal}
-use Rattle.sg_check.specs.Answering.{AnswersTests, TellsFirst}
+use Rattle.sg_check.specs.Answering.{AnswersTests, BoundAnswers, TellsFirst}
 use Rattle.sg_check.specs.Parts.{closing_stops, opening_stops, total_stops, worth_stops}
 use Rattle.sg_check.proofs.Firsts.{AllPass-append, FirstFails-left, FirstFails-right}
 
@@ -23,13 +24,14 @@ pass-right : (g : Game) (r : Report) (xs ys : List Stop) → AllPass g r (xs ++ 
 pass-right g r [] ys h = h
 pass-right g r (x ∷ xs) ys h = pass-right g r xs ys h.1
 
--- where no cap is missing in a game of one type, there is none
-pub root-behind_value : (g : Game) (r : Report) → length g.types ≡ 1 → AllPass g r (bound_stops r) → root_line r ≡ value_line r + 1
-root-behind_value g r one h =
-    let ends = (pass-right g r (caps_stops 2 (value_line r + 1) r.caps) _ h).0 in
-    let none = nil_from_length r.caps (omega (arith, ends, one)) in
-    let lines : cap_lines r.caps ≡ 0 = ap cap_lines none in
-    omega (arith, lines)
+-- no cap is missing where the tests of the caps pass
+pub none_missing : (g : Game) (r : Report) → AllPass g r (bound_stops r) → length r.caps + 1 ≡ length g.types
+none_missing g r h = (pass-right g r (caps_stops 2 (value_line r + 1) r.caps) _ h).0
+
+-- all tests of two runs pass, and what is told of the second one
+pub bound-then : (g : Game) (r : Report) (xs ys : List Stop) (bounds : List Fraction) (result : Result (Option Fraction) Refusal) → AllPass g r xs → BoundAnswers g r ys bounds result → BoundAnswers g r (xs ++ ys) bounds result
+bound-then g r xs ys bounds (Ok b) h k = (AllPass-append g r xs ys h k.0, k.1)
+bound-then g r xs ys bounds (Err f) h k = refuses-behind g r xs ys f h k
 
 -- the tests of the tickets and those behind are all tests
 whole : (g : Game) (r : Report) → opening_stops r ++ closing_stops g r ≡ stops_of g r

@@ -1,17 +1,16 @@
 -- With few tickets nothing that is formed leaves 128 bits.
-use Rattle.std.proofs.Common.{◌≡◌, ◌∙◌, ℕ, ◌≤◌, ◌^◌, List, [], ◌∷◌, length, ℤ, pos, ◌+ℤ◌, ◌-ℤ◌, ◌*ℤ◌, ◌≤ℤ◌, sym, subst, refl, arith, slice_index_or}
+use Rattle.std.proofs.Common.{◌≡◌, ◌∙◌, ℕ, cond, false, ◌≤◌, ◌^◌, List, [], ◌∷◌, length, ℤ, pos, ◌+ℤ◌, ◌-ℤ◌, ◌*ℤ◌, ◌≤ℤ◌, sym, subst, refl, arith, slice_index_or}
 use Rattle.std.specs.List.{All}
 use Rattle.std.proofs.lemmas.Int.{ints}
 use Rattle.std.proofs.lemmas.List.Elements.{All-nil, All-cons, All-head, All-tail}
 use Rattle.sg_model.specs.declared.ticket.Ticket.{Ticket}
-use Rattle.sg_model.specs.Games.{Game, payoff}
+use Rattle.sg_model.specs.Games.{Game, is_matrix, payoff}
 use Rattle.sg_model.specs.Limits.{IsGame, IsPay}
-use Rattle.sg_model.specs.Plays.{pay_a, pay_d}
+use Rattle.sg_model.specs.Plays.{covers, pay_a, pay_d}
 use Rattle.sg_model.specs.Commitments.{cover_count, sum_a, sum_d, weight_total}
 use Rattle.sg_model.proofs.Ints.{v, plus, less, times, same_by, mul-le, product_nonneg}
-use Rattle.sg_model.proofs.Bound.{sum_d_is}
-use Rattle.sg_model.proofs.Covers.{ArePositive, weight_total-nonneg}
-use Rattle.sg_model.proofs.Levels.{sum_a_is}
+use Rattle.sg_model.proofs.Sums.{total-same}
+use Rattle.sg_model.proofs.Covers.{ArePositive, total-covered, weight_total-nonneg}
 use Rattle.sg_model.proofs.Promises.{pay_a-in_range, pay_d-in_range}
 use Rattle.sg_num.specs.Exact.{Fits}
 use Rattle.sg_bounds.specs.Sizes.{pay_sums}
@@ -51,16 +50,27 @@ module _ (pays : List ℕ → ℤ) (range : (play : List ℕ) → IsPay (pays pl
 
 -- ---- sums by counts
 
-module _ (g : Game) (h : IsGame g) (k : List Ticket) (cells : List Cell) (c : IsCounted g k cells) (a : ℕ) where
-  pub table_a-fits : All Fits (under_a g k a)
-  table_a-fits = few-fit (λ (play : List ℕ). pay_a g 1 play a) (λ play. pay_a-in_range g h 1 play a) k c.positive c.few
+-- what type l gets at target t, and what the defender gets there, by the count of the tickets that cover it
+type_sum_a : (g : Game) → is_matrix g ≡ false → (k : List Ticket) (l t : ℕ) → sum_a g k l t ≡ ((payoff g l t).au *ℤ weight_total k) +ℤ (((payoff g l t).ac -ℤ (payoff g l t).au) *ℤ cover_count g k t)
+type_sum_a g s k l t =
+    let au : ℤ = (payoff g l t).au in let ac : ℤ = (payoff g l t).ac in
+    total-same (λ (x : Ticket). x.weight *ℤ pay_a g l x.play.code t) (λ (x : Ticket). x.weight *ℤ cond (covers g x.play.code t) ac au) k (λ i d lt. rw s refl) ∙ total-covered g k t ac au
 
-  pub table_d-fits : All Fits (under_d g k a)
-  table_d-fits = few-fit (λ (play : List ℕ). pay_d g 1 play a) (λ play. pay_d-in_range g h 1 play a) k c.positive c.few
+type_sum_d : (g : Game) → is_matrix g ≡ false → (k : List Ticket) (l t : ℕ) → sum_d g k l t ≡ ((payoff g l t).du *ℤ weight_total k) +ℤ (((payoff g l t).dc -ℤ (payoff g l t).du) *ℤ cover_count g k t)
+type_sum_d g s k l t =
+    let du : ℤ = (payoff g l t).du in let dc : ℤ = (payoff g l t).dc in
+    total-same (λ (x : Ticket). x.weight *ℤ pay_d g l x.play.code t) (λ (x : Ticket). x.weight *ℤ cond (covers g x.play.code t) dc du) k (λ i d lt. rw s refl) ∙ total-covered g k t dc du
 
-  module _ (known : IsActionOf g 1 a) (whole count : ℤ) (total_is : whole ≡ weight_total k) (count_is : count ≡ (slice_index_or cells a no_cell).count) where
+module _ (g : Game) (h : IsGame g) (k : List Ticket) (cells : List Cell) (c : IsCounted g k cells) (l a : ℕ) where
+  pub table_a-fits : All Fits (under_a g k l a)
+  table_a-fits = few-fit (λ (play : List ℕ). pay_a g l play a) (λ play. pay_a-in_range g h l play a) k c.positive c.few
+
+  pub table_d-fits : All Fits (under_d g k l a)
+  table_d-fits = few-fit (λ (play : List ℕ). pay_d g l play a) (λ play. pay_d-in_range g h l play a) k c.positive c.few
+
+  module _ (known : IsActionOf g l a) (whole count : ℤ) (total_is : whole ≡ weight_total k) (count_is : count ≡ (slice_index_or cells a no_cell).count) where
     pub target : (1 ≤ a) × (a ≤ length g.goals)
-    target = (known.0, (action-target g k cells 1 a c known.1).0)
+    target = (known.0, (action-target g k cells l a c known.1).0)
 
     pub count-is : IsTicketCount whole count
     count-is = rw (total_is, count_is) (is_count g k cells a c known.0 target.1)
@@ -68,14 +78,13 @@ module _ (g : Game) (h : IsGame g) (k : List Ticket) (cells : List Cell) (c : Is
     counts : count ≡ cover_count g k a
     counts = count_is ∙ c.counts a known.0 target.1
 
-    pub table_a-is : (sum : ℤ) → sum ≡ ((payoff g 1 a).au *ℤ whole) +ℤ (((payoff g 1 a).ac -ℤ (payoff g 1 a).au) *ℤ count) → sum ≡ sum_a g k 1 a
+    pub table_a-is : (sum : ℤ) → sum ≡ ((payoff g l a).au *ℤ whole) +ℤ (((payoff g l a).ac -ℤ (payoff g l a).au) *ℤ count) → sum ≡ sum_a g k l a
     table_a-is sum e =
-        let au : ℤ = (payoff g 1 a).au in let ac : ℤ = (payoff g 1 a).ac in
+        let au : ℤ = (payoff g l a).au in let ac : ℤ = (payoff g l a).ac in
         e ∙ ((λ i. (au *ℤ total_is i) +ℤ ((ac -ℤ au) *ℤ counts i))
-        ∙ (same_by (plus (times (v au) (v (weight_total k))) (times (less (v ac) (v au)) (v (cover_count g k a)))) (less (times (v au) (v (weight_total k))) (times (less (v au) (v ac)) (v (cover_count g k a)))) (omega arith)
-        ∙ sym (sum_a_is g c.security k a)))
+        ∙ sym (type_sum_a g c.security k l a))
 
-    pub table_d-is : (sum : ℤ) → sum ≡ ((payoff g 1 a).du *ℤ whole) +ℤ (((payoff g 1 a).dc -ℤ (payoff g 1 a).du) *ℤ count) → sum ≡ sum_d g k 1 a
+    pub table_d-is : (sum : ℤ) → sum ≡ ((payoff g l a).du *ℤ whole) +ℤ (((payoff g l a).dc -ℤ (payoff g l a).du) *ℤ count) → sum ≡ sum_d g k l a
     table_d-is sum e =
-        let du : ℤ = (payoff g 1 a).du in let dc : ℤ = (payoff g 1 a).dc in
-        e ∙ ((λ i. (du *ℤ total_is i) +ℤ ((dc -ℤ du) *ℤ counts i)) ∙ sym (sum_d_is g c.security k a))
+        let du : ℤ = (payoff g l a).du in let dc : ℤ = (payoff g l a).dc in
+        e ∙ ((λ i. (du *ℤ total_is i) +ℤ ((dc -ℤ du) *ℤ counts i)) ∙ sym (type_sum_d g c.security k l a))

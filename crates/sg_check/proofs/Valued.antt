@@ -1,13 +1,13 @@
 -- How the value of tickets is formed: sums over the tickets one after another, and what is taken of the best actions.
-use Rattle.std.proofs.Common.{◌≡◌, ◌∙◌, ℕ, ◌+◌, ◌<◌, ◌≤◌, Bool, true, false, cond, List, [], ◌∷◌, ◌++◌, length, drop, get_or, ℤ, pos, ◌+ℤ◌, ◌*ℤ◌, ◌≤ℤ◌, ◌<ℤ◌, ap, sym, subst, refl, arith, ◌⊎◌, inl, inr}
+use Rattle.std.proofs.Common.{◌≡◌, ◌∙◌, ℕ, suc, ◌+◌, ◌<◌, ◌≤◌, Bool, true, false, cond, List, [], ◌∷◌, ◌++◌, length, drop, get_or, ℤ, pos, ◌+ℤ◌, ◌*ℤ◌, ◌≤ℤ◌, ◌<ℤ◌, ap, sym, subst, refl, arith, ◌⊎◌, inl, inr}
 use Rattle.std.specs.List.{All, Contains, filter, flat_map}
 use Rattle.std.proofs.lemmas.Int.{ints, by_lt_z, int_max_is}
 use Rattle.std.specs.Int.{int_max}
 use Rattle.std.proofs.lemmas.Bool.{cases_eq}
-use Rattle.std.proofs.lemmas.List.{drop_all, drop_more}
+use Rattle.std.proofs.lemmas.List.{append_assoc, drop_all, drop_more}
 use Rattle.std.proofs.lemmas.List.Elements.{All-nil, All-cons, All-head, All-tail, All-append, All-contains}
 use Rattle.sg_model.specs.declared.ticket.Ticket.{Ticket}
-use Rattle.sg_model.specs.Sums.{numbers, total}
+use Rattle.sg_model.specs.Sums.{numbers, numbers_from, total}
 use Rattle.sg_model.specs.Games.{Game, action_count, attacker, prior_total}
 use Rattle.sg_model.specs.Commitments.{is_best, sum_a, sum_d, take_of, weight_total, worth, AreLegal}
 use Rattle.sg_model.proofs.Numbers.{All-numbers, All-numbers-at}
@@ -117,247 +117,287 @@ cases_eq_z a b =
 
 -- ---- the best actions
 
-module _ (g : Game) (k : List Ticket) where
-  pub formed-first : All Fits (under_a g k 1) → AreSumsFormed g k 1
-  formed-first h a low high = let e : 1 ≡ a = omega (arith, low, high) in subst (λ (b : ℕ). All Fits (under_a g k b)) e h
+module _ (g : Game) (k : List Ticket) (l : ℕ) where
+  pub formed-first : All Fits (under_a g k l 1) → AreSumsFormed g k l 1
+  formed-first h a low high = let e : 1 ≡ a = omega (arith, low, high) in subst (λ (b : ℕ). All Fits (under_a g k l b)) e h
 
-  pub formed-more : (i : ℕ) → AreSumsFormed g k i → All Fits (under_a g k (i + 1)) → AreSumsFormed g k (i + 1)
+  pub formed-more : (i : ℕ) → AreSumsFormed g k l i → All Fits (under_a g k l (i + 1)) → AreSumsFormed g k l (i + 1)
   formed-more i h now a low high = elim (cases_eq a (i + 1)) [
-    | inl e ↦ subst (λ (b : ℕ). All Fits (under_a g k b)) (sym e) now
+    | inl e ↦ subst (λ (b : ℕ). All Fits (under_a g k l b)) (sym e) now
     | inr ne ↦ h a low (omega (arith, high, ne))
   ]
 
-  pub best-first : (z : ℤ) → z ≡ sum_a g k 1 1 → IsBestOf g k 1 (record { action = 1; sum = z })
+  pub best-first : (z : ℤ) → z ≡ sum_a g k l 1 → IsBestOf g k l 1 (record { action = 1; sum = z })
   best-first z e = record {
     from_one = omega arith;
     in_range = omega arith;
     sum = sym e;
-    most = λ a low high. let q : 1 ≡ a = omega (arith, low, high) in let s = ap (sum_a g k 1) q in omega (arith, ints, s, e);
+    most = λ a low high. let q : 1 ≡ a = omega (arith, low, high) in let s = ap (sum_a g k l) q in omega (arith, ints, s, e);
   }
 
   -- one action more: the old best one stays, or the new one is better
-  pub best-kept : (i : ℕ) (best : Best) (z : ℤ) → z ≡ sum_a g k 1 (i + 1) → z ≤ℤ best.sum → IsBestOf g k i best → IsBestOf g k (i + 1) best
+  pub best-kept : (i : ℕ) (best : Best) (z : ℤ) → z ≡ sum_a g k l (i + 1) → z ≤ℤ best.sum → IsBestOf g k l i best → IsBestOf g k l (i + 1) best
   best-kept i best z e le h = record {
     from_one = h.from_one;
     in_range = omega (arith, h.in_range);
     sum = h.sum;
     most = λ a low high. elim (cases_eq a (i + 1)) [
-      | inl q ↦ (let s = ap (sum_a g k 1) q in omega (arith, ints, s, e, le))
+      | inl q ↦ (let s = ap (sum_a g k l) q in omega (arith, ints, s, e, le))
       | inr ne ↦ h.most a low (omega (arith, high, ne))
     ];
   }
 
-  pub best-new : (i : ℕ) (best : Best) (z : ℤ) → z ≡ sum_a g k 1 (i + 1) → (z ≤ℤ best.sum → ⊥) → IsBestOf g k i best → IsBestOf g k (i + 1) (record { action = i + 1; sum = z })
+  pub best-new : (i : ℕ) (best : Best) (z : ℤ) → z ≡ sum_a g k l (i + 1) → (z ≤ℤ best.sum → ⊥) → IsBestOf g k l i best → IsBestOf g k l (i + 1) (record { action = i + 1; sum = z })
   best-new i best z e above h =
       let lt : best.sum <ℤ z = by_lt_z best.sum z (λ lt. lt) (λ le. absurd (above le)) in record {
         from_one = omega arith;
         in_range = omega arith;
         sum = sym e;
         most = λ a low high. elim (cases_eq a (i + 1)) [
-          | inl q ↦ (let s = ap (sum_a g k 1) q in omega (arith, ints, s, e))
+          | inl q ↦ (let s = ap (sum_a g k l) q in omega (arith, ints, s, e))
           | inr ne ↦ (let m = h.most a low (omega (arith, high, ne)) in omega (arith, ints, m, lt))
         ];
       }
 
-  pub best-next : (i : ℕ) (best next : Best) (z : ℤ) → z ≡ sum_a g k 1 (i + 1) → (z ≤ℤ best.sum → next ≡ best) → ((z ≤ℤ best.sum → ⊥) → next ≡ record { action = i + 1; sum = z })
-      → IsBestOf g k i best → IsBestOf g k (i + 1) next
+  pub best-next : (i : ℕ) (best next : Best) (z : ℤ) → z ≡ sum_a g k l (i + 1) → (z ≤ℤ best.sum → next ≡ best) → ((z ≤ℤ best.sum → ⊥) → next ≡ record { action = i + 1; sum = z })
+      → IsBestOf g k l i best → IsBestOf g k l (i + 1) next
   best-next i best next z e kept new h =
       by_lt_z best.sum z
-      (λ lt. let above : z ≤ℤ best.sum → ⊥ = λ le. omega (arith, ints, lt, le) in subst (IsBestOf g k (i + 1)) (sym (new above)) (best-new i best z e above h))
-      (λ le. subst (IsBestOf g k (i + 1)) (sym (kept le)) (best-kept i best z e le h))
+      (λ lt. let above : z ≤ℤ best.sum → ⊥ = λ le. omega (arith, ints, lt, le) in subst (IsBestOf g k l (i + 1)) (sym (new above)) (best-new i best z e above h))
+      (λ le. subst (IsBestOf g k l (i + 1)) (sym (kept le)) (best-kept i best z e le h))
 
   -- ---- what is taken
 
-  pub taken-first : (n : ℕ) (best : Best) (z : ℤ) → n ≡ action_count g 1 → IsBestOf g k n best → z ≡ sum_d g k 1 best.action → IsTakenSum g k 0 best.sum z
+  pub taken-first : (n : ℕ) (best : Best) (z : ℤ) → n ≡ action_count g l → IsBestOf g k l n best → z ≡ sum_d g k l best.action → IsTakenSum g k l 0 best.sum z
   taken-first n best z e h q = record {
     reached = (best.action, h.from_one, omega (arith, h.in_range, e), h.sum, sym q);
     most = λ a low high. absurd (omega (arith, low, high));
   }
 
-  pub taken-best : (i : ℕ) (top taken next : ℤ) → i < action_count g 1 → sum_a g k 1 (i + 1) ≡ top → next ≡ int_max taken (sum_d g k 1 (i + 1)) → IsTakenSum g k i top taken → IsTakenSum g k (i + 1) top next
+  pub taken-best : (i : ℕ) (top taken next : ℤ) → i < action_count g l → sum_a g k l (i + 1) ≡ top → next ≡ int_max taken (sum_d g k l (i + 1)) → IsTakenSum g k l i top taken → IsTakenSum g k l (i + 1) top next
   taken-best i top taken next lt is e h = record {
-    reached = by_lt_z taken (sum_d g k 1 (i + 1))
-        (λ less. (i + 1, omega arith, omega (arith, lt), is, omega (arith, ints, less, e, int_max_is taken (sum_d g k 1 (i + 1)))))
-        (λ le. (h.reached.0, h.reached.1, h.reached.2, h.reached.3, omega (arith, ints, le, e, int_max_is taken (sum_d g k 1 (i + 1)), h.reached.4)));
+    reached = by_lt_z taken (sum_d g k l (i + 1))
+        (λ less. (i + 1, omega arith, omega (arith, lt), is, omega (arith, ints, less, e, int_max_is taken (sum_d g k l (i + 1)))))
+        (λ le. (h.reached.0, h.reached.1, h.reached.2, h.reached.3, omega (arith, ints, le, e, int_max_is taken (sum_d g k l (i + 1)), h.reached.4)));
     most = λ a low high same. elim (cases_eq a (i + 1)) [
-      | inl q ↦ (let s = ap (sum_d g k 1) q in omega (arith, ints, s, e, int_max_is taken (sum_d g k 1 (i + 1))))
-      | inr ne ↦ (let m = h.most a low (omega (arith, high, ne)) same in omega (arith, ints, m, e, int_max_is taken (sum_d g k 1 (i + 1))))
+      | inl q ↦ (let s = ap (sum_d g k l) q in omega (arith, ints, s, e, int_max_is taken (sum_d g k l (i + 1))))
+      | inr ne ↦ (let m = h.most a low (omega (arith, high, ne)) same in omega (arith, ints, m, e, int_max_is taken (sum_d g k l (i + 1))))
     ];
   }
 
-  pub taken-other : (i : ℕ) (top taken : ℤ) → (sum_a g k 1 (i + 1) ≡ top → ⊥) → IsTakenSum g k i top taken → IsTakenSum g k (i + 1) top taken
+  pub taken-other : (i : ℕ) (top taken : ℤ) → (sum_a g k l (i + 1) ≡ top → ⊥) → IsTakenSum g k l i top taken → IsTakenSum g k l (i + 1) top taken
   taken-other i top taken not h = record {
     reached = h.reached;
     most = λ a low high same. elim (cases_eq a (i + 1)) [
-      | inl q ↦ absurd (not (ap (sum_a g k 1) (sym q) ∙ same))
+      | inl q ↦ absurd (not (ap (sum_a g k l) (sym q) ∙ same))
       | inr ne ↦ h.most a low (omega (arith, high, ne)) same
     ];
   }
 
-  pub best_formed-best : (i : ℕ) (top : ℤ) → BestAreFormed g k i top → All Fits (under_d g k (i + 1)) → BestAreFormed g k (i + 1) top
+  pub best_formed-best : (i : ℕ) (top : ℤ) → BestAreFormed g k l i top → All Fits (under_d g k l (i + 1)) → BestAreFormed g k l (i + 1) top
   best_formed-best i top h now a low high same = elim (cases_eq a (i + 1)) [
-    | inl e ↦ subst (λ (b : ℕ). All Fits (under_d g k b)) (sym e) now
+    | inl e ↦ subst (λ (b : ℕ). All Fits (under_d g k l b)) (sym e) now
     | inr ne ↦ h a low (omega (arith, high, ne)) same
   ]
 
-  pub best_formed-other : (i : ℕ) (top : ℤ) → (sum_a g k 1 (i + 1) ≡ top → ⊥) → BestAreFormed g k i top → BestAreFormed g k (i + 1) top
+  pub best_formed-other : (i : ℕ) (top : ℤ) → (sum_a g k l (i + 1) ≡ top → ⊥) → BestAreFormed g k l i top → BestAreFormed g k l (i + 1) top
   best_formed-other i top not h a low high same = elim (cases_eq a (i + 1)) [
-    | inl q ↦ absurd (not (ap (sum_a g k 1) (sym q) ∙ same))
+    | inl q ↦ absurd (not (ap (sum_a g k l) (sym q) ∙ same))
     | inr ne ↦ h a low (omega (arith, high, ne)) same
   ]
 
   -- what is formed so far of both
   pub record IsTakenSoFar (i : ℕ) (top taken : ℤ) : Type 0 where
-    pub formed : BestAreFormed g k i top
-    pub is : IsTakenSum g k i top taken
+    pub formed : BestAreFormed g k l i top
+    pub is : IsTakenSum g k l i top taken
 
-  pub taken-next : (i : ℕ) (top taken next : ℤ) → i < action_count g 1
-      → ((sum_a g k 1 (i + 1) ≡ top) → All Fits (under_d g k (i + 1)) × (next ≡ int_max taken (sum_d g k 1 (i + 1))))
-      → (((sum_a g k 1 (i + 1) ≡ top) → ⊥) → next ≡ taken) → IsTakenSoFar i top taken → IsTakenSoFar (i + 1) top next
+  pub taken-next : (i : ℕ) (top taken next : ℤ) → i < action_count g l
+      → ((sum_a g k l (i + 1) ≡ top) → All Fits (under_d g k l (i + 1)) × (next ≡ int_max taken (sum_d g k l (i + 1))))
+      → (((sum_a g k l (i + 1) ≡ top) → ⊥) → next ≡ taken) → IsTakenSoFar i top taken → IsTakenSoFar (i + 1) top next
   taken-next i top taken next lt best other h =
-      elim (cases_eq_z (sum_a g k 1 (i + 1)) top) [
+      elim (cases_eq_z (sum_a g k l (i + 1)) top) [
         | inl is ↦ record { formed = best_formed-best i top h.formed (best is).0; is = taken-best i top taken next lt is (best is).1 h.is }
-        | inr not ↦ record { formed = best_formed-other i top not h.formed; is = subst (IsTakenSum g k (i + 1) top) (sym (other not)) (taken-other i top taken not h.is) }
+        | inr not ↦ record { formed = best_formed-other i top not h.formed; is = subst (IsTakenSum g k l (i + 1) top) (sym (other not)) (taken-other i top taken not h.is) }
       ]
 
   -- it is what is meant
-  pub taken-is : (best : Best) (taken : ℤ) → IsBestOf g k (action_count g 1) best → IsTakenSum g k (action_count g 1) best.sum taken → taken ≡ take_of g k 1
+  pub taken-is : (best : Best) (taken : ℤ) → IsBestOf g k l (action_count g l) best → IsTakenSum g k l (action_count g l) best.sum taken → taken ≡ take_of g k l
   taken-is best taken b h =
-      let n : ℕ = action_count g 1 in
+      let n : ℕ = action_count g l in
       let r = h.reached in
-      let t = take_of-reached g k 1 (omega (arith, b.from_one, b.in_range)) in
-      let equal : sum_a g k 1 t.0 ≡ best.sum = (let p = t.1.best best.action b.from_one b.in_range in let q = b.most t.0 t.1.from_one t.1.in_range in omega (arith, ints, p, q, b.sum)) in
+      let t = take_of-reached g k l (omega (arith, b.from_one, b.in_range)) in
+      let equal : sum_a g k l t.0 ≡ best.sum = (let p = t.1.best best.action b.from_one b.in_range in let q = b.most t.0 t.1.from_one t.1.in_range in omega (arith, ints, p, q, b.sum)) in
       let low = h.most t.0 t.1.from_one t.1.in_range equal in
-      let high = take_of-bounds g k 1 r.0 r.1 r.2 (λ c from_one in_range. let q = b.most c from_one in_range in let e = r.3 in omega (arith, ints, q, e)) in
+      let high = take_of-bounds g k l r.0 r.1 r.2 (λ c from_one in_range. let q = b.most c from_one in_range in let e = r.3 in omega (arith, ints, q, e)) in
       let d = r.4 in
       omega (arith, ints, low, high, t.1.gives, d)
 
   -- ---- the numbers under it
 
-  is_best-is : (best : Best) → IsBestOf g k (action_count g 1) best → (a : ℕ) → 1 ≤ a → a ≤ action_count g 1 → is_best g k 1 a ≡ true → sum_a g k 1 a ≡ best.sum
+  is_best-is : (best : Best) → IsBestOf g k l (action_count g l) best → (a : ℕ) → 1 ≤ a → a ≤ action_count g l → is_best g k l a ≡ true → sum_a g k l a ≡ best.sum
   is_best-is best b a low high e =
-      let p = is_best-out g k 1 a e best.action b.from_one b.in_range in
+      let p = is_best-out g k l a e best.action b.from_one b.in_range in
       let q = b.most a low high in
       omega (arith, ints, p, q, b.sum)
 
-  best-is_best : (best : Best) → IsBestOf g k (action_count g 1) best → (a : ℕ) → sum_a g k 1 a ≡ best.sum → is_best g k 1 a ≡ true
-  best-is_best best b a e = is_best-from g k 1 a (λ c low high. let q = b.most c low high in omega (arith, ints, q, e))
+  best-is_best : (best : Best) → IsBestOf g k l (action_count g l) best → (a : ℕ) → sum_a g k l a ≡ best.sum → is_best g k l a ≡ true
+  best-is_best best b a e = is_best-from g k l a (λ c low high. let q = b.most c low high in omega (arith, ints, q, e))
 
   -- both lists
   pub under_as : List ℤ
-  under_as = flat_map (under_a g k) (numbers (action_count g 1))
+  under_as = flat_map (under_a g k l) (numbers (action_count g l))
 
   pub under_ds : List ℤ
-  under_ds = flat_map (under_d g k) (filter (is_best g k 1) (numbers (action_count g 1)))
+  under_ds = flat_map (under_d g k l) (filter (is_best g k l) (numbers (action_count g l)))
 
-  pub take-formed : All Fits (take_sums g k 1) → AreSumsFormed g k (action_count g 1)
-  take-formed h a low high = from_flat (under_a g k) (numbers (action_count g 1)) (All-front Fits (flat_map (under_a g k) (numbers (action_count g 1))) _ h) a (Contains-numbers (action_count g 1) a low high)
+  pub take-formed : All Fits (take_sums g k l) → AreSumsFormed g k l (action_count g l)
+  take-formed h a low high = from_flat (under_a g k l) (numbers (action_count g l)) (All-front Fits (flat_map (under_a g k l) (numbers (action_count g l))) _ h) a (Contains-numbers (action_count g l) a low high)
 
-  pub take-best_formed : (best : Best) → IsBestOf g k (action_count g 1) best → All Fits (take_sums g k 1) → BestAreFormed g k (action_count g 1) best.sum
+  pub take-best_formed : (best : Best) → IsBestOf g k l (action_count g l) best → All Fits (take_sums g k l) → BestAreFormed g k l (action_count g l) best.sum
   take-best_formed best b h a low high same =
-      let n : ℕ = action_count g 1 in
-      let each : All (λ (c : ℕ). All Fits (under_d g k c)) (filter (is_best g k 1) (numbers n)) = each_from_flat (under_d g k) (filter (is_best g k 1) (numbers n)) (All-back Fits (flat_map (under_a g k) (numbers n)) (flat_map (under_d g k) (filter (is_best g k 1) (numbers n))) h) in
-      All-numbers-at (λ (c : ℕ). is_best g k 1 c ≡ true → All Fits (under_d g k c)) n (passes_have (is_best g k 1) (λ (c : ℕ). All Fits (under_d g k c)) (numbers n) each) a low high (best-is_best best b a same)
+      let n : ℕ = action_count g l in
+      let each : All (λ (c : ℕ). All Fits (under_d g k l c)) (filter (is_best g k l) (numbers n)) = each_from_flat (under_d g k l) (filter (is_best g k l) (numbers n)) (All-back Fits (flat_map (under_a g k l) (numbers n)) (flat_map (under_d g k l) (filter (is_best g k l) (numbers n))) h) in
+      All-numbers-at (λ (c : ℕ). is_best g k l c ≡ true → All Fits (under_d g k l c)) n (passes_have (is_best g k l) (λ (c : ℕ). All Fits (under_d g k l c)) (numbers n) each) a low high (best-is_best best b a same)
 
-  pub formed-take : (best : Best) → IsBestOf g k (action_count g 1) best → AreSumsFormed g k (action_count g 1) → BestAreFormed g k (action_count g 1) best.sum → All Fits (take_sums g k 1)
+  pub formed-take : (best : Best) → IsBestOf g k l (action_count g l) best → AreSumsFormed g k l (action_count g l) → BestAreFormed g k l (action_count g l) best.sum → All Fits (take_sums g k l)
   formed-take best b h i =
-      let n : ℕ = action_count g 1 in
-      All-append Fits (flat_map (under_a g k) (numbers n)) (flat_map (under_d g k) (filter (is_best g k 1) (numbers n)))
-      (All-flat_map Fits (under_a g k) (numbers n) (All-numbers (λ (c : ℕ). All Fits (under_a g k c)) n h))
-      (All-flat_map Fits (under_d g k) (filter (is_best g k 1) (numbers n)) (both_pass (is_best g k 1) (λ (c : ℕ). All Fits (under_d g k c)) (numbers n) (All-numbers (λ (c : ℕ). is_best g k 1 c ≡ true → All Fits (under_d g k c)) n (λ c low high e. i c low high (is_best-is best b c low high e)))))
-
-  -- ---- the value
-
-  module _ (one : length g.types ≡ 1) where
-    pub value-formed : All Fits (take_sums g k 1) → Fits ((attacker g 1).prior *ℤ take_of g k 1) → Fits (weight_total k *ℤ prior_total g) → All Fits (value_sums g k)
-    value-formed h num den =
-        let w : ℤ = (attacker g 1).prior *ℤ take_of g k 1 in
-        let e : pos 0 +ℤ w ≡ w = omega (arith, ints) in
-        let last : All Fits (w ∷ (pos 0 +ℤ w) ∷ []) = All-cons Fits w ((pos 0 +ℤ w) ∷ []) num (All-cons Fits (pos 0 +ℤ w) [] (subst Fits (sym e) num) (All-nil Fits)) in
-        let first : All Fits (take_sums g k 1 ++ (w ∷ (pos 0 +ℤ w) ∷ [])) = All-append Fits (take_sums g k 1) (w ∷ (pos 0 +ℤ w) ∷ []) h last in
-        subst (λ (n : ℕ). All Fits (worth_sums g k (pos 0) (numbers n) ++ ((weight_total k *ℤ prior_total g) ∷ []))) (sym one)
-        (All-append Fits (take_sums g k 1 ++ (w ∷ (pos 0 +ℤ w) ∷ [])) ((weight_total k *ℤ prior_total g) ∷ []) first (All-cons Fits (weight_total k *ℤ prior_total g) [] den (All-nil Fits)))
-
-    of_one : All Fits (value_sums g k) → All Fits ((take_sums g k 1 ++ (((attacker g 1).prior *ℤ take_of g k 1) ∷ (pos 0 +ℤ ((attacker g 1).prior *ℤ take_of g k 1)) ∷ [])) ++ ((weight_total k *ℤ prior_total g) ∷ []))
-    of_one h = subst (λ (n : ℕ). All Fits (worth_sums g k (pos 0) (numbers n) ++ ((weight_total k *ℤ prior_total g) ∷ []))) one h
-
-    pub value-take : All Fits (value_sums g k) → All Fits (take_sums g k 1)
-    value-take h =
-        let w : ℤ = (attacker g 1).prior *ℤ take_of g k 1 in
-        All-front Fits (take_sums g k 1) (w ∷ (pos 0 +ℤ w) ∷ []) (All-front Fits (take_sums g k 1 ++ (w ∷ (pos 0 +ℤ w) ∷ [])) ((weight_total k *ℤ prior_total g) ∷ []) (of_one h))
-
-    pub value-num : All Fits (value_sums g k) → Fits ((attacker g 1).prior *ℤ take_of g k 1)
-    value-num h =
-        let w : ℤ = (attacker g 1).prior *ℤ take_of g k 1 in
-        All-head Fits w ((pos 0 +ℤ w) ∷ []) (All-back Fits (take_sums g k 1) (w ∷ (pos 0 +ℤ w) ∷ []) (All-front Fits (take_sums g k 1 ++ (w ∷ (pos 0 +ℤ w) ∷ [])) ((weight_total k *ℤ prior_total g) ∷ []) (of_one h)))
-
-    pub value-den : All Fits (value_sums g k) → Fits (weight_total k *ℤ prior_total g)
-    value-den h =
-        let w : ℤ = (attacker g 1).prior *ℤ take_of g k 1 in
-        All-head Fits (weight_total k *ℤ prior_total g) [] (All-back Fits (take_sums g k 1 ++ (w ∷ (pos 0 +ℤ w) ∷ [])) ((weight_total k *ℤ prior_total g) ∷ []) (of_one h))
-
-    worth-one : worth g k ≡ (attacker g 1).prior *ℤ take_of g k 1
-    worth-one = rw one (omega (arith, ints))
-
-    pub value-forms : (p t w n : ℤ) (num den : Option ℤ) (q : Option Quotient) → p ≡ (attacker g 1).prior → t ≡ take_of g k 1 → w ≡ weight_total k → n ≡ prior_total g
-        → All Fits (take_sums g k 1)
-        → MatchOption num (Fits (p *ℤ t) → ⊥) (λ v. Fits (p *ℤ t) × (v ≡ p *ℤ t))
-        → MatchOption den (Fits (w *ℤ n) → ⊥) (λ v. Fits (w *ℤ n) × (v ≡ w *ℤ n))
-        → q ≡ paired num den
-        → MatchOption q (All Fits (value_sums g k) → ⊥) (λ v. All Fits (value_sums g k) × IsWorthOf g k v)
-    value-forms p t w n (Some a) (Some b) q ep et ew en h x y e =
-        let num_is : p *ℤ t ≡ (attacker g 1).prior *ℤ take_of g k 1 = (λ i. ep i *ℤ et i) in
-        let den_is : w *ℤ n ≡ weight_total k *ℤ prior_total g = (λ i. ew i *ℤ en i) in
-        subst (λ (o : Option Quotient). MatchOption o (All Fits (value_sums g k) → ⊥) (λ v. All Fits (value_sums g k) × IsWorthOf g k v)) (sym e)
-        (value-formed h (subst Fits num_is x.0) (subst Fits den_is y.0), record { num = x.1 ∙ num_is ∙ sym worth-one; den = y.1 ∙ den_is })
-    value-forms p t w n None den q ep et ew en h x y e =
-        let num_is : p *ℤ t ≡ (attacker g 1).prior *ℤ take_of g k 1 = (λ i. ep i *ℤ et i) in
-        subst (λ (o : Option Quotient). MatchOption o (All Fits (value_sums g k) → ⊥) (λ v. All Fits (value_sums g k) × IsWorthOf g k v)) (sym e)
-        (λ all. x (subst Fits (sym num_is) (value-num all)))
-    value-forms p t w n (Some a) None q ep et ew en h x y e =
-        let den_is : w *ℤ n ≡ weight_total k *ℤ prior_total g = (λ i. ew i *ℤ en i) in
-        subst (λ (o : Option Quotient). MatchOption o (All Fits (value_sums g k) → ⊥) (λ v. All Fits (value_sums g k) × IsWorthOf g k v)) (sym e)
-        (λ all. y (subst Fits (sym den_is) (value-den all)))
+      let n : ℕ = action_count g l in
+      All-append Fits (flat_map (under_a g k l) (numbers n)) (flat_map (under_d g k l) (filter (is_best g k l) (numbers n)))
+      (All-flat_map Fits (under_a g k l) (numbers n) (All-numbers (λ (c : ℕ). All Fits (under_a g k l c)) n h))
+      (All-flat_map Fits (under_d g k l) (filter (is_best g k l) (numbers n)) (both_pass (is_best g k l) (λ (c : ℕ). All Fits (under_d g k l c)) (numbers n) (All-numbers (λ (c : ℕ). is_best g k l c ≡ true → All Fits (under_d g k l c)) n (λ c low high e. i c low high (is_best-is best b c low high e)))))
 
 -- ---- what is taken, formed or not
 
-module _ (g : Game) (k : List Ticket) where
-  pub take-forms : (best : Best) → IsBestOf g k (action_count g 1) best → AreSumsFormed g k (action_count g 1) → (r : Option ℤ)
-      → MatchOption r (BestAreFormed g k (action_count g 1) best.sum → ⊥) (λ taken. BestAreFormed g k (action_count g 1) best.sum × IsTakenSum g k (action_count g 1) best.sum taken)
-      → Forms r (take_sums g k 1) (take_of g k 1)
-  take-forms best b f (Some z) h = (formed-take g k best b f h.0, taken-is g k best z b h.1)
-  take-forms best b f None h = λ all. h (take-best_formed g k best b all)
+module _ (g : Game) (k : List Ticket) (l : ℕ) where
+  pub take-forms : (best : Best) → IsBestOf g k l (action_count g l) best → AreSumsFormed g k l (action_count g l) → (r : Option ℤ)
+      → MatchOption r (BestAreFormed g k l (action_count g l) best.sum → ⊥) (λ taken. BestAreFormed g k l (action_count g l) best.sum × IsTakenSum g k l (action_count g l) best.sum taken)
+      → Forms r (take_sums g k l) (take_of g k l)
+  take-forms best b f (Some z) h = (formed-take g k l best b f h.0, taken-is g k l best z b h.1)
+  take-forms best b f None h = λ all. h (take-best_formed g k l best b all)
 
-  pub take-none : (AreSumsFormed g k (action_count g 1) → ⊥) → All Fits (take_sums g k 1) → ⊥
-  take-none none all = none (take-formed g k all)
+  pub take-none : (AreSumsFormed g k l (action_count g l) → ⊥) → All Fits (take_sums g k l) → ⊥
+  take-none none all = none (take-formed g k l all)
 
   -- a best action whose sum doesn't fit
-  pub best-wide : (best : Best) → IsBestOf g k (action_count g 1) best → (All Fits (under_d g k best.action) → ⊥) → BestAreFormed g k (action_count g 1) best.sum → ⊥
+  pub best-wide : (best : Best) → IsBestOf g k l (action_count g l) best → (All Fits (under_d g k l best.action) → ⊥) → BestAreFormed g k l (action_count g l) best.sum → ⊥
   best-wide best b none all = none (all best.action b.from_one b.in_range b.sum)
 
   -- a looked-at action whose sum doesn't fit
-  pub look-wide : (i : ℕ) (top taken : ℤ) → i < action_count g 1
-      → ((sum_a g k 1 (i + 1) ≡ top) → All Fits (under_d g k (i + 1)) → ⊥)
-      → (((sum_a g k 1 (i + 1) ≡ top) → ⊥) → None ≡ Some taken) → BestAreFormed g k (action_count g 1) top → ⊥
+  pub look-wide : (i : ℕ) (top taken : ℤ) → i < action_count g l
+      → ((sum_a g k l (i + 1) ≡ top) → All Fits (under_d g k l (i + 1)) → ⊥)
+      → (((sum_a g k l (i + 1) ≡ top) → ⊥) → None ≡ Some taken) → BestAreFormed g k l (action_count g l) top → ⊥
   look-wide i top taken lt best other all =
-      elim (cases_eq_z (sum_a g k 1 (i + 1)) top) [
+      elim (cases_eq_z (sum_a g k l (i + 1)) top) [
         | inl is ↦ best is (all (i + 1) (omega arith) (omega (arith, lt)) is)
         | inr not ↦ (let e = other not in cc)
       ]
 
-  pub look-next : (i : ℕ) (top taken next : ℤ) → i < action_count g 1
-      → ((sum_a g k 1 (i + 1) ≡ top) → All Fits (under_d g k (i + 1)) × (next ≡ int_max taken (sum_d g k 1 (i + 1))))
-      → (((sum_a g k 1 (i + 1) ≡ top) → ⊥) → Some next ≡ Some taken) → IsTakenSoFar g k i top taken → IsTakenSoFar g k (i + 1) top next
-  look-next i top taken next lt best other h = taken-next g k i top taken next lt best (λ not. let e = other not in some_same next taken e) h
+  pub look-next : (i : ℕ) (top taken next : ℤ) → i < action_count g l
+      → ((sum_a g k l (i + 1) ≡ top) → All Fits (under_d g k l (i + 1)) × (next ≡ int_max taken (sum_d g k l (i + 1))))
+      → (((sum_a g k l (i + 1) ≡ top) → ⊥) → Some next ≡ Some taken) → IsTakenSoFar g k l i top taken → IsTakenSoFar g k l (i + 1) top next
+  look-next i top taken next lt best other h = taken-next g k l i top taken next lt best (λ not. let e = other not in some_same next taken e) h
     where
       some_same : (x y : ℤ) → Some x ≡ Some y → x ≡ y
       some_same x y e = cc
 
-  pub taken-start : (best : Best) (z : ℤ) → IsBestOf g k (action_count g 1) best → z ≡ sum_d g k 1 best.action → IsTakenSoFar g k 0 best.sum z
-  taken-start best z b e = record { formed = λ a low high same. absurd (omega (arith, low, high)); is = taken-first g k (action_count g 1) best z refl b e }
+  pub taken-start : (best : Best) (z : ℤ) → IsBestOf g k l (action_count g l) best → z ≡ sum_d g k l best.action → IsTakenSoFar g k l 0 best.sum z
+  taken-start best z b e = record { formed = λ a low high same. absurd (omega (arith, low, high)); is = taken-first g k l (action_count g l) best z refl b e }
 
-  pub taken-end : (i : ℕ) (top taken : ℤ) → i ≡ action_count g 1 → IsTakenSoFar g k i top taken → BestAreFormed g k (action_count g 1) top × IsTakenSum g k (action_count g 1) top taken
-  taken-end i top taken e h = (subst (λ (n : ℕ). BestAreFormed g k n top) e h.formed, subst (λ (n : ℕ). IsTakenSum g k n top taken) e h.is)
+  pub taken-end : (i : ℕ) (top taken : ℤ) → i ≡ action_count g l → IsTakenSoFar g k l i top taken → BestAreFormed g k l (action_count g l) top × IsTakenSum g k l (action_count g l) top taken
+  taken-end i top taken e h = (subst (λ (n : ℕ). BestAreFormed g k l n top) e h.formed, subst (λ (n : ℕ). IsTakenSum g k l n top taken) e h.is)
+
+-- ---- the worth
+
+-- what is summed after z of the types from a on, of which there are n
+abbrev pub worth_from : Game → List Ticket → ℤ → ℕ → ℕ → List ℤ
+worth_from g k z a n = worth_sums g k z (numbers_from a n)
+
+-- after some of the types the sum is z, and n are left from a on
+pub record IsWorthSoFar (g : Game) (k : List Ticket) (z : ℤ) (a n : ℕ) : Type 0 where
+  pub back : All Fits (worth_from g k z a n) → All Fits (worth_from g k (pos 0) 1 (length g.types))
+  pub on : All Fits (worth_from g k (pos 0) 1 (length g.types)) → All Fits (worth_from g k z a n)
+  pub sum : z +ℤ total (λ l. (attacker g l).prior *ℤ take_of g k l) (numbers_from a n) ≡ worth g k
+
+pub worth-start : (g : Game) (k : List Ticket) → IsWorthSoFar g k (pos 0) 1 (length g.types)
+worth-start g k = record { back = λ h. h; on = λ h. h; sum = omega (arith, ints) }
+
+-- the numbers under one type
+abbrev pub of_type : Game → List Ticket → ℤ → ℕ → List ℤ
+of_type g k z l = take_sums g k l ++ (((attacker g l).prior *ℤ take_of g k l) ∷ (z +ℤ ((attacker g l).prior *ℤ take_of g k l)) ∷ [])
+
+module _ (g : Game) (k : List Ticket) (z : ℤ) (a n : ℕ) where
+  abbrev pub here : ℤ
+  here = (attacker g a).prior *ℤ take_of g k a
+
+  abbrev behind : List ℤ
+  behind = worth_from g k (z +ℤ here) (a + 1) n
+
+  parts : worth_from g k z a (suc n) ≡ of_type g k z a ++ behind
+  parts = sym (append_assoc (take_sums g k a) (here ∷ (z +ℤ here) ∷ []) behind)
+
+  pub worth-more : (more : ℤ) → IsWorthSoFar g k z a (suc n) → All Fits (of_type g k z a) → more ≡ z +ℤ here → IsWorthSoFar g k more (a + 1) n
+  worth-more more h fit e = subst (λ (s : ℤ). IsWorthSoFar g k s (a + 1) n) (sym e) (record {
+    back = λ f. h.back (subst (All Fits) (sym parts) (All-append Fits (of_type g k z a) behind fit f));
+    on = λ f. All-back Fits (of_type g k z a) behind (subst (All Fits) parts (h.on f));
+    sum = omega (arith, ints, h.sum);
+  })
+
+  pub worth-wide : IsWorthSoFar g k z a (suc n) → (All Fits (of_type g k z a) → ⊥) → All Fits (worth_from g k (pos 0) 1 (length g.types)) → ⊥
+  worth-wide h wide f = wide (All-front Fits (of_type g k z a) behind (subst (All Fits) parts (h.on f)))
+
+pub worth-end : (g : Game) (k : List Ticket) (z : ℤ) (a n : ℕ) → n ≡ 0 → IsWorthSoFar g k z a n → All Fits (worth_from g k (pos 0) 1 (length g.types)) × (z ≡ worth g k)
+worth-end g k z a n none h =
+    let h' = subst (IsWorthSoFar g k z a) none h in
+    (h'.back (All-nil Fits), omega (arith, ints, h'.sum))
+
+joined-forms : (g : Game) (k : List Ticket) (z : ℤ) (l : ℕ) (r : Option ℤ) → All Fits (take_sums g k l)
+    → Forms r (((attacker g l).prior *ℤ take_of g k l) ∷ (z +ℤ ((attacker g l).prior *ℤ take_of g k l)) ∷ []) (z +ℤ ((attacker g l).prior *ℤ take_of g k l))
+    → Forms r (of_type g k z l) (z +ℤ ((attacker g l).prior *ℤ take_of g k l))
+joined-forms g k z l (Some x) taken f =
+    let w : ℤ = (attacker g l).prior *ℤ take_of g k l in
+    (All-append Fits (take_sums g k l) (w ∷ (z +ℤ w) ∷ []) taken f.0, f.1)
+joined-forms g k z l None taken f =
+    let w : ℤ = (attacker g l).prior *ℤ take_of g k l in
+    λ all. f (All-back Fits (take_sums g k l) (w ∷ (z +ℤ w) ∷ []) all)
+
+-- one type: what is taken, and then its product and the sum
+pub type-forms : (g : Game) (k : List Ticket) (z : ℤ) (l : ℕ) (y p t : ℤ) (r : Option ℤ) → y ≡ z → p ≡ (attacker g l).prior → t ≡ take_of g k l → All Fits (take_sums g k l)
+    → Forms r ((p *ℤ t) ∷ (y +ℤ (p *ℤ t)) ∷ []) (y +ℤ (p *ℤ t)) → Forms r (of_type g k z l) (z +ℤ ((attacker g l).prior *ℤ take_of g k l))
+type-forms g k z l y p t r ez ep et taken h =
+    let a : ℤ = (attacker g l).prior in
+    let b : ℤ = take_of g k l in
+    let one = subst (λ (x : ℤ). Forms r ((x *ℤ t) ∷ (y +ℤ (x *ℤ t)) ∷ []) (y +ℤ (x *ℤ t))) ep h in
+    let two = subst (λ (x : ℤ). Forms r ((a *ℤ x) ∷ (y +ℤ (a *ℤ x)) ∷ []) (y +ℤ (a *ℤ x))) et one in
+    joined-forms g k z l r taken (subst (λ (x : ℤ). Forms r ((a *ℤ b) ∷ (x +ℤ (a *ℤ b)) ∷ []) (x +ℤ (a *ℤ b))) ez two)
+
+pub type-wide : (g : Game) (k : List Ticket) (z : ℤ) (l : ℕ) → (All Fits (take_sums g k l) → ⊥) → All Fits (of_type g k z l) → ⊥
+type-wide g k z l wide f = wide (All-front Fits (take_sums g k l) (((attacker g l).prior *ℤ take_of g k l) ∷ (z +ℤ ((attacker g l).prior *ℤ take_of g k l)) ∷ []) f)
+
+-- ---- the value
+
+module _ (g : Game) (k : List Ticket) where
+  abbrev pub sums : List ℤ
+  sums = worth_from g k (pos 0) 1 (length g.types)
+
+  abbrev d : ℤ
+  d = weight_total k *ℤ prior_total g
+
+  pub value-forms : (w n : ℤ) (num den : Option ℤ) (q : Option Quotient) → w ≡ weight_total k → n ≡ prior_total g
+      → Forms num sums (worth g k)
+      → MatchOption den (Fits (w *ℤ n) → ⊥) (λ v. Fits (w *ℤ n) × (v ≡ w *ℤ n))
+      → q ≡ paired num den
+      → MatchOption q (All Fits (value_sums g k) → ⊥) (λ v. All Fits (value_sums g k) × IsWorthOf g k v)
+  value-forms w n (Some a) (Some b) q ew en x y e =
+      let den_is : w *ℤ n ≡ d = (λ i. ew i *ℤ en i) in
+      subst (λ (o : Option Quotient). MatchOption o (All Fits (value_sums g k) → ⊥) (λ v. All Fits (value_sums g k) × IsWorthOf g k v)) (sym e)
+      (All-append Fits sums (d ∷ []) x.0 (All-cons Fits d [] (subst Fits den_is y.0) (All-nil Fits)), record { num = x.1; den = y.1 ∙ den_is })
+  value-forms w n None den q ew en x y e =
+      subst (λ (o : Option Quotient). MatchOption o (All Fits (value_sums g k) → ⊥) (λ v. All Fits (value_sums g k) × IsWorthOf g k v)) (sym e)
+      (λ all. x (All-front Fits sums (d ∷ []) all))
+  value-forms w n (Some a) None q ew en x y e =
+      let den_is : w *ℤ n ≡ d = (λ i. ew i *ℤ en i) in
+      subst (λ (o : Option Quotient). MatchOption o (All Fits (value_sums g k) → ⊥) (λ v. All Fits (value_sums g k) × IsWorthOf g k v)) (sym e)
+      (λ all. y (subst Fits (sym den_is) (All-head Fits d [] (All-back Fits sums (d ∷ []) all))))
 
 -- ---- the tickets of a report
 

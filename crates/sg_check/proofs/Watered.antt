@@ -31,9 +31,9 @@ use Rattle.sg_model.specs.Origami.{water_bound, IsFullyCovered, IsWater, SpendsA
 use Rattle.sg_model.proofs.Sums.{total-append}
 use Rattle.sg_num.proofs.Signs.{mul-pos}
 use Rattle.sg_frac.specs.Fractions.{Fraction, IsReducedForm}
-use Rattle.sg_check.specs.declared.water.Height.{Height}
 use Rattle.sg_check.specs.declared.water.Pays.{Pays}
-use Rattle.sg_check.specs.Watering.{ArePays, ArePaysOf, IsBounding, IsSmallHeight, ShowsBound, greatest_in, greater_of, part}
+use Rattle.sg_check.specs.Watering.{ArePays, ArePaysOf, IsBounding, ShowsBound, greatest_in, greater_of, part}
+use Rattle.sg_check.specs.SmallHeights.{IsSmallHeight}
 use Rattle.sg_model.specs.Fillable.{IsFillable}
 use Rattle.sg_model.proofs.Spans.{Spans, multiple_bounds, spans_product, spans_total}
 
@@ -267,7 +267,7 @@ count-made g num den t p h le =
 pub share-nonneg : (p : Pays) (num den : ℤ) → ArePays p → num ≤ℤ (p.uncovered *ℤ den) → pos 0 ≤ℤ (p.multiple *ℤ (p.uncovered *ℤ den -ℤ num))
 share-nonneg p num den h le = product_nonneg p.multiple (p.uncovered *ℤ den -ℤ num) (omega (arith, ints, h.multiple.at_least)) (omega (arith, ints, le))
 
-pub part-made : (g : Game) (h : Height) (t : ℕ) (p : Pays) (whole : ℤ) → ArePaysOf g t p → whole ≡ h.den *ℤ g.scale
+pub part-made : (g : Game) (h : Fraction) (t : ℕ) (p : Pays) (whole : ℤ) → ArePaysOf g t p → whole ≡ h.den *ℤ g.scale
     → (p.least *ℤ whole) +ℤ (p.gain *ℤ (p.multiple *ℤ (p.uncovered *ℤ h.den -ℤ h.num))) ≡ part g h t
 part-made g h t p whole a e = (λ i. (a.least i *ℤ e i) +ℤ (a.gain i *ℤ (a.multiple i *ℤ (a.uncovered i *ℤ h.den -ℤ h.num))))
 
@@ -315,7 +315,7 @@ one_part : (f : ℕ → ℤ) (p : ℕ → Bool) (t : ℕ) (H : Type 0) (o : Opti
 one_part f p t H (Some z) good bad h = rw (good h.0) (ap Some h.1)
 one_part f p t H None good bad h = rw (bad h) refl
 
-pub greatest-more : (g : Game) (h : Height) (i : ℕ) (best one next : Option ℤ) → best ≡ greatest_in (map (part g h) (filter (level_test_at g h.num h.den) (numbers i)))
+pub greatest-more : (g : Game) (h : Fraction) (i : ℕ) (best one next : Option ℤ) → best ≡ greatest_in (map (part g h) (filter (level_test_at g h.num h.den) (numbers i)))
     → MatchOption one ((h.num ≤ℤ ((payoff g 1 (i + 1)).au *ℤ h.den)) → ⊥) (λ z. (h.num ≤ℤ ((payoff g 1 (i + 1)).au *ℤ h.den)) × (z ≡ part g h (i + 1)))
     → next ≡ greater_of best one → next ≡ greatest_in (map (part g h) (filter (level_test_at g h.num h.den) (numbers (i + 1))))
 greatest-more g h i best one next e m is =

@@ -30,4 +30,4 @@ water-passes g r n line after value bound best e scaled f same reduced h rises =
     let start : IsGreatestBound value (r.value ∷ []) = subst (λ (v : Fraction). IsGreatestBound value (v ∷ [])) same (top-start value reduced) in
     let lines : tree_lines (node_of r.tree) ≡ 1 = water_line (node_of r.tree) (root_is_water g r n scaled h.0) in
     let next : after ≡ held_line (n + 1) = omega (arith, e, f) in
-    (h.0, rises (r.value ∷ []) (tree_bounds_of g r.caps (node_of r.tree)) start h.1, next ∙ ap (λ (k : ℕ). held_line (n + k)) (sym lines))
+    (h.0, record { best = rises (r.value ∷ []) (tree_bounds_of g r.caps (node_of r.tree)) start h.1; next = next ∙ ap (λ (k : ℕ). held_line (n + k)) (sym lines) })

@@ -1,9 +1,7 @@
 pub mod Answering
-pub mod Covered
 pub mod Parts
-pub mod PlayTests
-pub mod Sized
-pub mod Spreads
+pub mod Placing
+pub mod SmallHeights
 pub mod Valuing
 pub mod Verdicts
 pub mod Watering

@@ -1,4 +1,4 @@
--- How the value of tickets is formed, for a game of one type: sums over the tickets, the best actions, and what is taken of them.
+-- How the value of tickets is formed: sums over the tickets, the best actions, and what is taken of them.
 use Rattle.std.specs.Prelude.{◌≡◌, ℕ, ◌≤◌, List, ℤ, pos, ◌*ℤ◌, ◌≤ℤ◌, All, MatchOption, Option, Some, None}
 use Rattle.sg_model.specs.declared.ticket.Ticket.{Ticket}
 use Rattle.sg_model.specs.Games.{Game, action_count, prior_total}
@@ -13,32 +13,32 @@ use Rattle.sg_check.specs.declared.quotient.Quotient.{Quotient}
 abbrev pub Forms : Option ℤ → List ℤ → ℤ → Type 0
 Forms made under value = MatchOption made (All Fits under → ⊥) (λ v. All Fits under × (v ≡ value))
 
--- the numbers under what the type gets from action a, and under what the defender gets where it takes a
-abbrev pub under_a : Game → List Ticket → ℕ → List ℤ
-under_a g k a = pay_sums (λ play. pay_a g 1 play a) (pos 0) k
+-- the numbers under what type l gets from action a, and under what the defender gets where it takes a
+abbrev pub under_a : Game → List Ticket → ℕ → ℕ → List ℤ
+under_a g k l a = pay_sums (λ play. pay_a g l play a) (pos 0) k
 
-abbrev pub under_d : Game → List Ticket → ℕ → List ℤ
-under_d g k a = pay_sums (λ play. pay_d g 1 play a) (pos 0) k
+abbrev pub under_d : Game → List Ticket → ℕ → ℕ → List ℤ
+under_d g k l a = pay_sums (λ play. pay_d g l play a) (pos 0) k
 
--- of actions 1 to n, one has this sum, and none a greater one
-pub record IsBestOf (g : Game) (k : List Ticket) (n : ℕ) (best : Best) : Type 0 where
+-- of actions 1 to n of type l, one has this sum, and none a greater one
+pub record IsBestOf (g : Game) (k : List Ticket) (l n : ℕ) (best : Best) : Type 0 where
   pub from_one : 1 ≤ best.action
   pub in_range : best.action ≤ n
-  pub sum : sum_a g k 1 best.action ≡ best.sum
-  pub most : (a : ℕ) → 1 ≤ a → a ≤ n → sum_a g k 1 a ≤ℤ best.sum
+  pub sum : sum_a g k l best.action ≡ best.sum
+  pub most : (a : ℕ) → 1 ≤ a → a ≤ n → sum_a g k l a ≤ℤ best.sum
 
--- of actions 1 to n, all sums of the type fit
-abbrev pub AreSumsFormed : Game → List Ticket → ℕ → Type 0
-AreSumsFormed g k n = (a : ℕ) → 1 ≤ a → a ≤ n → All Fits (under_a g k a)
+-- of actions 1 to n of type l, all sums of the type fit
+abbrev pub AreSumsFormed : Game → List Ticket → ℕ → ℕ → Type 0
+AreSumsFormed g k l n = (a : ℕ) → 1 ≤ a → a ≤ n → All Fits (under_a g k l a)
 
--- of actions 1 to n, the defender's sums of the best ones fit
-abbrev pub BestAreFormed : Game → List Ticket → ℕ → ℤ → Type 0
-BestAreFormed g k n top = (a : ℕ) → 1 ≤ a → a ≤ n → sum_a g k 1 a ≡ top → All Fits (under_d g k a)
+-- of actions 1 to n of type l, the defender's sums of the best ones fit
+abbrev pub BestAreFormed : Game → List Ticket → ℕ → ℕ → ℤ → Type 0
+BestAreFormed g k l n top = (a : ℕ) → 1 ≤ a → a ≤ n → sum_a g k l a ≡ top → All Fits (under_d g k l a)
 
--- a best action with this sum of the defender, and of actions 1 to n no best one has a greater
-pub record IsTakenSum (g : Game) (k : List Ticket) (n : ℕ) (top taken : ℤ) : Type 0 where
-  pub reached : (a : ℕ) × (1 ≤ a) × (a ≤ action_count g 1) × (sum_a g k 1 a ≡ top) × (sum_d g k 1 a ≡ taken)
-  pub most : (a : ℕ) → 1 ≤ a → a ≤ n → sum_a g k 1 a ≡ top → sum_d g k 1 a ≤ℤ taken
+-- a best action of type l with this sum of the defender, and of actions 1 to n no best one has a greater
+pub record IsTakenSum (g : Game) (k : List Ticket) (l n : ℕ) (top taken : ℤ) : Type 0 where
+  pub reached : (a : ℕ) × (1 ≤ a) × (a ≤ action_count g l) × (sum_a g k l a ≡ top) × (sum_d g k l a ≡ taken)
+  pub most : (a : ℕ) → 1 ≤ a → a ≤ n → sum_a g k l a ≡ top → sum_d g k l a ≤ℤ taken
 
 -- the worth of the tickets, over their total times the priors
 pub record IsWorthOf (g : Game) (k : List Ticket) (q : Quotient) : Type 0 where

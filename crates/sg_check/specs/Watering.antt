@@ -13,9 +13,9 @@ use Rattle.sg_bounds.specs.Checking.{AllPass, FirstFails, IsWaterRoot, Stop}
 use Rattle.sg_bounds.specs.Leaves.{tree_bounds_of}
 use Rattle.sg_bounds.specs.Trees.{Node}
 use Rattle.sg_check.specs.Answering.{held_line}
+use Rattle.sg_check.specs.SmallHeights.{IsSmallHeight}
 use Rattle.sg_check.specs.declared.refusal.Refusal.{Refusal}
 use Rattle.sg_check.specs.declared.water.Pays.{Pays}
-use Rattle.sg_check.specs.declared.water.Height.{Height}
 
 -- what a target pays, and how often its gap goes into the scale, within their limits
 pub record ArePays (p : Pays) : Type 0 where
@@ -34,18 +34,13 @@ pub record ArePaysOf (g : Game) (t : ℕ) (p : Pays) : Type 0 where
   pub least : p.least ≡ (payoff g 1 t).du
   pub gain : p.gain ≡ (payoff g 1 t).dc -ℤ (payoff g 1 t).du
 
--- a level with parts so small that all sums of its test fit
-pub record IsSmallHeight (h : Height) : Type 0 where
-  pub den : IsWithin (pos 1) (pos (2 ^ 46)) h.den
-  pub num : IsWithin (pos 0 -ℤ pos (2 ^ 77)) (pos (2 ^ 77)) h.num
-
 -- a small level that covers no target so often that its part of the bound doesn't fit
-pub record IsBounding (g : Game) (h : Height) : Type 0 where
+pub record IsBounding (g : Game) (h : Fraction) : Type 0 where
   pub small : IsSmallHeight h
   pub shares : (t : ℕ) → 1 ≤ t → t ≤ length g.goals → h.num ≤ℤ ((payoff g 1 t).au *ℤ h.den) → share g h.num h.den t ≤ℤ pos (2 ^ 86)
 
 -- what the defender gets at target t at a level, times the denominator and the scale
-abbrev pub part : Game → Height → ℕ → ℤ
+abbrev pub part : Game → Fraction → ℕ → ℤ
 part g h t = (payoff g 1 t).du *ℤ (h.den *ℤ g.scale) +ℤ ((payoff g 1 t).dc -ℤ (payoff g 1 t).du) *ℤ share g h.num h.den t
 
 -- the greatest of a list, where there is one

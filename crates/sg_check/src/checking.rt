@@ -1,15 +1,14 @@
 //! The tests in order, and the verdict.
 
-ghost use Rattle.std.specs.Prelude.{◌≡◌, ◌+◌, IfOk, IsOk, Ok, false, length, ℕ};
+ghost use Rattle.std.specs.Prelude.{◌≡◌, ◌+◌, IfOk, IsOk, Ok, ℕ};
 ghost use Rattle.sg_bounds.specs.Checking.{IsReportValue, IsRefused, stops_of, value_line};
 ghost use Rattle.sg_check.specs.Answering.{AnswersTests, held_line};
-ghost use Rattle.sg_check.specs.Covered.{has_cover};
 ghost use Rattle.sg_check.specs.Parts.{closing_stops, opening_stops};
 ghost use Rattle.sg_check.specs.Verdicts.{IsAcceptedGap, IsAcceptedOptimal, IsYes, Judges, Proves};
 
 use crate::caps::test_caps;
 use crate::ending::{is_optimal, test_ending};
-use crate::measures::measures_of;
+use crate::numbers::numbers_of;
 use crate::refusal::Refusal;
 use crate::root::test_root;
 use crate::tickets::{test_plays, test_total};
@@ -22,7 +21,6 @@ use std::alloc::{AllocError, Global};
 
 /// Tests the tickets, their total and their value.
 fn test_opening(game: &Game, report: &Report) -> Result<(), Refusal>
-    requires { length game.now.types ≡ 1 }
     ensures { AnswersTests game.now report.now (opening_stops report.now) result }
 {
     match test_plays(game, report) {
@@ -43,13 +41,11 @@ fn caps_line(report: &Report) -> u64
 
 /// Tests the caps, the tree, the upper bound and the verdict.
 fn test_closing(game: &Game, report: &Report) -> Result<(), Refusal>
-    requires one_type { length game.now.types ≡ 1 }
-    requires no_cover { has_cover report.now ≡ false }
     ensures { AnswersTests game.now report.now (closing_stops game.now report.now) result }
 {
-    let line = caps_line(report);
-    match test_caps(game, report, line) {
-        Ok(()) => match test_root(game, report, &measures_of(game), line) {
+    let numbers = numbers_of(game);
+    match test_caps(game, report, &numbers, caps_line(report)) {
+        Ok(line) => match test_root(game, report, &numbers, line) {
             Ok(top) => test_ending(game, report, &top),
             Err(refusal) => Err(refusal),
         },
@@ -59,8 +55,6 @@ fn test_closing(game: &Game, report: &Report) -> Result<(), Refusal>
 
 /// The first test that fails, of all.
 fn tested(game: &Game, report: &Report) -> Result<(), Refusal>
-    requires one_type { length game.now.types ≡ 1 }
-    requires no_cover { has_cover report.now ≡ false }
     ensures { AnswersTests game.now report.now (stops_of game.now report.now) result }
 {
     match test_opening(game, report) {
@@ -90,13 +84,11 @@ fn yes(report: &Report) -> Verdict
 }
 
 /// What the report proves for the game: that its tickets are optimal, or the bounds of their gap; or the first test that
-/// fails. The game has one type of attacker, and the report holds no fact of the coverage table.
+/// fails. It takes every game and every report.
 ///
 /// A yes comes exactly where the report is accepted, and a no exactly where it is refused, with its line and reason. It
 /// shares no sum, walk or search with the solver. No call wants memory.
 pub fn check(_alloc: Global, game: &Game, report: &Report) -> Result<Verdict, AllocError>
-    requires one_type { length game.now.types ≡ 1 }
-    requires no_cover { has_cover report.now ≡ false }
     ensures judged { IfOk result (Judges game.now report.now) }
     ensures optimal { IsAcceptedOptimal game.now report.now → result ≡ Ok (Verdict.YesOptimal report.now.value) }
     ensures gap { IsAcceptedGap game.now report.now → result ≡ Ok (Verdict.YesGap report.now.value report.now.upper) }

@@ -9,7 +9,7 @@ ghost use Rattle.sg_check.specs.Answering.{AnswersTests, IsGreatestBound, held_l
 
 use crate::quotient::is_same;
 use crate::refusal::Refusal;
-use crate::tree::Top;
+use crate::top::Top;
 use sg_game::Game;
 use sg_tree::{Ending, Report};
 

@@ -1,16 +1,16 @@
 //! The tests of the root: a water level where the game declares a scale, else the tree.
 
-ghost use Rattle.std.specs.Prelude.{◌≡◌, false, true, length};
+ghost use Rattle.std.specs.Prelude.{◌≡◌, true};
 ghost use Rattle.sg_model.specs.Limits.{is_scaled};
 ghost use Rattle.sg_bounds.specs.Checking.{root_line};
 ghost use Rattle.sg_bounds.specs.Trees.{node_of};
 ghost use Rattle.sg_check.specs.Answering.{RootAnswers, held_line};
-ghost use Rattle.sg_check.specs.Covered.{node_has_cover};
-ghost use Rattle.sg_check.specs.Spreads.{AreMeasures};
+ghost use Rattle.sg_check.specs.Placing.{IsSetting};
 
-use crate::measures::Measures;
+use crate::numbers::Numbers;
 use crate::refusal::Refusal;
-use crate::tree::{Top, raised, stated_value, test_split};
+use crate::top::{Top, raised, stated_value};
+use crate::tree::test_split;
 use crate::water::test_water;
 use sg_game::Game;
 use sg_tree::Report;
@@ -31,7 +31,7 @@ fn test_level(game: &Game, report: &Report, line: u64) -> Result<Top, Refusal>
     match test_water(game, report, line) {
         Ok(bound) => Ok(Top {
             next: line.saturating_add(1),
-            best: raised(stated_value(report), Some(bound)),
+            best: raised(&stated_value(report), &Some(bound)),
         }),
         Err(refusal) => Err(refusal),
     }
@@ -41,18 +41,16 @@ fn test_level(game: &Game, report: &Report, line: u64) -> Result<Top, Refusal>
 pub(crate) fn test_root(
     game: &Game,
     report: &Report,
-    measures: &Measures,
+    numbers: &Numbers,
     line: u64,
 ) -> Result<Top, Refusal>
-    requires one_type { length game.now.types ≡ 1 }
-    requires measures { AreMeasures game.now measures.now }
-    requires no_cover { node_has_cover (node_of report.now.tree) ≡ false }
+    requires setting { IsSetting game.now report.now numbers.now }
     requires line { line ≡ held_line (root_line report.now) }
     ensures { RootAnswers game.now report.now (root_line report.now) (node_of report.now.tree) result }
 {
     if is_scaled(game) {
         test_level(game, report, line)
     } else {
-        test_split(game, report, measures, line)
+        test_split(game, report, numbers, line)
     }
 }

@@ -7,7 +7,7 @@ ghost use Rattle.sg_model.specs.Limits.{IsPay};
 ghost use Rattle.sg_model.specs.Plays.{IsLegal};
 ghost use Rattle.sg_model.specs.Sums.{nth};
 ghost use Rattle.sg_game.specs.Tallies.{IsTicketCount, IsTally, marked, no_cell, tallied, touched, touched_all, touched_from};
-ghost use Rattle.sg_game.specs.Counts.{IsActionOf, IsGoalOf, IsResourceOf};
+ghost use Rattle.sg_game.specs.Counts.{IsActionOf, IsGoalOf, IsResourceOf, IsTypeOf};
 ghost use Rattle.sg_check.specs.Valuing.{Forms, under_a, under_d};
 
 use crate::sums::{total_a, total_d};
@@ -146,15 +146,15 @@ fn mixed(total: i128, count: i128, uncovered: i128, more: i128) -> i128
     uncovered * total + more * count
 }
 
-/// The type's sum of a target, by its count.
-fn counted_a(game: &Game, total: i128, count: i128, t: u16) -> i128
+/// The sum of type `l` of a target, by its count.
+fn counted_a(game: &Game, total: i128, count: i128, l: u8, t: u16) -> i128
     requires security { is_matrix game.now ≡ false }
-    requires one_type { length game.now.types ≡ 1 }
+    requires known_type { IsTypeOf game.now l }
     requires known { IsGoalOf game.now t }
     requires counts { IsTicketCount total count }
-    ensures { result ≡ ((payoff game.now 1 t).au *ℤ total) +ℤ (((payoff game.now 1 t).ac -ℤ (payoff game.now 1 t).au) *ℤ count) }
+    ensures { result ≡ ((payoff game.now l t).au *ℤ total) +ℤ (((payoff game.now l t).ac -ℤ (payoff game.now l t).au) *ℤ count) }
 {
-    let [_, _, covered, uncovered] = game.payoffs(1, t);
+    let [_, _, covered, uncovered] = game.payoffs(l, t);
     mixed(
         total,
         count,
@@ -163,15 +163,15 @@ fn counted_a(game: &Game, total: i128, count: i128, t: u16) -> i128
     )
 }
 
-/// The defender's sum of a target, by its count.
-fn counted_d(game: &Game, total: i128, count: i128, t: u16) -> i128
+/// The defender's sum of a target that type `l` takes, by its count.
+fn counted_d(game: &Game, total: i128, count: i128, l: u8, t: u16) -> i128
     requires security { is_matrix game.now ≡ false }
-    requires one_type { length game.now.types ≡ 1 }
+    requires known_type { IsTypeOf game.now l }
     requires known { IsGoalOf game.now t }
     requires counts { IsTicketCount total count }
-    ensures { result ≡ ((payoff game.now 1 t).du *ℤ total) +ℤ (((payoff game.now 1 t).dc -ℤ (payoff game.now 1 t).du) *ℤ count) }
+    ensures { result ≡ ((payoff game.now l t).du *ℤ total) +ℤ (((payoff game.now l t).dc -ℤ (payoff game.now l t).du) *ℤ count) }
 {
-    let [covered, uncovered, _, _] = game.payoffs(1, t);
+    let [covered, uncovered, _, _] = game.payoffs(l, t);
     mixed(
         total,
         count,
@@ -180,51 +180,53 @@ fn counted_d(game: &Game, total: i128, count: i128, t: u16) -> i128
     )
 }
 
-/// What the type gets from action `a`, summed over the tickets: by the table of counts, where there is one.
+/// What type `l` gets from action `a`, summed over the tickets: by the table of counts, where there is one.
 pub(crate) fn table_a(
     game: &Game,
     tickets: &[Ticket],
     total: i128,
     table: &[Cell],
+    l: u8,
     a: u16,
 ) -> Option<i128>
-    requires one_type { length game.now.types ≡ 1 }
+    requires known_type { IsTypeOf game.now l }
     requires legal { AreLegal game.now tickets.now }
     requires total { total ≡ weight_total tickets.now }
     requires table { IsTally game.now tickets.now table.now }
-    requires known_action { IsActionOf game.now 1 a }
-    ensures { Forms result (under_a game.now tickets.now a) (sum_a game.now tickets.now 1 a) }
+    requires known_action { IsActionOf game.now l a }
+    ensures { Forms result (under_a game.now tickets.now l a) (sum_a game.now tickets.now l a) }
 {
     game.promises();
     if has_cell(table, a) {
         let count = count_at(table, a);
-        Some(counted_a(game, total, count, a))
+        Some(counted_a(game, total, count, l, a))
     } else {
-        total_a(game, tickets, a)
+        total_a(game, tickets, l, a)
     }
 }
 
-/// What the defender gets where the type takes action `a`, summed over the tickets: by the table of counts, where there
+/// What the defender gets where type `l` takes action `a`, summed over the tickets: by the table of counts, where there
 /// is one.
 pub(crate) fn table_d(
     game: &Game,
     tickets: &[Ticket],
     total: i128,
     table: &[Cell],
+    l: u8,
     a: u16,
 ) -> Option<i128>
-    requires one_type { length game.now.types ≡ 1 }
+    requires known_type { IsTypeOf game.now l }
     requires legal { AreLegal game.now tickets.now }
     requires total { total ≡ weight_total tickets.now }
     requires table { IsTally game.now tickets.now table.now }
-    requires known_action { IsActionOf game.now 1 a }
-    ensures { Forms result (under_d game.now tickets.now a) (sum_d game.now tickets.now 1 a) }
+    requires known_action { IsActionOf game.now l a }
+    ensures { Forms result (under_d game.now tickets.now l a) (sum_d game.now tickets.now l a) }
 {
     game.promises();
     if has_cell(table, a) {
         let count = count_at(table, a);
-        Some(counted_d(game, total, count, a))
+        Some(counted_d(game, total, count, l, a))
     } else {
-        total_d(game, tickets, a)
+        total_d(game, tickets, l, a)
     }
 }

@@ -2,7 +2,7 @@
 
 ghost use Rattle.std.specs.Prelude.{◌≡◌, ◌≢◌, ◌↔◌, ◌≤◌, ◌^◌, [], ◌∷◌, ◌+ℤ◌, ◌-ℤ◌, ◌*ℤ◌, ◌≤ℤ◌, IsTrue, MatchOption, int_div, length, map, pos, true};
 ghost use Rattle.std.specs.Int.{int_max};
-ghost use Rattle.sg_frac.specs.Fractions.{IsReduced, IsReducedForm};
+ghost use Rattle.sg_frac.specs.Fractions.{IsReducedForm};
 ghost use Rattle.sg_model.specs.Games.{payoff, resource_count};
 ghost use Rattle.sg_model.specs.Limits.{is_scaled};
 ghost use Rattle.sg_model.specs.Origami.{IsFullyCovered, IsWater, SpendsAll, at_level, count_at, gap, water_bound};
@@ -12,9 +12,10 @@ ghost use Rattle.sg_bounds.specs.Checking.{root_line, root_stops};
 ghost use Rattle.sg_bounds.specs.Leaves.{tree_bounds_of};
 ghost use Rattle.sg_bounds.specs.Trees.{closed, node_of};
 ghost use Rattle.sg_check.specs.Answering.{held_line};
-ghost use Rattle.sg_check.specs.Watering.{ArePays, ArePaysOf, IsBounding, IsSmallHeight, WaterTells, WaterTold, greatest_in, greater_of, part};
+ghost use Rattle.sg_check.specs.Watering.{ArePays, ArePaysOf, IsBounding, WaterTells, WaterTold, greatest_in, greater_of, part};
 ghost use Rattle.sg_model.specs.Fillable.{IsFillable};
 
+use crate::height::Height;
 use crate::quotient::{Quotient, reduced};
 use crate::refusal::Refusal;
 use crate::step::multiplied;
@@ -22,13 +23,6 @@ use sg_frac::Frac;
 use sg_game::Game;
 use sg_model::Level;
 use sg_tree::{Fact, Report, Tree};
-
-/// A level.
-#[derive(Clone, Copy)]
-pub(crate) struct Height {
-    pub(crate) num: i128,
-    pub(crate) den: i128,
-}
 
 /// What a target pays, for the sums of a level.
 #[derive(Clone, Copy)]
@@ -138,18 +132,16 @@ fn pays_of(game: &Game, t: u16) -> Pays
 /// How far the uncovered payoff is above the level, times the denominator.
 fn excess(pays: &Pays, level: &Height) -> i128
     requires pays { ArePays pays.now }
-    requires small { IsSmallHeight level.now }
     ensures value { result ≡ pays.now.uncovered *ℤ level.now.den -ℤ level.now.num }
     ensures low { (pos 0 -ℤ pos (2 ^ 78)) ≤ℤ result }
     ensures high { result ≤ℤ pos (2 ^ 78) }
 {
-    pays.uncovered * level.den - level.num
+    pays.uncovered * level.den() - level.num()
 }
 
 /// Whether the uncovered payoff is at least the level.
 fn is_high(pays: &Pays, level: &Height) -> bool
     requires pays { ArePays pays.now }
-    requires small { IsSmallHeight level.now }
     ensures { IsTrue result ↔ (level.now.num ≤ℤ (pays.now.uncovered *ℤ level.now.den)) }
 {
     0 <= excess(pays, level)
@@ -158,7 +150,6 @@ fn is_high(pays: &Pays, level: &Height) -> bool
 /// The coverage that brings the target down to the level, times the denominator and the scale.
 fn share(pays: &Pays, level: &Height) -> i128
     requires pays { ArePays pays.now }
-    requires small { IsSmallHeight level.now }
     ensures value { result ≡ pays.now.multiple *ℤ (pays.now.uncovered *ℤ level.now.den -ℤ level.now.num) }
     ensures high { result ≤ℤ pos (2 ^ 110) }
 {
@@ -169,7 +160,6 @@ fn share(pays: &Pays, level: &Height) -> i128
 fn count(game: &Game, t: u16, level: &Height) -> i128
     requires fillable { IsFillable game.now }
     requires known { IsGoalOf game.now t }
-    requires small { IsSmallHeight level.now }
     ensures value { result ≡ count_at game.now level.now.num level.now.den t }
     ensures low { pos 0 ≤ℤ result }
     ensures high { result ≤ℤ pos (2 ^ 110) }
@@ -185,7 +175,6 @@ fn count(game: &Game, t: u16, level: &Height) -> i128
 /// What all targets need together.
 fn needed(game: &Game, level: &Height) -> i128
     requires fillable { IsFillable game.now }
-    requires small { IsSmallHeight level.now }
     ensures { result ≡ total (count_at game.now level.now.num level.now.den) (numbers (length game.now.goals)) }
 {
     let mut sum = 0;
@@ -198,16 +187,14 @@ fn needed(game: &Game, level: &Height) -> i128
 /// What the patrols have, times the denominator and the scale.
 fn available(game: &Game, level: &Height) -> i128
     requires fillable { IsFillable game.now }
-    requires small { IsSmallHeight level.now }
     ensures { result ≡ (pos (resource_count game.now) *ℤ level.now.den) *ℤ game.now.scale }
 {
-    i128::from(game.resources()) * level.den * i128::from(game.scale())
+    i128::from(game.resources()) * level.den() * i128::from(game.scale())
 }
 
 /// Whether some target pays at least the level.
 fn has_target(game: &Game, level: &Height) -> bool
     requires fillable { IsFillable game.now }
-    requires small { IsSmallHeight level.now }
     ensures { IsTrue result ↔ (at_level game.now level.now.num level.now.den ≢ []) }
 {
     for i in 0..game.targets() {
@@ -228,7 +215,6 @@ fn is_equal(a: i128, b: i128) -> bool
 /// Whether the patrols are just enough to bring all targets of the level down to it.
 fn spends_all(game: &Game, level: &Height) -> bool
     requires fillable { IsFillable game.now }
-    requires small { IsSmallHeight level.now }
     ensures { IsTrue result ↔ SpendsAll game.now level.now.num level.now.den }
 {
     if has_target(game, level) {
@@ -236,23 +222,6 @@ fn spends_all(game: &Game, level: &Height) -> bool
     } else {
         false
     }
-}
-
-/// Whether the parts are so small that all sums of the test fit.
-fn is_small(level: &Height) -> bool
-    requires { pos 1 ≤ℤ level.now.den }
-    ensures { IsTrue result ↔ IsSmallHeight level.now }
-{
-    if level.den > 1 << 46 {
-        return false;
-    }
-    if level.num > 1 << 77 {
-        return false;
-    }
-    if level.num < -(1 << 77) {
-        return false;
-    }
-    true
 }
 
 /// Whether the product is this one.
@@ -266,37 +235,35 @@ fn is_product(a: i128, b: i128, product: i128) -> bool
 }
 
 /// Whether target `j`, covered for certain, pays the attacker the level.
-fn is_floor(game: &Game, level: &Height, j: u16) -> bool
+fn is_floor(game: &Game, level: &Frac, j: u16) -> bool
     requires fillable { IsFillable game.now }
     ensures { IsTrue result ↔ IsFullyCovered game.now level.now.num level.now.den j }
 {
     if j < 1 || game.targets() < j {
         return false;
     }
-    is_product(pays_of(game, j).covered, level.den, level.num)
+    is_product(pays_of(game, j).covered, level.den(), level.num())
 }
 
-/// Whether the level, which is in lowest terms, is held up by the patrols: it isn't where a part is so large that a sum
-/// might not fit.
-fn is_spent(game: &Game, level: &Height) -> bool
+/// Whether the level is held up by the patrols: it isn't where a part is so large that a sum might not fit.
+fn is_spent(game: &Game, level: &Frac) -> bool
     requires fillable { IsFillable game.now }
-    requires reduced { IsReduced (record { num = level.now.num; den = level.now.den }) }
     ensures { IsTrue result ↔ SpendsAll game.now level.now.num level.now.den }
 {
     game.promises();
-    if is_small(level) {
-        spends_all(game, level)
-    } else {
-        false
+    let _lowest = level.den();
+    match Height::of(level) {
+        Some(height) => spends_all(game, &height),
+        None => false,
     }
 }
 
 /// Whether the level holds for this reason.
-fn is_level(game: &Game, level: &Height, reason: &Level) -> bool
+fn is_level(game: &Game, level: &Frac, reason: &Level) -> bool
     requires fillable { IsFillable game.now }
-    requires reduced { IsReduced (record { num = level.now.num; den = level.now.den }) }
     ensures { IsTrue result ↔ IsWater game.now level.now.num level.now.den reason.now }
 {
+    let _lowest = level.den();
     match reason {
         Level::Resources => is_spent(game, level),
         Level::Target(j) => is_floor(game, level, *j),
@@ -306,18 +273,16 @@ fn is_level(game: &Game, level: &Height, reason: &Level) -> bool
 /// What a target's part of the bound is over: the denominator times the scale.
 fn whole_of(game: &Game, level: &Height) -> i128
     requires fillable { IsFillable game.now }
-    requires small { IsSmallHeight level.now }
     ensures value { result ≡ level.now.den *ℤ game.now.scale }
     ensures low { pos 1 ≤ℤ result }
     ensures high { result ≤ℤ pos (2 ^ 78) }
 {
-    level.den * i128::from(game.scale())
+    level.den() * i128::from(game.scale())
 }
 
 /// What the defender gets at a target of the level, times the whole.
 fn part(pays: &Pays, level: &Height, whole: i128) -> i128
     requires pays { ArePays pays.now }
-    requires small { IsSmallHeight level.now }
     requires low { pos 1 ≤ℤ whole }
     requires high { whole ≤ℤ pos (2 ^ 78) }
     requires of_level { level.now.num ≤ℤ (pays.now.uncovered *ℤ level.now.den) }
@@ -388,18 +353,28 @@ fn bound(game: &Game, level: &Height) -> Frac
     }
 }
 
+/// The bound of a level that is small.
+fn small_bound(game: &Game, level: &Frac) -> Frac
+    requires fillable { IsFillable game.now }
+    requires bounding { IsBounding game.now level.now }
+    requires some { at_level game.now level.now.num level.now.den ≢ [] }
+    ensures { IsReducedForm (water_bound game.now level.now.num level.now.den) (level.now.den *ℤ game.now.scale) result }
+{
+    match Height::of(level) {
+        Some(height) => bound(game, &height),
+        None => unreachable!(),
+    }
+}
+
 /// The bound of a level, where it holds for this reason.
 pub(crate) fn tested(game: &Game, level: &Frac, reason: &Level) -> Option<Frac>
     requires { is_scaled game.now ≡ true }
     ensures { MatchOption result (IsWater game.now level.now.num level.now.den reason.now → ⊥) (λ b. IsWater game.now level.now.num level.now.den reason.now × IsReducedForm (water_bound game.now level.now.num level.now.den) (level.now.den *ℤ game.now.scale) b) }
 {
     game.promises();
-    let height = Height {
-        num: level.num(),
-        den: level.den(),
-    };
-    if is_level(game, &height, reason) {
-        Some(bound(game, &height))
+    let _lowest = level.den();
+    if is_level(game, level, reason) {
+        Some(small_bound(game, level))
     } else {
         None
     }

@@ -13,7 +13,6 @@ use Rattle.sg_bounds.specs.Accepted.{IsAccepted, is_optimal}
 use Rattle.sg_bounds.specs.Checking.{IsReportValue, IsRefused}
 use Rattle.sg_bounds.proofs.Answering.{each_is_answered}
 use Rattle.sg_bounds.proofs.Verdicts.{refusal_is_one}
-use Rattle.sg_check.specs.Covered.{has_cover}
 use Rattle.sg_shelf.specs.Files.{Files, bytes_under}
 use Rattle.sg_cli.specs.Inputs.{Content, game, held_as, report}
 use Rattle.sg_cli.specs.Commands.{Plan}

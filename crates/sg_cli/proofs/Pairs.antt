@@ -13,7 +13,6 @@ use Rattle.sg_bounds.specs.Accepted.{is_optimal}
 use Rattle.sg_bounds.specs.Trees.{node_of}
 use Rattle.sg_bounds.proofs.Nodes.{node_of-Closed}
 use Rattle.sg_bounds.proofs.Reports.{accepted_means}
-use Rattle.sg_check.specs.Covered.{has_cover, node_has_cover}
 use Rattle.sg_shelf.specs.Files.{Files, any_bytes, bytes_under}
 use Rattle.sg_cli.specs.Inputs.{Content, IsHandedAs, game, game_file, held_as, report, report_file}
 use Rattle.sg_cli.specs.Commands.{Command}
@@ -30,14 +29,8 @@ use Rattle.sg_cli.proofs.Lengths.{short}
 
 -- ---- a report that `solve` writes
 
-no_cover : (g : Game) (r : Report) → IsAnswer g r → has_cover r ≡ false
-no_cover g r a =
-    let tree : node_has_cover (node_of r.tree) ≡ false =
-    ap (λ t. node_has_cover (node_of t)) a.is_right.tree ∙ ap node_has_cover (node_of-Closed (Water a.is_right.level a.is_right.why)) in
-    rw a.is_right.caps tree
-
 pub judged : (g : Game) → IsGame g → (r : Report) → IsAnswer g r → IsJudged g r
-judged g is r a = record { is_checkable = no_cover g r a; accepted = a.is_right.accepted; means = accepted_means g is r a.is_right.accepted }
+judged g is r a = record { accepted = a.is_right.accepted; means = accepted_means g is r a.is_right.accepted }
 
 -- ---- what is due for it
 
@@ -59,7 +52,7 @@ module _ (files : Files) (name named : List ℕ) (w : IsWritten files name named
     due ends =
         let is = accepted w.bytes w.solved w.says in
         by_said any_bytes command files 0 [] (game_file name) (report_file named ∷ []) (game w.solved) tt says_game
-        (by_said any_bytes command files 0 (game w.solved ∷ []) (report_file named) [] (report w.answer.report) (origami w.solved is w.is_solved).one_type (says_report is)
+        (by_said any_bytes command files 0 (game w.solved ∷ []) (report_file named) [] (report w.answer.report) tt (says_report is)
         (inr (judged w.solved is w.answer.report w.answer.answer, ends)))
 
 pub solved_is_checked : SolvedIsChecked

@@ -10,12 +10,11 @@ use Rattle.sg_cli.specs.Inputs.{Content, Input, game, game_file, held_as, report
 use Rattle.sg_cli.specs.Commands.{Plan}
 use Rattle.sg_cli.specs.Progress.{HasRead, ReachesInput, reads_of}
 use Rattle.sg_cli.specs.Effects.{Stops}
-use Rattle.sg_cli.specs.Judging.{IsChecked, judging, refuses_wrong}
+use Rattle.sg_cli.specs.Judging.{judging, refuses_wrong}
 use Rattle.sg_cli.specs.Solving.{solving}
 use Rattle.sg_cli.specs.Steps.{GivesContent, GivesNoGame, GivesNone, GivesNoReport, SolvingFails}
 use Rattle.sg_cli.specs.declared.input.InputFault.TheVariants as faults
 use Rattle.sg_cli.specs.declared.refusal.CommandRefusal.{CommandRefusal}
-use Rattle.sg_cli.specs.declared.refusal.CommandRefusal.TheVariants.{NotYet}
 use Rattle.sg_cli.specs.declared.refusal.Refusal.{Refusal}
 use Rattle.sg_cli.specs.declared.refusal.Refusal.TheVariants.{Words, NotRead, TooLong, Refused, Own, NotWritten, Memory}
 use Rattle.sg_cli.proofs.Progress.{all_read, none_read, stops_behind, stops_faulty, stops_reading}
@@ -81,13 +80,9 @@ module _ (hands : HandsOver) where
     pub judge_no_game : (bytes : List ℕ) (e : Refusal) → GivesContent hands a b (game_file name) bytes → GivesNoGame (game_of_bytes bytes) e → Stops hands (judging name named) a b e
     judge_no_game bytes e g h = no_game (judging name named) a a b name bytes e (at_first (judging name named) a (game_file name) (report_file named ∷ []) refl tt) g h
 
-    -- a game on which reports are not checked
-    pub unchecked : (g : Game) → HasRead hands a b (game_file name ∷ []) (game g ∷ []) → ¬ (IsChecked g) → Stops hands (judging name named) a b (Own NotYet)
-    unchecked g r h = record { front = game_file name ∷ []; rest = report_file named ∷ []; in_order = refl; contents = game g ∷ []; read = r; took = (tt, tt); refuses = h }
-
-    module _ (c : ShelfState) (g : Game) (is : IsChecked g) (r : HasRead hands a b (game_file name ∷ []) (game g ∷ [])) where
+    module _ (c : ShelfState) (g : Game) (r : HasRead hands a b (game_file name ∷ []) (game g ∷ [])) where
       second : ReachesInput hands (judging name named) a b (report_file named)
-      second = at_second (judging name named) a b (game_file name) (report_file named) [] (game g) refl tt is r
+      second = at_second (judging name named) a b (game_file name) (report_file named) [] (game g) refl tt tt r
 
       pub judge_no_file : (e : Refusal) → GivesNone b c (report_file named) e → Stops hands (judging name named) a c e
       judge_no_file e h = stops_reading hands (judging name named) a b (report_file named) second c e h
@@ -96,7 +91,7 @@ module _ (hands : HandsOver) where
       judge_no_report bytes e k h = no_report (judging name named) a b c named bytes e second k h
 
     -- a report that is refused
-    pub wrong : (g : Game) (r : Report) (own : CommandRefusal) → IsChecked g → HasRead hands a b (game_file name ∷ report_file named ∷ []) (game g ∷ report r ∷ [])
+    pub wrong : (g : Game) (r : Report) (own : CommandRefusal) → HasRead hands a b (game_file name ∷ report_file named ∷ []) (game g ∷ report r ∷ [])
         → refuses_wrong (game g ∷ report r ∷ []) own → Stops hands (judging name named) a b (Own own)
-    wrong g r own is h refuses =
-        record { front = game_file name ∷ report_file named ∷ []; rest = []; in_order = refl; contents = game g ∷ report r ∷ []; read = h; took = (tt, (is, tt)); refuses = refuses }
+    wrong g r own h refuses =
+        record { front = game_file name ∷ report_file named ∷ []; rest = []; in_order = refl; contents = game g ∷ report r ∷ []; read = h; took = (tt, (tt, tt)); refuses = refuses }

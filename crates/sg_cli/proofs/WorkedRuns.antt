@@ -12,7 +12,6 @@ use Rattle.sg_bounds.specs.Accepted.{IsAccepted}
 use Rattle.sg_bounds.specs.Examples.{first_fact, one_type_report, second_fact, spent_report}
 use Rattle.sg_bounds.proofs.Reports.{accepted_means}
 use Rattle.sg_bounds.proofs.Worked.{open_is, two_parts, worked_reports}
-use Rattle.sg_check.specs.Covered.{has_cover, node_has_cover}
 use Rattle.sg_shelf.specs.Files.{Files, any_bytes, bytes_under}
 use Rattle.sg_words.specs.Commands.{check, show, solve}
 use Rattle.sg_cli.specs.Inputs as inputs
@@ -20,7 +19,7 @@ use Rattle.sg_cli.specs.Inputs.{Content, IsHandedAs, game_file, held_as, report_
 use Rattle.sg_cli.specs.Commands.{Command}
 use Rattle.sg_cli.specs.Checking.{checking, ends_yes, writes_yes}
 use Rattle.sg_cli.specs.ExpectedStatus.{ByRest, ExpectedStatus}
-use Rattle.sg_cli.specs.Judging.{IsCheckable, IsJudged, IsWrong, judging}
+use Rattle.sg_cli.specs.Judging.{IsJudged, judging}
 use Rattle.sg_cli.specs.Showing.{ends_shown, writes_table}
 use Rattle.sg_cli.specs.Solving.{solving}
 use Rattle.sg_cli.specs.WorkedRuns.{HoldsBytes, HoldsPair, WorkedChecks, WorkedLimits, WorkedRefusals, wrong_report}
@@ -101,11 +100,11 @@ worked_limits = record {
   longer_game = λ files name bytes h. by_longer any_bytes (solving name) files 5 [] (game_file name) [] tt (holds_more files name bytes 4194304 4194305 h (omega arith)) refl;
   longest_report = λ files name named bytes text fault h e k f.
       by_said any_bytes (checking name named) files 7 [] (game_file name) (report_file named ∷ []) (inputs.game one_player) tt (says files name bytes (Ok one_player) h.stands (omega (arith, h.count)) e)
-      (by_faulty any_bytes (checking name named) files 7 (inputs.game one_player ∷ []) (report_file named) [] (faults.Report fault) refl
+      (by_faulty any_bytes (checking name named) files 7 (inputs.game one_player ∷ []) (report_file named) [] (faults.Report fault) tt
       (spells files named text (Err fault) k.stands (omega (arith, k.count)) f) refl);
   longer_report = λ files name named bytes text h e k.
       by_said any_bytes (checking name named) files 5 [] (game_file name) (report_file named ∷ []) (inputs.game one_player) tt (says files name bytes (Ok one_player) h.stands (omega (arith, h.count)) e)
-      (by_longer any_bytes (checking name named) files 5 (inputs.game one_player ∷ []) (report_file named) [] refl (holds_more files named text 536870912 536870913 k (omega arith)) refl);
+      (by_longer any_bytes (checking name named) files 5 (inputs.game one_player ∷ []) (report_file named) [] tt (holds_more files named text 536870912 536870913 k (omega arith)) refl);
 }
 
 -- ---- reports
@@ -118,22 +117,13 @@ module _ (ends : List Content → ℕ → Type 0) (writes : List Content → ℕ
   both : ByRest command files (inputs.game one_player ∷ inputs.report r ∷ []) [] status → ExpectedStatus command files status
   both due =
       by_said any_bytes command files status [] (game_file name) (report_file named ∷ []) (inputs.game one_player) tt (says files name h.bytes (Ok one_player) h.holds_game (omega (arith, h.few)) h.says_game)
-      (by_said any_bytes command files status (inputs.game one_player ∷ []) (report_file named) [] (inputs.report r) refl
+      (by_said any_bytes command files status (inputs.game one_player ∷ []) (report_file named) [] (inputs.report r) tt
       (spells files named h.text (Ok r) h.holds_report (omega (arith, h.short)) h.says_report) due)
 
   -- a report that is accepted
-  due_yes : IsCheckable r → IsAccepted one_player r → ends (inputs.game one_player ∷ inputs.report r ∷ []) status → ExpectedStatus command files status
-  due_yes checkable is e =
-      both (inr (record { is_checkable = checkable; accepted = is; means = accepted_means one_player (accepted h.bytes one_player h.says_game) r is }, e))
-
-plain : has_cover one_type_report ≡ false
-plain = ap node_has_cover (two_parts 1 None first_fact second_fact)
-
-open_plain : has_cover spent_report ≡ false
-open_plain = ap node_has_cover open_is
-
-refused : IsWrong one_player 5 3 wrong_report
-refused = record { is_checkable = plain; refused = worked_reports.other_value }
+  due_yes : IsAccepted one_player r → ends (inputs.game one_player ∷ inputs.report r ∷ []) status → ExpectedStatus command files status
+  due_yes is e =
+      both (inr (record { accepted = is; means = accepted_means one_player (accepted h.bytes one_player h.says_game) r is }, e))
 
 eleven : decimal 11 ≡ 49 ∷ 49 ∷ []
 eleven = two_digits 11 (omega arith) (omega arith)
@@ -147,16 +137,16 @@ worked_checks =
     record {
       optimal = λ files name named h. (
         (refl, rw (eleven, three) refl),
-        due_yes ends_yes writes_yes files name named one_type_report h 0 plain worked_reports.one_type refl,
-        due_yes ends_shown writes_table files name named one_type_report h 0 plain worked_reports.one_type refl,
+        due_yes ends_yes writes_yes files name named one_type_report h 0 worked_reports.one_type refl,
+        due_yes ends_shown writes_table files name named one_type_report h 0 worked_reports.one_type refl,
       );
       gap = λ files name named h. (
         (refl, rw (one, two, four) refl),
-        due_yes ends_yes writes_yes files name named spent_report h 10 open_plain worked_reports.spent refl,
-        due_yes ends_shown writes_table files name named spent_report h 0 open_plain worked_reports.spent refl,
+        due_yes ends_yes writes_yes files name named spent_report h 10 worked_reports.spent refl,
+        due_yes ends_shown writes_table files name named spent_report h 0 worked_reports.spent refl,
       );
       wrong = λ files name named h. (
-        both ends_yes writes_yes files name named wrong_report h 7 (inl (ReportWrong 5 3, refused, refl)),
-        both ends_shown writes_table files name named wrong_report h 7 (inl (ReportWrong 5 3, refused, refl)),
+        both ends_yes writes_yes files name named wrong_report h 7 (inl (ReportWrong 5 3, worked_reports.other_value, refl)),
+        both ends_shown writes_table files name named wrong_report h 7 (inl (ReportWrong 5 3, worked_reports.other_value, refl)),
       );
     }

@@ -13,7 +13,7 @@ use Rattle.sg_cli.specs.Commands.{Plan}
 use Rattle.sg_cli.specs.Progress.{HasRead, read_of}
 use Rattle.sg_cli.specs.Effects.{IsLongWhereTold}
 use Rattle.sg_cli.specs.Solving.{IsAnswer, IsSolved, refuses_unsolved}
-use Rattle.sg_cli.specs.Judging.{IsChecked, IsJudged, judging}
+use Rattle.sg_cli.specs.Judging.{IsJudged, judging}
 use Rattle.sg_cli.specs.declared.input.InputFault.TheVariants as faults
 use Rattle.sg_cli.specs.declared.input.InputKind.{InputKind}
 use Rattle.sg_cli.specs.declared.refusal.Refusal.{Refusal}
@@ -74,5 +74,4 @@ pub record HasSolution (hands : HandsOver) (name : List ℕ) (before after : She
 -- the files hold this game and this report, which is accepted for it
 pub record HasAccepted (hands : HandsOver) (plan : Plan) (before after : ShelfState) (g : Game) (r : Report) : Type 0 where
   pub read : HasRead hands before after plan.inputs (game g ∷ report r ∷ [])
-  pub is_checked : IsChecked g
   pub judged : IsJudged g r

@@ -3,13 +3,13 @@
 ghost use Rattle.std.specs.Prelude.{◌≡◌, ◌≤◌, IfOk, IfErr, OnOk, [], ◌∷◌};
 ghost use Rattle.sg_cli.specs.Inputs as inputs;
 ghost use Rattle.sg_cli.specs.Effects.{Stops};
-ghost use Rattle.sg_cli.specs.Judging.{IsChecked, IsJudged, judging, refuses_wrong};
+ghost use Rattle.sg_cli.specs.Judging.{IsJudged, judging, refuses_wrong};
 ghost use Rattle.sg_cli.specs.Steps.{HasAccepted};
 
 use crate::input::InputKind;
 use crate::reading::{game_of, read_input, report_of};
 use crate::refusal::{CommandRefusal, Refusal};
-use sg_check::{Verdict, check, has_cover};
+use sg_check::{Verdict, check};
 use sg_game::Game;
 use sg_shelf::Shelf;
 use sg_tree::Report;
@@ -22,15 +22,11 @@ pub(crate) struct Accepted {
     pub(crate) report: Report,
 }
 
-/// Checks a report, where it is one that is checked.
+/// Checks a report.
 fn judge(alloc: Global, game: &Game, report: &Report) -> Result<(), CommandRefusal>
-    requires { IsChecked game.now }
     ensures ok { OnOk result (IsJudged game.now report.now) }
     ensures err { IfErr result (refuses_wrong (inputs.game game.now ∷ inputs.report report.now ∷ [])) }
 {
-    if has_cover(report) {
-        return Err(CommandRefusal::NotYet);
-    }
     match check(alloc, game, report) {
         Ok(Verdict::YesOptimal(_)) => Ok(()),
         Ok(Verdict::YesGap(_, _)) => Ok(()),
@@ -59,9 +55,6 @@ pub(crate) fn accepted_named<S: Shelf>(
         Ok(game) => game,
         Err(refusal) => return Err(refusal),
     };
-    if game.types() != 1 {
-        return Err(Refusal::Own(CommandRefusal::NotYet));
-    }
     let report_bytes = match read_input(alloc, shelf, InputKind::Report, report) {
         Ok(bytes) => bytes,
         Err(refusal) => return Err(refusal),

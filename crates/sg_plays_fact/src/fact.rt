@@ -14,14 +14,15 @@ use crate::measures::Measures;
 use crate::plays::plays_hold;
 use crate::rows::rows_hold;
 use crate::stated::Stated;
+use sg_fixed::FixedTypes;
 use sg_game::{Game, Kind};
-use sg_tree::{Fix, Mark};
+use sg_tree::Mark;
 
 /// Whether the fact's sum is at most `mu` for each legal play.
 fn none_plays_above(
     game: &Game,
     measures: &Measures,
-    fix: &Fix,
+    fix: &FixedTypes,
     stated: &Stated,
     marks: &[Mark],
 ) -> bool
@@ -40,7 +41,7 @@ fn none_plays_above(
 pub fn holds(
     game: &Game,
     measures: &Measures,
-    fix: &Fix,
+    fix: &FixedTypes,
     rho: i128,
     mu: i128,
     marks: &[Mark],

@@ -5,18 +5,19 @@ ghost use Rattle.sg_bounds.specs.Facts.{IsMarkOf};
 ghost use Rattle.sg_bounds.specs.Regions.{IsFix};
 
 use crate::fixed::act_of;
+use sg_fixed::FixedTypes;
 use sg_game::Game;
-use sg_tree::{Fix, Mark};
+use sg_tree::Mark;
 
 /// Whether the mark's type is fixed.
-fn has_type(fix: &Fix, l: u8) -> bool
+fn has_type(fix: &FixedTypes, l: u8) -> bool
     ensures { IsTrue result ↔ ((fix.now.first ≤ l) × (l < fix.now.first + length fix.now.acts)) }
 {
-    fix.first <= l && ((l - fix.first) as usize) < fix.acts.len()
+    fix.first() <= l && ((l - fix.first()) as usize) < fix.count()
 }
 
 /// Whether the mark may stand at the node: it compares another action of a fixed type with the fixed one, and its multiplier is at least 1.
-fn is_mark(game: &Game, fix: &Fix, mark: &Mark) -> bool
+fn is_mark(game: &Game, fix: &FixedTypes, mark: &Mark) -> bool
     requires { IsFix game.now fix.now }
     ensures { IsTrue result ↔ IsMarkOf game.now fix.now mark.now }
 {
@@ -31,7 +32,7 @@ fn is_mark(game: &Game, fix: &Fix, mark: &Mark) -> bool
 }
 
 /// Whether all marks may stand there.
-pub(crate) fn are_marks(game: &Game, fix: &Fix, marks: &[Mark]) -> bool
+pub(crate) fn are_marks(game: &Game, fix: &FixedTypes, marks: &[Mark]) -> bool
     requires { IsFix game.now fix.now }
     ensures { IsTrue result ↔ All (IsMarkOf game.now fix.now) marks.now }
 {

@@ -15,8 +15,9 @@ ghost use Rattle.sg_plays_fact.specs.Testing.{IsSizedFact, play_sum};
 use crate::fixed::{act_at, act_of, type_at};
 use crate::measures::Measures;
 use crate::stated::Stated;
+use sg_fixed::FixedTypes;
 use sg_game::{Game, pay_a, pay_d};
-use sg_tree::{Fix, Mark};
+use sg_tree::Mark;
 
 /// What the play is worth to the defender against a type that takes action `a`: the prior times the payoff with the shift.
 fn worth(game: &Game, measures: &Measures, l: u8, a: u16, code: &[u16]) -> i128
@@ -32,7 +33,7 @@ fn worth(game: &Game, measures: &Measures, l: u8, a: u16, code: &[u16]) -> i128
 }
 
 /// What the play is worth to the defender, summed over the fixed types.
-fn cost(game: &Game, measures: &Measures, fix: &Fix, code: &[u16]) -> i128
+fn cost(game: &Game, measures: &Measures, fix: &FixedTypes, code: &[u16]) -> i128
     requires legal { IsLegal game.now code.now }
     requires measures { AreMeasures game.now measures.now }
     requires is_fix { IsFix game.now fix.now }
@@ -40,7 +41,7 @@ fn cost(game: &Game, measures: &Measures, fix: &Fix, code: &[u16]) -> i128
 {
     game.promises();
     let mut sum: i128 = 0;
-    for i in 0..fix.acts.len() {
+    for i in 0..fix.count() {
         let l = type_at(game, fix, i);
         let a = act_at(game, fix, i);
         sum += worth(game, measures, l, a, code);
@@ -49,7 +50,7 @@ fn cost(game: &Game, measures: &Measures, fix: &Fix, code: &[u16]) -> i128
 }
 
 /// What a marked action pays above the fixed one where the play is made.
-fn difference(game: &Game, fix: &Fix, mark: &Mark, code: &[u16]) -> i128
+fn difference(game: &Game, fix: &FixedTypes, mark: &Mark, code: &[u16]) -> i128
     requires legal { IsLegal game.now code.now }
     requires is_fix { IsFix game.now fix.now }
     requires mark { IsMarkOf game.now fix.now mark.now }
@@ -60,7 +61,7 @@ fn difference(game: &Game, fix: &Fix, mark: &Mark, code: &[u16]) -> i128
 }
 
 /// What the marked actions pay above the fixed ones where the play is made, times their multipliers.
-fn regret(game: &Game, fix: &Fix, stated: &Stated, marks: &[Mark], code: &[u16]) -> i128
+fn regret(game: &Game, fix: &FixedTypes, stated: &Stated, marks: &[Mark], code: &[u16]) -> i128
     requires legal { IsLegal game.now code.now }
     requires sized { IsSizedFact game.now fix.now stated.now marks.now }
     ensures { result ≡ regret game.now fix.now marks.now code.now }
@@ -77,7 +78,7 @@ fn regret(game: &Game, fix: &Fix, stated: &Stated, marks: &[Mark], code: &[u16])
 pub(crate) fn play_sum(
     game: &Game,
     measures: &Measures,
-    fix: &Fix,
+    fix: &FixedTypes,
     stated: &Stated,
     marks: &[Mark],
     code: &[u16],

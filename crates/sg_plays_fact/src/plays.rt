@@ -12,12 +12,19 @@ use crate::play::play_sum;
 use crate::search::stays_within;
 use crate::stated::Stated;
 use crate::weights::weigh;
+use sg_fixed::FixedTypes;
 use sg_game::Game;
 use sg_model::limit::{SCALED_PATROL_LIMIT, SCALED_TARGET_LIMIT, TARGET_LIMIT};
-use sg_tree::{Fix, Mark};
+use sg_tree::Mark;
 
 /// The fact's sum for the play in which each resource is idle.
-fn idle_sum(game: &Game, measures: &Measures, fix: &Fix, stated: &Stated, marks: &[Mark]) -> i128
+fn idle_sum(
+    game: &Game,
+    measures: &Measures,
+    fix: &FixedTypes,
+    stated: &Stated,
+    marks: &[Mark],
+) -> i128
     requires security { is_matrix game.now ≡ false }
     requires measures { AreMeasures game.now measures.now }
     requires sized { IsSizedFact game.now fix.now stated.now marks.now }
@@ -38,7 +45,7 @@ fn idle_sum(game: &Game, measures: &Measures, fix: &Fix, stated: &Stated, marks:
 fn plays_hold_in(
     game: &Game,
     measures: &Measures,
-    fix: &Fix,
+    fix: &FixedTypes,
     stated: &Stated,
     marks: &[Mark],
     weights: &mut [i128],
@@ -68,7 +75,7 @@ fn plays_hold_in(
 fn plays_hold_of_few(
     game: &Game,
     measures: &Measures,
-    fix: &Fix,
+    fix: &FixedTypes,
     stated: &Stated,
     marks: &[Mark],
 ) -> bool
@@ -87,7 +94,7 @@ fn plays_hold_of_few(
 fn plays_hold_of_many(
     game: &Game,
     measures: &Measures,
-    fix: &Fix,
+    fix: &FixedTypes,
     stated: &Stated,
     marks: &[Mark],
 ) -> bool
@@ -105,7 +112,7 @@ fn plays_hold_of_many(
 pub(crate) fn plays_hold(
     game: &Game,
     measures: &Measures,
-    fix: &Fix,
+    fix: &FixedTypes,
     stated: &Stated,
     marks: &[Mark],
 ) -> bool

@@ -8,14 +8,15 @@ ghost use Rattle.sg_plays_fact.specs.Testing.{IsSizedFact, NonePlaysAbove};
 use crate::measures::Measures;
 use crate::play::play_sum;
 use crate::stated::Stated;
+use sg_fixed::FixedTypes;
 use sg_game::Game;
-use sg_tree::{Fix, Mark};
+use sg_tree::Mark;
 
 /// Whether the fact's sum is at most `mu` for each row.
 pub(crate) fn rows_hold(
     game: &Game,
     measures: &Measures,
-    fix: &Fix,
+    fix: &FixedTypes,
     stated: &Stated,
     marks: &[Mark],
 ) -> bool

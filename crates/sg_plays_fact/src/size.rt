@@ -13,17 +13,18 @@ ghost use Rattle.sg_plays_fact.specs.Sizing.{IsWhereAllFit, size_numbers};
 use crate::fixed::type_at;
 use crate::measures::Measures;
 use crate::step::{added, multiplied};
+use sg_fixed::FixedTypes;
 use sg_game::Game;
-use sg_tree::{Fact, Fix, Line, Mark};
+use sg_tree::{Fact, Line, Mark};
 
 /// The sum of the priors of the fixed types.
-fn fixed_priors(game: &Game, fix: &Fix) -> i64
+fn fixed_priors(game: &Game, fix: &FixedTypes) -> i64
     requires { IsFix game.now fix.now }
     ensures { result ≡ fixed_priors game.now fix.now }
 {
     game.promises();
     let mut sum = 0;
-    for i in 0..fix.acts.len() {
+    for i in 0..fix.count() {
         sum += game.prior(type_at(game, fix, i));
     }
     sum
@@ -91,7 +92,13 @@ fn sum_fits(gain: Option<i128>, regret: Option<i128>) -> bool
 }
 
 /// Whether the size sum and each number under it fit, from what the total of the multipliers is.
-fn parts_fit(game: &Game, measures: &Measures, fix: &Fix, rho: i128, sum: Option<i128>) -> bool
+fn parts_fit(
+    game: &Game,
+    measures: &Measures,
+    fix: &FixedTypes,
+    rho: i128,
+    sum: Option<i128>,
+) -> bool
     requires is_fix { IsFix game.now fix.now }
     requires measures { AreMeasures game.now measures.now }
     ensures { (vs : List ℤ) → IsWhereAllFit sum (running (pos 0) vs) (total (λ v. v) vs) → (IsTrue result ↔ All Fits (size_numbers rho (fixed_priors game.now fix.now) (defender_most game.now) vs (attacker_most game.now))) }
@@ -102,7 +109,7 @@ fn parts_fit(game: &Game, measures: &Measures, fix: &Fix, rho: i128, sum: Option
 }
 
 /// Whether the size sum of a fact and each number under it fit 128 bits. A water level has none.
-pub fn size_fits(game: &Game, measures: &Measures, fix: &Fix, fact: &Fact) -> bool
+pub fn size_fits(game: &Game, measures: &Measures, fix: &FixedTypes, fact: &Fact) -> bool
     requires is_fix { IsFix game.now fix.now }
     requires measures { AreMeasures game.now measures.now }
     ensures { IsTrue result ↔ All Fits (size_sums game.now fix.now fact.now) }

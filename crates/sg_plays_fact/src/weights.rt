@@ -15,8 +15,9 @@ ghost use Rattle.sg_plays_fact.specs.Weighing.{mark_entry, target_weight};
 
 use crate::fixed::{act_at, act_of, type_at};
 use crate::stated::Stated;
+use sg_fixed::FixedTypes;
 use sg_game::Game;
-use sg_tree::{Fix, Mark};
+use sg_tree::Mark;
 
 /// Adds to the weight of a target.
 fn add_at(weights: &mut [i128], t: u16, by: i128)
@@ -50,7 +51,7 @@ fn pay_added(game: &Game, l: u8, t: u16) -> i128
 }
 
 /// Weights by what covering a target is worth to the defender, times rho, from weights that are all 0.
-fn weigh_types(game: &Game, fix: &Fix, rho: i128, weights: &mut [i128])
+fn weigh_types(game: &Game, fix: &FixedTypes, rho: i128, weights: &mut [i128])
     requires security { is_matrix game.now ≡ false }
     requires one_each { length weights.old ≡ length game.now.goals }
     requires zero { (t : ℕ) → IsCount 1 (length weights.old) t → nth weights.old t (pos 0) ≡ pos 0 }
@@ -60,7 +61,7 @@ fn weigh_types(game: &Game, fix: &Fix, rho: i128, weights: &mut [i128])
     ensures { (t : ℕ) → IsCount 1 (length weights.old) t → nth weights.new t (pos 0) ≡ rho *ℤ column_cost game.now fix.now (covering t) }
 {
     game.promises();
-    for i in 0..fix.acts.len() {
+    for i in 0..fix.count() {
         let l = type_at(game, fix, i);
         let a = act_at(game, fix, i);
         add_at(weights, a, rho * worth_added(game, l, a));
@@ -82,7 +83,7 @@ fn marked_part(game: &Game, mark: &Mark, t: u16) -> i128
 }
 
 /// Takes off what covering each target adds to a marked comparison, times its multiplier.
-fn weigh_mark(game: &Game, fix: &Fix, mark: &Mark, weights: &mut [i128])
+fn weigh_mark(game: &Game, fix: &FixedTypes, mark: &Mark, weights: &mut [i128])
     requires security { is_matrix game.now ≡ false }
     requires one_each { length weights.old ≡ length game.now.goals }
     requires is_fix { IsFix game.now fix.now }
@@ -100,7 +101,13 @@ fn weigh_mark(game: &Game, fix: &Fix, mark: &Mark, weights: &mut [i128])
 }
 
 /// The weight of each target, from weights that are all 0.
-pub(crate) fn weigh(game: &Game, fix: &Fix, stated: &Stated, marks: &[Mark], weights: &mut [i128])
+pub(crate) fn weigh(
+    game: &Game,
+    fix: &FixedTypes,
+    stated: &Stated,
+    marks: &[Mark],
+    weights: &mut [i128],
+)
     requires security { is_matrix game.now ≡ false }
     requires one_each { length weights.old ≡ length game.now.goals }
     requires zero { (t : ℕ) → IsCount 1 (length weights.old) t → nth weights.old t (pos 0) ≡ pos 0 }

@@ -1,7 +1,7 @@
 //! Games and reports out of texts, and what the checker says of them.
 
 use sg_cert_reader::{ReportError, read_report};
-use sg_check::{Verdict, check, has_cover};
+use sg_check::{Verdict, check};
 use sg_file::read_game;
 use sg_game::Game;
 use sg_tree::Report;
@@ -51,14 +51,8 @@ fn agrees(verdict: &Verdict, expected: Says) -> bool {
     }
 }
 
-/// Whether the checker takes the game and the report, and says this.
+/// Whether the checker says this of the report on the game.
 pub(crate) fn is_judged(alloc: Global, game: &Game, report: &Report, expected: Says) -> bool {
-    if game.types() != 1 {
-        return false;
-    }
-    if has_cover(report) {
-        return false;
-    }
     match check(alloc, game, report) {
         Ok(verdict) => agrees(&verdict, expected),
         Err(_) => false,

@@ -8,9 +8,15 @@
 #[cfg(test)]
 mod claims;
 #[cfg(test)]
+mod covered;
+#[cfg(test)]
+mod edits;
+#[cfg(test)]
 mod judged;
 #[cfg(test)]
 mod levels;
+#[cfg(test)]
+mod several;
 #[cfg(test)]
 mod tables;
 #[cfg(test)]

@@ -1,7 +1,6 @@
 //! Reports worked out by hand, with one change each.
 
 use crate::judged::{Case, Says, is_judged_on, is_right, report_of};
-use sg_check::has_cover;
 use sg_frac::Frac;
 use sg_model::Level;
 use sg_tree::{Fact, Mark, Tree};
@@ -245,22 +244,4 @@ fn judges_numbers_out_of_their_ranges(rt: HostRuntime) -> Result<(), AllocError>
         assert!(rt; is_judged_with(rt.alloc(), case, tree));
     }
     Ok(())
-}
-
-/// Whether a report is read and holds a fact of the coverage table.
-fn holds_cover(alloc: Global, tree: &str) -> Option<bool> {
-    match report_of(alloc, &[HEAD, tree, MET]) {
-        Ok(report) => Some(has_cover(&report)),
-        Err(_) => None,
-    }
-}
-
-#[test]
-fn finds_facts_of_the_coverage_table(rt: HostRuntime) {
-    for (tree, found) in [
-        (TREE, false),
-        ("split 1 2\nopen\nopen\ncover 1 0 0\n", true),
-    ] {
-        assert!(rt; holds_cover(rt.alloc(), tree) == Some(found));
-    }
 }

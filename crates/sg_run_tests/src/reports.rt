@@ -101,8 +101,8 @@ const EDITS: [(Edit, Edit, u8, &str, &str); 23] = [
         "",
         "no 8 at line 12\n",
     ),
-    // A fact of the coverage table.
-    ((8, "cover 1 2 0\n"), NONE, 3, "", "not yet\n"),
+    // A fact of the coverage table, which no game in matrix form has.
+    ((8, "cover 1 2 0\n"), NONE, 7, "", "no 6 at line 8\n"),
     // Texts that are no report.
     ((8, ""), NONE, 7, "", "report refused 3 at line 10\n"),
     (
@@ -195,7 +195,7 @@ fn checks_edited_reports(rt: HostRuntime) -> Result<(), AllocError> {
 }
 
 /// Whole texts: the command, the game, the text, the status, and what the two outputs take.
-const TEXTS: [(&str, &str, &str, u8, &str, &str); 12] = [
+const TEXTS: [(&str, &str, &str, u8, &str, &str); 11] = [
     ("check", TWO_ROWS, GAP, 10, "yes gap 2 1 4 1\n", ""),
     ("check", TWO_ROWS, "", 7, "", "report refused 2 at line 1\n"),
     (
@@ -214,7 +214,7 @@ const TEXTS: [(&str, &str, &str, u8, &str, &str); 12] = [
         "",
         "report refused 8 at line 22\n",
     ),
-    // A game that is refused, and one with two types, before the report is read.
+    // A game that is refused, before the report is read.
     (
         "check",
         "version = 9\n",
@@ -223,8 +223,7 @@ const TEXTS: [(&str, &str, &str, u8, &str, &str); 12] = [
         "",
         "game refused 2 at document\n",
     ),
-    ("check", TWO_TYPES, "", 3, "", "not yet\n"),
-    // The text is read whole for its form before it is tested, and before a fact of the coverage table is told.
+    // The text is read whole for its form before it is tested.
     (
         "check",
         TWO_ROWS,
@@ -267,7 +266,7 @@ const TEXTS: [(&str, &str, &str, u8, &str, &str); 12] = [
         "",
         "no 3 at line 5\n",
     ),
-    ("show", TWO_TYPES, MET_REPORT, 3, "", "not yet\n"),
+    ("show", TWO_TYPES, MET_REPORT, 7, "", "no 4 at line 6\n"),
 ];
 
 #[test]
@@ -279,5 +278,127 @@ fn checks_and_shows_whole_texts(rt: HostRuntime) -> Result<(), AllocError> {
             "{out}{err}"
         );
     }
+    Ok(())
+}
+
+/// The lines of a report on two rows and two types, with a proved cap, a split below the first one, and bounds that meet.
+const NESTED: [&str; 22] = [
+    "patrol-report 1\n",
+    "tickets 2 3\n",
+    "t 2 1\n",
+    "t 1 2\n",
+    "value 11 3\n",
+    "cap 2 proved 4 2\n",
+    "plays 3 5 1\n",
+    "m 2 2 1\n",
+    "plays 1 4 0\n",
+    "split 1 2\n",
+    "open\n",
+    "plays 1 2 0\n",
+    "split 2 2\n",
+    "plays 3 11 1\n",
+    "m 1 1 1\n",
+    "plays 3 16 1\n",
+    "m 2 2 2\n",
+    "plays 3 22 1\n",
+    "m 1 1 2\n",
+    "upper 11 3\n",
+    "verdict optimal\n",
+    "end\n",
+];
+
+/// So many of its lines, after the edits.
+fn nested(alloc: Global, edits: &[Edit], count: usize) -> Result<String, AllocError> {
+    let mut text = String::new(alloc);
+    let mut number = 0usize;
+    for line in NESTED {
+        number = number.saturating_add(1);
+        if number <= count {
+            text.push_str(line_at(number, line, edits))?;
+        }
+    }
+    Ok(text)
+}
+
+/// Commands on it: the command, the game, the edit, how many lines are left, the status, and what the two outputs take.
+static NESTED_RUNS: [(&str, &str, Edit, usize, u8, &str, &str); 7] = [
+    ("check", TWO_TYPES, NONE, 22, 0, "yes optimal 11 3\n", ""),
+    (
+        "show",
+        TWO_TYPES,
+        NONE,
+        22,
+        0,
+        "value 11/3\nupper 11/3\ntickets 3\nrow A 2\nrow B 1\ntype thief attacks y\ntype spy attacks y\n",
+        "",
+    ),
+    (
+        "check",
+        TWO_TYPES,
+        (19, "m 1 1 1\n"),
+        22,
+        7,
+        "",
+        "no 6 at line 18\n",
+    ),
+    (
+        "show",
+        TWO_TYPES,
+        (19, "m 1 1 1\n"),
+        22,
+        7,
+        "",
+        "no 6 at line 18\n",
+    ),
+    ("check", TWO_ROWS, NONE, 22, 7, "", "no 4 at line 6\n"),
+    (
+        "check",
+        TWO_TYPES,
+        NONE,
+        13,
+        7,
+        "",
+        "report refused 2 at line 14\n",
+    ),
+    (
+        "check",
+        TWO_TYPES,
+        (22, "end\nmore\n"),
+        22,
+        7,
+        "",
+        "report refused 9 at line 23\n",
+    ),
+];
+
+#[test]
+fn checks_and_shows_reports_of_two_types(rt: HostRuntime) -> Result<(), AllocError> {
+    for (command, game, edit, count, status, out, err) in &NESTED_RUNS {
+        let report = nested(rt.alloc(), &[*edit], *count)?;
+        let expected = Answer {
+            status: *status,
+            out,
+            err,
+        };
+        assert!(rt;
+            tells(rt.alloc(), command, game, &report, &expected)?,
+            "{out}{err}"
+        );
+    }
+    Ok(())
+}
+
+/// One row alone, with a plain cap and an open part.
+const OPEN_GAP: &str =
+    "patrol-report 1\ntickets 1 1\nt 1 1\nvalue 3 1\ncap 2 plain 4\nsplit 1 2\nopen\nplays 1 2 0\nopen\nupper 4 1\nverdict gap nodes 1\nend\n";
+
+#[test]
+fn checks_an_open_part_beside_a_plain_cap(rt: HostRuntime) -> Result<(), AllocError> {
+    let expected = Answer {
+        status: 10,
+        out: "yes gap 3 1 4 1\n",
+        err: "",
+    };
+    assert!(rt; tells(rt.alloc(), "check", TWO_TYPES, OPEN_GAP, &expected)?);
     Ok(())
 }

@@ -1,16 +1,18 @@
-use Rattle.std.proofs.Common.{◌≡◌, ◌≢◌, ◌+◌, ◌++◌, ℕ, List, [], ◌∷◌, length, inl, refl, arith}
-use Rattle.sg_model.specs.Games.{Game}
+use Rattle.std.proofs.Common.{◌≡◌, ◌∙◌, ap, arith, get_or, length, List, sym}
 use Rattle.sg_tree.specs.declared.report.Cap.{Cap}
-use Rattle.sg_tree.specs.declared.report.Report.{Report}
-use Rattle.sg_bounds.specs.Checking.{FirstFails, Stop, caps_stops, value_line}
+use Rattle.sg_check.proofs.Capped.{capped-end, capped-fails, capped-missing, capped-more, capped-start}
 use Rattle.sg_check.proofs.caps.test_caps.Goals as goal
 
--- a cap of type 2 is past the last type
-caps-refused : (g : Game) (r : Report) → length g.types ≡ 1 → (caps : List Cap) → caps ≢ [] → (line : ℕ) (rest : List Stop) → FirstFails g r (caps_stops 2 line caps ++ rest) line 4
-caps-refused g r one [] some line rest = absurd (some refl)
-caps-refused g r one (c ∷ cs) some line rest = inl ((λ p. absurd (omega (arith, p.0, one))), refl, refl)
+pub loop-i-preserved : goal.loop-i-preserved
+loop-i-preserved c =
+    let r = c.args.report.now in
+    let same = c.as_slice-caps.ensures in
+    let is = c.index-caps-i.is ∙ ap (λ (cs : List Cap). get_or cs c.loop-i.i c.index-caps-i.result) same in
+    capped-more c.args.game.now r c.loop-i.next c.loop-i.i c.index-caps-i.result (omega (arith, c.loop-i-test.true, ap (λ (cs : List Cap). length cs) same)) is c.loop-i.invariant c.in-Ok.behind c.in-Ok.ensures
 
-pub returns-else-is_empty : goal.returns-else-is_empty
-returns-else-is_empty c =
-    let some : c.args.report.now.caps ≢ [] = (λ e. let none = c.if-is_empty.ensures.1 e in absurd (cc)) in
-    (value_line c.args.report.now + 1, caps-refused c.args.game.now c.args.report.now c.requires.one_type c.args.report.now.caps some (value_line c.args.report.now + 1) _, c.requires.line)
+pub returns-in-Err : goal.returns-in-Err
+returns-in-Err c =
+    let r = c.args.report.now in
+    let same = c.as_slice-caps.ensures in
+    let is = c.index-caps-i.is ∙ ap (λ (cs : List Cap). get_or cs c.loop-i.i c.index-caps-i.result) same in
+    capped-fails c.args.game.now r c.loop-i.next c.loop-i.i c.index-caps-i.result (omega (arith, c.loop-i-test.true, ap (λ (cs : List Cap). length cs) same)) is c.loop-i.invariant c.in-Err.refusal c.in-Err.ensures

@@ -5,4 +5,4 @@ use Rattle.sg_check.proofs.sums.total_d.Given as goal
 
 -- the sum so far, and the tickets that are left
 abbrev pub invariant-loop-ticket : goal.invariant-loop-ticket
-invariant-loop-ticket l = IsSummed (λ (play : List ℕ). pay_d l.game 1 play l.a) l.tickets l.sum (drop l.ticket-index l.tickets)
+invariant-loop-ticket l = IsSummed (λ (play : List ℕ). pay_d l.game l.l play l.a) l.tickets l.sum (drop l.ticket-index l.tickets)

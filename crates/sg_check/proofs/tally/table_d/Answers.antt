@@ -12,14 +12,14 @@ counted_d-requires-clause-security c =
 pub counted_d-requires-clause-known : goal.counted_d-requires-clause-known
 counted_d-requires-clause-known c =
     let lt : c.args.a < length c.args.table.now = c.if-has_cell.ensures.0 refl in
-    target c.args.game.now c.promises.ensures c.args.tickets.now c.args.table.now (c.requires.table (omega (arith, lt))) c.args.a c.requires.known_action c.args.total c.count_at-count.result c.requires.total c.count_at-count.ensures
+    target c.args.game.now c.promises.ensures c.args.tickets.now c.args.table.now (c.requires.table (omega (arith, lt))) c.args.l c.args.a c.requires.known_action c.args.total c.count_at-count.result c.requires.total c.count_at-count.ensures
 
 pub counted_d-requires-clause-counts : goal.counted_d-requires-clause-counts
 counted_d-requires-clause-counts c =
     let lt : c.args.a < length c.args.table.now = c.if-has_cell.ensures.0 refl in
     let q : FitsSigned w128 c.count_at-count.result = record { sfits = c.count_at-count.type_inv } in
     let w : FitsSigned w128 c.args.total = c.ranges.total in
-    simp to_z-of_z (count-is c.args.game.now c.promises.ensures c.args.tickets.now c.args.table.now (c.requires.table (omega (arith, lt))) c.args.a c.requires.known_action c.args.total c.count_at-count.result c.requires.total c.count_at-count.ensures)
+    simp to_z-of_z (count-is c.args.game.now c.promises.ensures c.args.tickets.now c.args.table.now (c.requires.table (omega (arith, lt))) c.args.l c.args.a c.requires.known_action c.args.total c.count_at-count.result c.requires.total c.count_at-count.ensures)
 
 pub returns-then-has_cell : goal.returns-then-has_cell
 returns-then-has_cell c =
@@ -29,7 +29,7 @@ returns-then-has_cell c =
     let w : FitsSigned w128 c.args.total = c.ranges.total in
     let s : FitsSigned w128 c.counted_d.result = record { sfits = c.counted_d.type_inv } in
     let e = simp to_z-of_z at c.counted_d.ensures in (
-      table_d-fits c.args.game.now c.promises.ensures c.args.tickets.now c.args.table.now is c.args.a,
+      table_d-fits c.args.game.now c.promises.ensures c.args.tickets.now c.args.table.now is c.args.l c.args.a,
       to_z-of_z w128 c.counted_d.result s
-          ∙ table_d-is c.args.game.now c.promises.ensures c.args.tickets.now c.args.table.now is c.args.a c.requires.known_action c.args.total c.count_at-count.result c.requires.total c.count_at-count.ensures c.counted_d.result e,
+          ∙ table_d-is c.args.game.now c.promises.ensures c.args.tickets.now c.args.table.now is c.args.l c.args.a c.requires.known_action c.args.total c.count_at-count.result c.requires.total c.count_at-count.ensures c.counted_d.result e,
     )

@@ -12,6 +12,6 @@ loop-i-preserved c =
     let kept = simp to_z-of_z at c.better-best.ensures.kept in
     let new = simp to_z-of_z at c.better-best.ensures.new in
     record {
-      formed = formed-more g k c.loop-i.i c.loop-i.invariant.formed c.in-Some-table_a.ensures.0;
-      best = best-next g k c.loop-i.i c.loop-i.best c.better-best.result c.in-Some-table_a.sum c.in-Some-table_a.ensures.1 kept new c.loop-i.invariant.best;
+      formed = formed-more g k c.args.l c.loop-i.i c.loop-i.invariant.formed c.in-Some-table_a.ensures.0;
+      best = best-next g k c.args.l c.loop-i.i c.loop-i.best c.better-best.result c.in-Some-table_a.sum c.in-Some-table_a.ensures.1 kept new c.loop-i.invariant.best;
     }

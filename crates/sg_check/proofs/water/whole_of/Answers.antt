@@ -6,9 +6,9 @@ use Rattle.sg_check.proofs.water.whole_of.Goals as goal
 pub returns-clause-low : goal.returns-clause-low
 returns-clause-low c =
     let s : c.from.result ≡ c.args.game.now.scale = omega (arith, ints, c.from.ensures, c.scale.ensures) in
-    (whole_made c.args.level.now.den c.from.result c.args.game.now.scale s c.requires.small.den c.requires.fillable.scale_range).low
+    (whole_made c.den.result c.from.result c.args.game.now.scale s c.den.ensures.range c.requires.fillable.scale_range).low
 
 pub returns-clause-high : goal.returns-clause-high
 returns-clause-high c =
     let s : c.from.result ≡ c.args.game.now.scale = omega (arith, ints, c.from.ensures, c.scale.ensures) in
-    (whole_made c.args.level.now.den c.from.result c.args.game.now.scale s c.requires.small.den c.requires.fillable.scale_range).high
+    (whole_made c.den.result c.from.result c.args.game.now.scale s c.den.ensures.range c.requires.fillable.scale_range).high

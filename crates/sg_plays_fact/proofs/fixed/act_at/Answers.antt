@@ -5,5 +5,5 @@ use Rattle.sg_plays_fact.proofs.fixed.act_at.Goals as goal
 
 pub returns-clause-known : goal.returns-clause-known
 returns-clause-known c =
-    subst (λ (xs : List ℕ). (1 ≤ slice_index xs c.args.i) × (slice_index xs c.args.i ≤ action_count c.args.game.now (c.args.fix.now.first + c.args.i))) (sym c.as_slice.ensures)
+    subst (λ (xs : List ℕ). (1 ≤ slice_index xs c.args.i) × (slice_index xs c.args.i ≤ action_count c.args.game.now (c.args.fix.now.first + c.args.i))) (sym c.acts.ensures)
     (act-in_range c.args.game.now c.args.fix.now c.requires.is_fix c.args.i c.requires.inside)

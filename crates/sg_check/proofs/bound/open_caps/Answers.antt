@@ -1,0 +1,24 @@
+use Rattle.std.proofs.Common.{◌≡◌, ℕ, ℤ, suc, ◌+◌, ◌-◌, ◌<◌, ◌≤◌, ◌^◌, arith, length, ◌*ℤ◌, of_z, to_z, pos, refl, rules}
+use Rattle.std.specs.Int.{w128}
+use Rattle.std.proofs.lemmas.Int.{ints, to_z-of_z}
+use Rattle.sg_model.specs.Games.{attacker}
+use Rattle.sg_bounds.specs.Caps.{cap_of}
+use Rattle.sg_check.proofs.Bounded.{sum-next, total-last}
+use Rattle.sg_check.proofs.bound.open_caps.Goals as goal
+
+pub loop-l-preserved : goal.loop-l-preserved
+loop-l-preserved c =
+    let g = c.args.game.now in
+    let caps = c.args.report.now.caps in
+    let k = c.types-l-end.ensures in
+    let i = c.loop-l.invariant in
+    let x = c.weighed_cap-sum.ensures in
+    let lt : c.loop-l.l < length g.types = omega (arith, c.loop-l-test.true, k.count) in
+    let few : c.loop-l.l ≤ 8 = omega (arith, c.loop-l-test.true, k.few) in
+    let from : c.args.fixed ≤ c.loop-l.l = c.loop-l.auto.l in
+    let e : length g.types - c.loop-l.l ≡ suc (length g.types - (c.loop-l.l + 1)) = omega (arith, lt) in
+    record {
+      whole = sum-next (λ (a : ℕ). (attacker g a).prior *ℤ (cap_of caps a).v) (c.loop-l.l + 1) (length g.types - c.loop-l.l) (length g.types - (c.loop-l.l + 1)) _ c.weighed_cap-sum.result _ _ e i.whole x.value (omega (arith, ints, few, i.low, i.high, x.low, x.high));
+      low = omega (arith, ints, few, from, i.low, i.high, x.low, x.high);
+      high = omega (arith, ints, few, from, i.low, i.high, x.low, x.high);
+    }

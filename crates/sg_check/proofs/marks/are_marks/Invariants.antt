@@ -1,9 +1,0 @@
-use Rattle.std.proofs.Common.{[], ◌∷◌, take}
-use Rattle.std.specs.List.{All}
-use Rattle.sg_bounds.specs.Facts.{IsMarkOf}
-use Rattle.sg_bounds.specs.Regions.{prefix}
-use Rattle.sg_check.proofs.marks.are_marks.Given as goal
-
--- the marks so far may stand
-abbrev pub invariant-loop-mark : goal.invariant-loop-mark
-invariant-loop-mark l = All (IsMarkOf l.game (prefix (l.stated.act ∷ []))) (take l.mark-index l.marks)

@@ -1,9 +1,0 @@
-use Rattle.std.proofs.Common.{map}
-use Rattle.sg_model.specs.Sums.{numbers}
-use Rattle.sg_game.specs.Counts.{follower_pay}
-use Rattle.sg_check.specs.Spreads.{AreEndsOf}
-use Rattle.sg_check.proofs.spread.column_spread.Given as goal
-
--- the ends so far
-abbrev pub invariant-loop-i : goal.invariant-loop-i
-invariant-loop-i l = AreEndsOf l.spread (map (λ i. follower_pay l.game l.l i l.a) (numbers l.i))
