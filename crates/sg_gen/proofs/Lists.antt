@@ -17,7 +17,7 @@ numbers_from-more a (suc n) =
     let f : a + 1 + n ≡ a + suc n = omega arith in
     rw e (ap (λ (xs : List ℕ). a ∷ xs) (numbers_from-more (a + 1) n ∙ ap (λ (k : ℕ). numbers_from (a + 1) n ++ k ∷ []) f))
 
-map-push : {X Y : Type 0} (f : X → Y) (xs : List X) (x : X) → map f (xs ++ x ∷ []) ≡ map f xs ++ f x ∷ []
+pub map-push : {X Y : Type 0} (f : X → Y) (xs : List X) (x : X) → map f (xs ++ x ∷ []) ≡ map f xs ++ f x ∷ []
 map-push f [] x = refl
 map-push f (y ∷ ys) x = ap (λ zs. f y ∷ zs) (map-push f ys x)
 

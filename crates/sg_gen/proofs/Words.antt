@@ -1,7 +1,9 @@
 -- The words of a seed, one after another.
 use Rattle.std.proofs.Common.{◌≡◌, ◌∙◌, ℕ, suc, ◌+◌, ◌*◌, ◌<◌, ◌%◌, ◌^◌, List, [], ◌∷◌, ◌++◌, map, sym, ap, refl, arith}
+use Rattle.std.specs.Prelude.{ℤ, pos, negsuc, ◌+ℤ◌, ◌-ℤ◌}
 use Rattle.std.proofs.Math.Nat.{suc-mul, zero-mul}
 use Rattle.sg_model.specs.Sums.{numbers_from}
+use Rattle.sg_gen.specs.Generated.{free_row}
 use Rattle.sg_gen.specs.Making.{Draws}
 use Rattle.sg_gen.proofs.Lists.{mapped-more}
 use Rattle.rand_chacha.specs.ChaCha.{ChaCha, key_of, next_word}
@@ -32,3 +34,17 @@ in_turn-more f each i before now next xs ys x h d e = λ seed k room b.
       e ∙ (ap (λ zs. zs ++ x ∷ []) first.0 ∙ (ap (λ z. map g (numbers_from 0 i) ++ z ∷ []) (last.0 ∙ ap g zero_i) ∙ sym (mapped-more g 0 i))),
       last.1 ∙ ap (generator_at seed) place,
     )
+
+-- the four words of a target of identical patrols
+pub free-drawn : (before one two three four : ChaCha) (gap loss gain open_loss : ℤ) (items : List ℤ) → Draws before one 1 gap (λ seed k. pos (2 ^ (10 + word_of_seed seed k % 11)))
+    → Draws one two 1 loss (λ seed k. pos (word_of_seed seed k % 1000)) → Draws two three 1 gain (λ seed k. pos (word_of_seed seed k % 1000)) → Draws three four 1 open_loss (λ seed k. pos (word_of_seed seed k % 1000))
+    → items ≡ gain ∷ (negsuc 0 -ℤ open_loss) ∷ (pos 0 -ℤ loss) ∷ ((pos 0 -ℤ loss) +ℤ gap) ∷ [] → Draws before four 4 items free_row
+free-drawn before one two three four gap loss gain open_loss items d1 d2 d3 d4 e = λ seed k room b.
+    let two_on : k + 1 + 1 ≡ k + 2 = omega arith in
+    let three_on : k + 2 + 1 ≡ k + 3 = omega arith in
+    let four_on : k + 3 + 1 ≡ k + 4 = omega arith in
+    let a1 = d1 seed k (omega (arith, room)) b in
+    let a2 = d2 seed (k + 1) (omega (arith, room)) a1.1 in
+    let a3 = d3 seed (k + 2) (omega (arith, room)) (a2.1 ∙ ap (generator_at seed) two_on) in
+    let a4 = d4 seed (k + 3) (omega (arith, room)) (a3.1 ∙ ap (generator_at seed) three_on) in
+    (e ∙ rw (a1.0, a2.0, a3.0, a4.0) refl, a4.1 ∙ ap (generator_at seed) four_on)

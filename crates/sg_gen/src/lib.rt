@@ -1,9 +1,12 @@
 //! Generated games.
 #![tactic(auto)]
 
+mod block;
 mod draws;
+mod made;
 mod names;
 mod row;
 mod shape;
 
+pub use made::make_game;
 pub use shape::Shape;

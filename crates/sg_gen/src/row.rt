@@ -70,7 +70,8 @@ fn draw_free_row(alloc: Global, rng: &mut ChaCha20Rng) -> Result<Vec<i64>, Alloc
     let loss = draw_below(rng, 1000);
     let gain = draw_below(rng, 1000);
     let open_loss = draw_below(rng, 1000);
-    free_row_of(alloc, gap, loss, gain, open_loss)
+    let row = free_row_of(alloc, gap, loss, gain, open_loss)?;
+    Ok(row)
 }
 
 /// The payoffs of so many such targets.
