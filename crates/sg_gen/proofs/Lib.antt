@@ -1,2 +1,4 @@
 pub mod Lists
 pub mod Words
+pub mod Assembled
+pub mod Spelled

@@ -1,8 +1,9 @@
 -- Lists that grow by one.
-use Rattle.std.proofs.Common.{◌≡◌, ◌∙◌, ℕ, zero, suc, ◌+◌, ◌<◌, List, [], ◌∷◌, ◌++◌, length, map, sym, ap, refl, arith}
+use Rattle.std.proofs.Common.{◌≡◌, ◌∙◌, ℕ, zero, suc, ◌+◌, ◌<◌, List, [], ◌∷◌, ◌++◌, length, map, sym, ap, refl, arith, append_assoc, flat_map}
 use Rattle.std.specs.Prelude.{Vec, String, string_bytes}
 use Rattle.std.specs.declared.alloc.Global.{Global}
-use Rattle.std.proofs.lemmas.List.{length-map}
+use Rattle.std.proofs.lemmas.List.{append-nil, length-map}
+use Rattle.std.proofs.lemmas.Grind.{flat_map-append}
 use Rattle.sg_game.specs.declared.parts.ListParts.{ListParts}
 use Rattle.sg_game.specs.Seen.{named_of}
 use Rattle.sg_gen.specs.Making.{member_lists}
@@ -57,3 +58,17 @@ lists-named front named after lists members name count h e n c =
     ∙ (ap (λ (z : Named). named_lists front 1 (member_lists lists) ++ z ∷ []) seen
     ∙ (sym (named-more front 1 (member_lists lists) members.items)
     ∙ ap (named_lists front 1) (sym (map-push items lists members))))))
+
+pub lists-push : (lists after : List (Vec ℕ Global)) (v : Vec ℕ Global) → after ≡ lists ++ v ∷ [] → member_lists after ≡ member_lists lists ++ v.items ∷ []
+lists-push lists after v e = ap member_lists e ∙ map-push (λ (v : Vec ℕ Global). v.items) lists v
+
+-- what is behind the first items grows by one
+pub behind-more : {Y : Type 0} (first now next : List Y) (f : ℕ → Y) (a i : ℕ) (y : Y) → now ≡ first ++ map f (numbers_from a i) → next ≡ now ++ y ∷ [] → y ≡ f (a + i) → next ≡ first ++ map f (numbers_from a (i + 1))
+behind-more first now next f a i y h e s =
+    e ∙ (ap (λ zs. zs ++ y ∷ []) h ∙ (append_assoc first (map f (numbers_from a i)) (y ∷ []) ∙ ap (λ zs. first ++ zs) (ap (λ z. map f (numbers_from a i) ++ z ∷ []) s ∙ sym (mapped-more f a i))))
+
+pub joined-more : {Y : Type 0} (first now next : List Y) (f : ℕ → List Y) (a i : ℕ) (ys : List Y) → now ≡ first ++ flat_map f (numbers_from a i) → next ≡ now ++ ys → ys ≡ f (a + i) → next ≡ first ++ flat_map f (numbers_from a (i + 1))
+joined-more first now next f a i ys h e s =
+    let last : flat_map f ((a + i) ∷ []) ≡ f (a + i) = append-nil (f (a + i)) in
+    let more = ap (flat_map f) (numbers_from-more a i) ∙ (flat_map-append f (numbers_from a i) ((a + i) ∷ []) ∙ ap (λ zs. flat_map f (numbers_from a i) ++ zs) last) in
+    e ∙ (ap (λ zs. zs ++ ys) h ∙ (append_assoc first (flat_map f (numbers_from a i)) ys ∙ ap (λ zs. first ++ zs) (ap (λ zs. flat_map f (numbers_from a i) ++ zs) s ∙ sym more)))
