@@ -62,20 +62,3 @@ blocks-parts p blocks width span seed payoffs kind scale count goals schedules r
   };
   game = rw (kind, scale, count, goals, schedules, resources, types, drawn) refl;
 }
-
-pub table-parts : (p : Parts) (rows actions types seed : ℕ) → p.kind ≡ Matrix → p.scale ≡ None → p.patrols ≡ None → texts p.goals.items ≡ numbered_names (codes "r") rows → p.schedules.items ≡ [] → p.resources.items ≡ []
-    → map attacker_of p.types.items ≡ drawn_attackers rows actions types seed 0 → All (λ (x : TypeParts). x.payoffs.items ≡ []) p.types.items → IsPartsOf p (matrix_game seed rows actions types)
-table-parts p rows actions types seed kind scale count goals schedules resources seen none = record {
-  own = record {
-    security = λ s. absurd (let z : p.kind ≡ Matrix = kind in cc);
-    matrix = λ _. record { scale = scale; patrols = count; schedules = schedules; resources = resources; payoffs = none };
-    schedules = λ _. schedules;
-    resources = λ _. resources;
-  };
-  told = record {
-    scale = rw scale tt;
-    patrols = rw count tt;
-    payoffs = λ i d lt. subst (All IsFour) (sym (none i d lt)) (All-nil IsFour);
-  };
-  game = rw (kind, scale, count, goals, schedules, resources, seen) refl;
-}

@@ -28,11 +28,11 @@ digit-name d lt = grind (arith, nat_tests)
 
 push-all : (p : ℕ → Bool) (ds : List ℕ) (d : ℕ) → list_all p ds ≡ true → p d ≡ true → list_all p (ds ++ d ∷ []) ≡ true
 push-all p [] d h e = rw e refl
-push-all p (x ∷ xs) d h e = by (p x) h
+push-all p (x ∷ xs) d h e = by (p x) h (λ k. push-all p xs d k e)
   where
-    by : (b : Bool) → (b && list_all p xs) ≡ true → (b && list_all p (xs ++ d ∷ [])) ≡ true
-    by true k = push-all p xs d k e
-    by false k = cc
+    by : (b : Bool) → (b && list_all p xs) ≡ true → (list_all p xs ≡ true → list_all p (xs ++ d ∷ []) ≡ true) → (b && list_all p (xs ++ d ∷ [])) ≡ true
+    by true k rest = rest k
+    by false k rest = cc
 
 decimal-name : (n : ℕ) → n < 2 ^ 64 → list_all is_name_byte (decimal n) ≡ true
 decimal-name n lt =

@@ -64,7 +64,7 @@ fn free_parts(
     Ok(Parts {
         kind: Kind::Security,
         scale: Some(1 << 32),
-        patrols: Some(i64::from(patrols)),
+        patrols: Some(patrols as i64),
         goals,
         schedules: Vec::new(alloc),
         resources: Vec::new(alloc),
@@ -87,9 +87,9 @@ fn blocks_parts(
     let mut rng = generator(seed);
     let payoffs = draw_block_rows(alloc, &mut rng, targets, span)?;
     let goals = numbered_names(alloc, "t", targets as usize)?;
-    let schedules = schedules_of_blocks(alloc, u32::from(blocks), u32::from(width))?;
+    let schedules = schedules_of_blocks(alloc, blocks as u32, width as u32)?;
     let count = (schedules.as_slice().len() / blocks as usize) as u32;
-    let resources = shares_of_blocks(alloc, u32::from(blocks), count)?;
+    let resources = shares_of_blocks(alloc, blocks as u32, count)?;
     let schedules = named_lists(alloc, "s", schedules)?;
     let resources = named_lists(alloc, "r", resources)?;
     let types = lone_types(alloc, payoffs)?;
