@@ -3,3 +3,7 @@ pub mod Words
 pub mod Assembled
 pub mod Spelled
 pub mod Counted
+pub mod FreeGames
+pub mod BlockGames
+pub mod TableGames
+pub mod Kept

@@ -16,7 +16,7 @@ use crate::names::{named_lists, numbered, numbered_names};
 use crate::row::{draw_block_rows, draw_free_rows, draw_table};
 use crate::shape::Shape;
 use rand_chacha::ChaCha20Rng;
-use sg_game::{BuildFault, Game, Kind, Parts, TypeParts};
+use sg_game::{BuildFault, Game, Kind, Parts, TypeParts, no_fault_is_a_game};
 use std::alloc::{AllocError, Global};
 
 /// The one type of a game in security form.
@@ -203,6 +203,7 @@ pub fn make_game(alloc: Global, shape: Shape, seed: u64) -> Result<Game, AllocEr
     requires { IsShape shape }
     ensures game { IfOk result (λ game. game ≡ made_game shape seed) }
 {
+    no_fault_is_a_game();
     let parts = parts_of(alloc, shape, seed)?;
     match Game::of(alloc, parts) {
         Ok(game) => Ok(game),
