@@ -92,7 +92,7 @@ module _ (blocks width : ℕ) (some : 1 ≤ blocks) (few : blocks ≤ 8) (wide :
   -- a target of block k
   inside : (k a : ℕ) → k < blocks → a ≤ width → k * width + a ≤ targets
   inside k a lt le =
-      let p = mul-le-mul_right {k + 1} {blocks} width (omega (arith, lt)) in
+      let p = mul-le-mul_right {m = k + 1} {n = blocks} width (omega (arith, lt)) in
       let e : (k + 1) * width ≡ k * width + width = (let s : k + 1 ≡ suc k = omega arith in ap (λ (n : ℕ). n * width) s ∙ suc-mul k width) in
       omega (arith, p, e, le)
 
@@ -121,7 +121,7 @@ module _ (blocks width : ℕ) (some : 1 ≤ blocks) (few : blocks ≤ 8) (wide :
 
   few-schedules : blocks * share ≤ 440
   few-schedules =
-      let p = mul-le-mul_right {blocks} {8} share few in
+      let p = mul-le-mul_right {m = blocks} {n = 8} share few in
       let q = few-lists width wide narrow in
       omega (arith, p, q)
 
@@ -131,7 +131,7 @@ module _ (blocks width : ℕ) (some : 1 ≤ blocks) (few : blocks ≤ 8) (wide :
       All-map (AreMembers (blocks * share) 500) row (numbers_from 0 blocks)
       (All-numbers_from (λ (k : ℕ). AreMembers (blocks * share) 500 (row k)) 0 blocks
       (λ k low high.
-      let p = mul-le-mul_right {k + 1} {blocks} share (omega (arith, high)) in
+      let p = mul-le-mul_right {m = k + 1} {n = blocks} share (omega (arith, high)) in
       let e : (k + 1) * share ≡ k * share + share = (let s : k + 1 ≡ suc k = omega arith in ap (λ (n : ℕ). n * share) s ∙ suc-mul k share) in
       in-row (blocks * share) (k * share + 1) share (omega arith) (some-lists width wide narrow) (omega (arith, few-lists width wide narrow)) (omega (arith, p, e))))
 
@@ -140,7 +140,7 @@ module _ (blocks width : ℕ) (some : 1 ≤ blocks) (few : blocks ≤ 8) (wide :
 
   some-targets : 1 ≤ targets
   some-targets =
-      let p = mul-le-mul_right {1} {blocks} width some in
+      let p = mul-le-mul_right {m = 1} {n = blocks} width some in
       omega (arith, p, wide)
 
   pub blocks-is-game : (seed span : ℕ) → 1 ≤ span → span ≤ 1000 → IsGame (blocks_game seed blocks width span)

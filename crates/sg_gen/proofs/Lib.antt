@@ -7,3 +7,4 @@ pub mod FreeGames
 pub mod BlockGames
 pub mod TableGames
 pub mod Kept
+pub mod Dashes

@@ -5,6 +5,7 @@ mod block;
 mod draws;
 mod made;
 mod names;
+mod reading;
 mod row;
 mod shape;
 

@@ -1,7 +1,5 @@
 //! The shapes of generated games.
 
-ghost use Rattle.sg_gen.specs.Shapes.{ReadsShape};
-
 /// What a generated game is like.
 #[derive(Clone, Copy, Debug, PartialEq, Eq)]
 pub enum Shape {

@@ -9,4 +9,4 @@ unreachable-requires c =
     let is = subst IsGame (sym p.game) (made-is-game c.args.shape c.args.seed c.requires) in
     let none = (c.no_fault_is_a_game.ensures c.in_ok-parts.parts p.own).1 (p.told, is) in
     let refused = (rw c.in-Err-Refused.field-0-is at c.in-Err-Refused.ensures).fault in
-    ?
+    cc
