@@ -8,3 +8,4 @@ pub mod BlockGames
 pub mod TableGames
 pub mod Kept
 pub mod Dashes
+pub mod ShapeTexts

@@ -5,14 +5,10 @@ use Rattle.sg_gen.proofs.reading.number_within.Goals as goal
 
 pub returns-then-not-is_of : goal.returns-then-not-is_of
 returns-then-not-is_of c = λ n low high e.
-    let yes_of = decimal-of c.args.least c.args.greatest n (omega (arith, high, c.ranges.greatest)) low high in
-    let is = c.is_of.ensures in
-    let was = c.if-not-is_of.true in
-    ?
+    let spelled = decimal-of c.args.least c.args.greatest n (omega (arith, high, c.ranges.greatest)) low high in
+    let t : true ≡ false = sym spelled ∙ (ap (is_of (number c.args.least c.args.greatest)) (sym e) ∙ (sym c.is_of.ensures ∙ c.if-not-is_of.true)) in
+    cc
 
 pub returns : goal.returns
 returns c =
-    let is = c.is_of.ensures in
-    let was = c.if-not-is_of.false in
-    let read = c.number.ensures in
-    ?
+    rw (c.number.ensures) (of-decimal c.args.least c.args.greatest c.args.text.now (omega (arith, c.ranges.greatest)) (sym c.is_of.ensures ∙ c.if-not-is_of.false))
