@@ -1,0 +1,4 @@
+pub mod Draws
+pub mod Shapes
+pub mod Generated
+pub mod Making
