@@ -1,19 +1,18 @@
 -- Parts that say all of a generated game.
-use Rattle.std.proofs.Common.{◌≡◌, ◌≢◌, ◌∙◌, ℕ, ◌≤◌, List, [], ◌∷◌, length, map, sym, ap, subst, refl, arith, ℤ, pos, Some, None}
-use Rattle.std.specs.Prelude.{◌+◌, ◌*◌, ◌^◌, ◌≤ℤ◌, Vec, codes}
+use Rattle.std.proofs.Common.{◌≡◌, ◌∙◌, ℕ, List, [], ◌∷◌, length, map, sym, ap, subst, refl, arith, ℤ, pos, Some, None}
+use Rattle.std.specs.Prelude.{◌+◌, ◌*◌, ◌^◌, Vec, codes}
 use Rattle.std.specs.declared.alloc.Global.{Global}
 use Rattle.std.specs.List.{All}
 use Rattle.std.proofs.lemmas.Int.{ints}
 use Rattle.std.proofs.lemmas.List.Elements.{All-nil, All-cons}
-use Rattle.sg_model.specs.declared.kind.Kind.{Kind}
 use Rattle.sg_model.specs.declared.kind.Kind.TheVariants.{Security, Matrix}
 use Rattle.sg_model.specs.Sums.{numbers_from}
 use Rattle.sg_game.specs.declared.parts.Parts.{Parts}
 use Rattle.sg_game.specs.declared.parts.TypeParts.{TypeParts}
-use Rattle.sg_game.specs.Building.{AreMatrixParts, HasOwnFields, IsSecurityParts, IsTold}
-use Rattle.sg_game.specs.Seen.{attacker_of, game_of, named_of, number_lists, texts}
+use Rattle.sg_game.specs.Building.{AreMatrixParts, IsSecurityParts}
+use Rattle.sg_game.specs.Seen.{attacker_of, named_of, number_lists, texts}
 use Rattle.sg_gen.specs.Draws.{in_turn}
-use Rattle.sg_gen.specs.Generated.{block_lists, block_row, blocks_game, blocks_lists, drawn_attackers, free_game, free_row, lone_attacker, matrix_game, named_lists, numbered_names, shares_of}
+use Rattle.sg_gen.specs.Generated.{block_lists, block_row, blocks_game, blocks_lists, free_game, free_row, lone_attacker, named_lists, numbered_names, shares_of}
 use Rattle.sg_gen.specs.Making.{IsPartsOf}
 
 abbrev IsFour : Vec ℤ Global → Type 0

@@ -1,6 +1,6 @@
 -- Generated games of blocks keep every promise.
-use Rattle.std.proofs.Common.{◌≡◌, ◌≢◌, ◌∙◌, ℕ, zero, suc, ◌+◌, ◌-◌, ◌*◌, ◌%◌, ◌^◌, ◌<◌, ◌≤◌, List, [], ◌∷◌, ◌++◌, flat_map, get_or, length, map, sym, ap, subst, refl, arith, ℤ, pos, true}
-use Rattle.std.specs.Prelude.{◌+ℤ◌, ◌-ℤ◌, ◌≤ℤ◌, codes}
+use Rattle.std.proofs.Common.{◌≡◌, ◌≢◌, ◌∙◌, ℕ, zero, suc, ◌+◌, ◌-◌, ◌*◌, ◌%◌, ◌<◌, ◌≤◌, List, [], ◌∷◌, flat_map, get_or, length, map, sym, ap, subst, refl, arith, ℤ, pos, true}
+use Rattle.std.specs.Prelude.{◌-ℤ◌, codes}
 use Rattle.std.specs.List.{All, AllPairs}
 use Rattle.std.proofs.Math.Nat.{mod-lt, mul-le-mul_right, suc-mul}
 use Rattle.std.proofs.lemmas.Int.{ints}
@@ -16,7 +16,7 @@ use Rattle.sg_gen.specs.Generated.{block_lists, block_row, blocks_game, blocks_l
 use Rattle.sg_gen.proofs.Counted.{blocks-count, few-lists, small-product, some-lists}
 use Rattle.sg_gen.proofs.FreeGames.{each-row, lone-type, lone-types}
 use Rattle.sg_gen.proofs.Lists.{named-count}
-use Rattle.sg_gen.proofs.Spelled.{are-names, item-at, map-count, names-listed}
+use Rattle.sg_gen.proofs.Spelled.{are-names, map-count, names-listed}
 
 block-pays : (span seed k : ℕ) → 1 ≤ span → span ≤ 1000 → IsPayoff (payoff_of (block_row span seed k))
 block-pays span seed k some few = of (word_of_seed seed k % span) (mod-lt (word_of_seed seed k) some)

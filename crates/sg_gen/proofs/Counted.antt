@@ -1,5 +1,5 @@
 -- How many schedules blocks have.
-use Rattle.std.proofs.Common.{◌≡◌, ◌∙◌, ℕ, zero, suc, ◌+◌, ◌-◌, ◌*◌, ◌/◌, ◌<◌, ◌≤◌, Bool, true, false, inl, inr, List, [], ◌∷◌, ◌++◌, flat_map, length, map, sym, ap, subst, refl, arith}
+use Rattle.std.proofs.Common.{◌≡◌, ◌∙◌, ℕ, zero, suc, ◌+◌, ◌-◌, ◌*◌, ◌/◌, ◌<◌, ◌≤◌, Bool, true, false, inl, inr, List, [], ◌∷◌, flat_map, length, map, sym, ap, refl, arith}
 use Rattle.std.specs.Prelude.{◌&&◌, Vec, nat_le}
 use Rattle.std.specs.declared.alloc.Global.{Global}
 use Rattle.std.specs.List.{list_all}
@@ -9,7 +9,6 @@ use Rattle.std.proofs.Math.Nat.{mul-le-mul, suc-mul, zero-mul}
 use Rattle.std.proofs.lemmas.List.{length-append, length-map}
 use Rattle.std.proofs.lemmas.Nat.{div-mul-add}
 use Rattle.sg_model.specs.Sums.{numbers, numbers_from}
-use Rattle.sg_model.proofs.Numbers.{length-numbers_from}
 use Rattle.sg_gen.specs.Generated.{block_lists, blocks_lists}
 use Rattle.sg_gen.specs.Making.{member_lists}
 
@@ -25,8 +24,14 @@ block-count width before =
     let one = λ (before a : ℕ). (before + a) ∷ [] in
     let two = λ (before a b : ℕ). (before + a) ∷ (before + b) ∷ [] in
     let pairs = λ (before : ℕ). flat_map (λ a. map (two before a) (parts a)) (numbers width) in
-    omega (arith, length-append (map (one before) (numbers width)) (pairs before), length-append (map (one 0) (numbers width)) (pairs 0), length-map (numbers width) (one before), length-map (numbers width) (one 0),
-    same-lengths (two before) (two 0) parts (numbers width))
+    omega (
+      arith,
+      length-append (map (one before) (numbers width)) (pairs before),
+      length-append (map (one 0) (numbers width)) (pairs 0),
+      length-map (numbers width) (one before),
+      length-map (numbers width) (one 0),
+      same-lengths (two before) (two 0) parts (numbers width),
+    )
 
 pub blocks-count : (width a n : ℕ) → length (flat_map (λ k. block_lists width (k * width)) (numbers_from a n)) ≡ n * length (block_lists width 0)
 blocks-count width a zero = sym (zero-mul (length (block_lists width 0)))

@@ -1,16 +1,16 @@
 -- Generated games of identical patrols keep every promise.
-use Rattle.std.proofs.Common.{◌≡◌, ◌≢◌, ◌∙◌, ℕ, suc, ◌+◌, ◌*◌, ◌%◌, ◌^◌, ◌<◌, ◌≤◌, List, [], ◌∷◌, length, map, sym, ap, subst, refl, arith, ℤ, pos, negsuc, Some, None, lit<}
-use Rattle.std.specs.Prelude.{◌+ℤ◌, ◌-ℤ◌, ◌≤ℤ◌, ◌<ℤ◌, codes, int_rem}
+use Rattle.std.proofs.Common.{◌≡◌, ◌∙◌, ℕ, ◌+◌, ◌*◌, ◌%◌, ◌^◌, ◌<◌, ◌≤◌, List, [], ◌∷◌, length, sym, ap, refl, arith, ℤ, pos, negsuc, lit<}
+use Rattle.std.specs.Prelude.{◌+ℤ◌, ◌-ℤ◌, codes, int_rem}
 use Rattle.std.specs.List.{All}
-use Rattle.std.proofs.Math.Nat.{mod-lt, one-le-pow, pow-le-pow_right}
+use Rattle.std.proofs.Math.Nat.{one-le-pow, pow-le-pow_right}
 use Rattle.std.proofs.lemmas.Int.{ints}
 use Rattle.std.proofs.lemmas.List.{length-map}
 use Rattle.std.proofs.lemmas.List.Elements.{All-cons, All-map, All-nil}
 use Rattle.sg_model.specs.Games.{Attacker, Payoff, payoff_of}
-use Rattle.sg_model.specs.Limits.{AreTypes, IsGame, IsPay, IsPayoff, IsScaledGame, IsSecurityType}
+use Rattle.sg_model.specs.Limits.{AreTypes, IsGame, IsPayoff, IsSecurityType}
 use Rattle.sg_model.specs.Origami.{IsScaled, gap}
 use Rattle.sg_model.specs.Sums.{numbers_from}
-use Rattle.sg_model.proofs.Numbers.{All-numbers_from, All-numbers_from-at, length-numbers_from}
+use Rattle.sg_model.proofs.Numbers.{All-numbers_from, All-numbers_from-at}
 use Rattle.sg_gen.specs.Draws.{in_turn, word_of_seed}
 use Rattle.sg_gen.specs.Generated.{free_game, free_row, lone_attacker, numbered, numbered_names}
 use Rattle.sg_gen.proofs.Spelled.{are-names, map-count}

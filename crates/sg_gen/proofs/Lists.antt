@@ -1,5 +1,5 @@
 -- Lists that grow by one.
-use Rattle.std.proofs.Common.{◌≡◌, ◌∙◌, ℕ, zero, suc, ◌+◌, ◌<◌, List, [], ◌∷◌, ◌++◌, length, map, sym, ap, refl, arith, append_assoc, flat_map}
+use Rattle.std.proofs.Common.{◌≡◌, ◌∙◌, ℕ, zero, suc, ◌+◌, List, [], ◌∷◌, ◌++◌, length, map, sym, ap, refl, arith, append_assoc, flat_map}
 use Rattle.std.specs.Prelude.{Vec, String, string_bytes}
 use Rattle.std.specs.declared.alloc.Global.{Global}
 use Rattle.std.proofs.lemmas.List.{append-nil, length-map}
@@ -8,7 +8,7 @@ use Rattle.sg_game.specs.declared.parts.ListParts.{ListParts}
 use Rattle.sg_game.specs.Seen.{named_of}
 use Rattle.sg_gen.specs.Making.{member_lists}
 use Rattle.sg_model.specs.Games.{Named}
-use Rattle.sg_model.specs.Sums.{numbers, numbers_from}
+use Rattle.sg_model.specs.Sums.{numbers_from}
 use Rattle.sg_gen.specs.Generated.{named_lists, numbered}
 
 pub numbers_from-more : (a n : ℕ) → numbers_from a (n + 1) ≡ numbers_from a n ++ (a + n) ∷ []

@@ -4,6 +4,7 @@ use Rattle.std.specs.Prelude.{MatchOption, codes, decimal}
 use Rattle.std.proofs.lemmas.Fmt.{decimal_injective}
 use Rattle.sg_gen.specs.declared.shape.Shape.{Shape}
 use Rattle.sg_gen.specs.declared.shape.Shape.TheVariants.{Blocks, Free, Table}
+use Rattle.sg_gen.specs.GeneratedLaws.{TextsAreApart}
 use Rattle.sg_gen.specs.Shapes.{IsShape, ReadsShape, shape_text}
 use Rattle.sg_gen.proofs.Dashes.{apart}
 
@@ -91,3 +92,37 @@ module _ (numbers others rest : List ℕ) (a b : ℕ) (small_a : a < 2 ^ 64) (sm
       let is : IsShape (Table a b c) = (record { at_least = a1; at_most = a2 }, record { at_least = b1; at_most = b2 }, record { at_least = c1; at_most = c2 }, found.1) in
       let text : codes "matrix-" ++ numbers ≡ shape_text (Table a b c) = rw (first, second, third) refl in
       (subst IsShape (sym found.0) is, text ∙ ap shape_text (sym found.0))
+
+free-apart : (a b c d : ℕ) → IsShape (Free a b) → IsShape (Free c d) → shape_text (Free a b) ≡ shape_text (Free c d) → Free a b ≡ Free c d
+free-apart a b c d h k e =
+    let text : decimal a ++ 45 ∷ decimal b ≡ decimal c ++ 45 ∷ decimal d = cc in
+    let one = apart a c (decimal b) (decimal d) (omega (arith, h.0.at_most)) (omega (arith, k.0.at_most)) text in
+    let two = decimal_injective b d (omega (arith, h.1.at_most)) (omega (arith, k.1.at_most)) one.1 in
+    rw (one.0, two) refl
+
+-- three numbers with a dash between two
+three-apart : (a b c d e f : ℕ) → a < 2 ^ 64 → b < 2 ^ 64 → c < 2 ^ 64 → d < 2 ^ 64 → e < 2 ^ 64 → f < 2 ^ 64 → decimal a ++ 45 ∷ (decimal b ++ 45 ∷ decimal c) ≡ decimal d ++ 45 ∷ (decimal e ++ 45 ∷ decimal f) → (a ≡ d) × (b ≡ e) × (c ≡ f)
+three-apart a b c d e f sa sb sc sd se sf text =
+    let one = apart a d (decimal b ++ 45 ∷ decimal c) (decimal e ++ 45 ∷ decimal f) sa sd text in
+    let two = apart b e (decimal c) (decimal f) sb se one.1 in
+    (one.0, two.0, decimal_injective c f sc sf two.1)
+
+letter : (xs ys : List ℕ) → xs ≡ ys → get_or xs 0 0 ≡ get_or ys 0 0
+letter xs ys e = ap (λ (zs : List ℕ). get_or zs 0 0) e
+
+pub texts-apart : TextsAreApart
+texts-apart (Free a b) (Free c d) h k e = free-apart a b c d h k e
+texts-apart (Free a b) (Blocks d f g) h k e = (let z : 102 ≡ 98 = letter (shape_text (Free a b)) (shape_text (Blocks d f g)) e in absurd (omega (arith, z)))
+texts-apart (Free a b) (Table d f g) h k e = (let z : 102 ≡ 109 = letter (shape_text (Free a b)) (shape_text (Table d f g)) e in absurd (omega (arith, z)))
+texts-apart (Blocks a b c) (Free d f) h k e = (let z : 98 ≡ 102 = letter (shape_text (Blocks a b c)) (shape_text (Free d f)) e in absurd (omega (arith, z)))
+texts-apart (Blocks a b c) (Blocks d f g) h k e =
+    let text : decimal a ++ 45 ∷ (decimal b ++ 45 ∷ decimal c) ≡ decimal d ++ 45 ∷ (decimal f ++ 45 ∷ decimal g) = cc in
+    let same = three-apart a b c d f g (omega (arith, h.0.at_most)) (omega (arith, h.1.at_most)) (omega (arith, h.2.at_most)) (omega (arith, k.0.at_most)) (omega (arith, k.1.at_most)) (omega (arith, k.2.at_most)) text in
+    rw (same.0, same.1, same.2) refl
+texts-apart (Blocks a b c) (Table d f g) h k e = (let z : 98 ≡ 109 = letter (shape_text (Blocks a b c)) (shape_text (Table d f g)) e in absurd (omega (arith, z)))
+texts-apart (Table a b c) (Free d f) h k e = (let z : 109 ≡ 102 = letter (shape_text (Table a b c)) (shape_text (Free d f)) e in absurd (omega (arith, z)))
+texts-apart (Table a b c) (Blocks d f g) h k e = (let z : 109 ≡ 98 = letter (shape_text (Table a b c)) (shape_text (Blocks d f g)) e in absurd (omega (arith, z)))
+texts-apart (Table a b c) (Table d f g) h k e =
+    let text : decimal a ++ 45 ∷ (decimal b ++ 45 ∷ decimal c) ≡ decimal d ++ 45 ∷ (decimal f ++ 45 ∷ decimal g) = cc in
+    let same = three-apart a b c d f g (omega (arith, h.0.at_most)) (omega (arith, h.1.at_most)) (omega (arith, h.2.at_most)) (omega (arith, k.0.at_most)) (omega (arith, k.1.at_most)) (omega (arith, k.2.at_most)) text in
+    rw (same.0, same.1, same.2) refl

@@ -1,15 +1,15 @@
 -- Names with numbers are names, no two of them the same.
-use Rattle.std.proofs.Common.{◌≡◌, ◌≢◌, ◌∙◌, ℕ, zero, suc, ◌+◌, ◌%◌, ◌<◌, ◌≤◌, ◌^◌, Bool, true, false, List, [], ◌∷◌, ◌++◌, length, map, get_or, sym, ap, subst, refl, arith}
+use Rattle.std.proofs.Common.{◌≡◌, ◌≢◌, ◌∙◌, ℕ, zero, suc, ◌+◌, ◌%◌, ◌<◌, ◌≤◌, ◌^◌, Bool, true, false, List, [], ◌∷◌, ◌++◌, length, map, get_or, sym, ap, refl, arith}
 use Rattle.std.specs.Prelude.{◌&&◌, decimal, nat_le}
-use Rattle.std.specs.List.{All, AllPairs, list_all}
+use Rattle.std.specs.List.{list_all}
 use Rattle.std.proofs.lemmas.Bool.Decides.{nat_tests}
-use Rattle.std.proofs.lemmas.Fmt.{decimal_by_steps, decimal_injective, decimal_nonempty, length-decimal-le}
+use Rattle.std.proofs.lemmas.Fmt.{decimal_by_steps, decimal_injective, length-decimal-le}
 use Rattle.std.proofs.lemmas.List.{length-map}
 use Rattle.std.proofs.lemmas.List.Elements.{All-map}
 use Rattle.sg_model.specs.Games.{Named}
 use Rattle.sg_model.specs.Names.{AreNames, is_name, is_name_byte}
 use Rattle.sg_model.specs.Sums.{numbers_from}
-use Rattle.sg_model.proofs.Numbers.{All-numbers_from, All-numbers_from-at, length-numbers_from}
+use Rattle.sg_model.proofs.Numbers.{All-numbers_from, length-numbers_from}
 use Rattle.sg_gen.specs.Generated.{named_lists, numbered}
 
 pub item-at : {X : Type 0} (f : ℕ → X) (a n i : ℕ) (d : X) → i < n → get_or (map f (numbers_from a n)) i d ≡ f (a + i)

@@ -1,13 +1,13 @@
 -- Generated games in matrix form keep every promise.
-use Rattle.std.proofs.Common.{◌≡◌, ◌∙◌, ℕ, zero, suc, ◌+◌, ◌-◌, ◌*◌, ◌%◌, ◌<◌, ◌≤◌, List, [], ◌∷◌, length, map, sym, ap, subst, refl, arith, ℤ, pos}
+use Rattle.std.proofs.Common.{◌≡◌, ◌∙◌, ℕ, zero, suc, ◌+◌, ◌-◌, ◌*◌, ◌%◌, ◌≤◌, List, [], ◌∷◌, length, map, sym, ap, subst, refl, arith, ℤ, pos}
 use Rattle.std.specs.Prelude.{◌-ℤ◌, codes, sum_by}
 use Rattle.std.specs.List.{All}
-use Rattle.std.proofs.Math.Nat.{mul-le-mul, mul-le-mul_right, suc-mul}
+use Rattle.std.proofs.Math.Nat.{suc-mul}
 use Rattle.std.proofs.lemmas.Int.{ints}
-use Rattle.std.proofs.lemmas.List.Elements.{All-head, All-map, All-nil, All-tail}
+use Rattle.std.proofs.lemmas.List.Elements.{All-head, All-map, All-tail}
 use Rattle.std.proofs.lemmas.List.Sums.{sum_by-cons}
 use Rattle.sg_model.specs.Games.{Attacker}
-use Rattle.sg_model.specs.Limits.{AreTypes, IsGame, IsMatrixType, IsPay, IsTable}
+use Rattle.sg_model.specs.Limits.{IsGame, IsMatrixType, IsPay, IsTable}
 use Rattle.sg_model.specs.Names.{AreNames}
 use Rattle.sg_model.specs.Sums.{numbers_from}
 use Rattle.sg_model.proofs.Numbers.{All-numbers_from}

@@ -8,7 +8,7 @@ use Rattle.sg_gen.specs.Making.{Draws}
 use Rattle.sg_gen.proofs.Lists.{mapped-more}
 use Rattle.rand_chacha.specs.ChaCha.{ChaCha, key_of, next_word}
 use Rattle.sg_seed.specs.Seeds.{key_of_seed}
-use Rattle.sg_gen.specs.Draws.{generator_at, in_order, in_turn, word_of_seed}
+use Rattle.sg_gen.specs.Draws.{generator_at, by_number, in_turn, word_of_seed}
 
 pub drawn : (seed k r : ℕ) (before after : ChaCha) → k + 1 < 2 ^ 60 → (r, after) ≡ next_word 10 before → before ≡ generator_at seed k → (r ≡ word_of_seed seed k) × (after ≡ generator_at seed (k + 1))
 unfolding generator_at word_of_seed
@@ -22,21 +22,20 @@ pub in_turn-none : {X : Type 0} (f : ℕ → ℕ → X) (each : ℕ) (before : C
 in_turn-none f each before = λ seed k room e. let z : k ≡ k + 0 * each = omega (arith, zero-mul each) in (refl, e ∙ ap (generator_at seed) z)
 
 -- one thing more
-pub in_order-more : {X : Type 0} (f : ℕ → ℕ → ℕ → X) (each i : ℕ) (before now next : ChaCha) (xs ys : List X) (x : X) → Draws before now (i * each) xs (in_order f each i) → Draws now next each x (f i) → ys ≡ xs ++ x ∷ [] → Draws before next ((i + 1) * each) ys (in_order f each (i + 1))
-in_order-more f each i before now next xs ys x h d e = λ seed k room b.
+pub by_number-more : {X : Type 0} (f : ℕ → ℕ → ℕ → X) (each i : ℕ) (before now next : ChaCha) (xs ys : List X) (x : X) → Draws before now (i * each) xs (by_number f each i) → Draws now next each x (f i) → ys ≡ xs ++ x ∷ [] → Draws before next ((i + 1) * each) ys (by_number f each (i + 1))
+by_number-more f each i before now next xs ys x h d e = λ seed k room b.
     let more : (i + 1) * each ≡ i * each + each = (let p : i + 1 ≡ suc i = omega arith in ap (λ (n : ℕ). n * each) p ∙ suc-mul i each) in
     let first = h seed k (omega (arith, room, more)) b in
     let last = d seed (k + i * each) (omega (arith, room, more)) first.1 in
     let g = λ (i : ℕ). f i seed (k + i * each) in
     let zero_i : i ≡ 0 + i = omega arith in
-    let place : k + i * each + each ≡ k + (i + 1) * each = omega (arith, more) in
-    (
+    let place : k + i * each + each ≡ k + (i + 1) * each = omega (arith, more) in (
       e ∙ (ap (λ zs. zs ++ x ∷ []) first.0 ∙ (ap (λ z. map g (numbers_from 0 i) ++ z ∷ []) (last.0 ∙ ap g zero_i) ∙ sym (mapped-more g 0 i))),
       last.1 ∙ ap (generator_at seed) place,
     )
 
 pub in_turn-more : {X : Type 0} (f : ℕ → ℕ → X) (each i : ℕ) (before now next : ChaCha) (xs ys : List X) (x : X) → Draws before now (i * each) xs (in_turn f each i) → Draws now next each x f → ys ≡ xs ++ x ∷ [] → Draws before next ((i + 1) * each) ys (in_turn f each (i + 1))
-in_turn-more f each i before now next xs ys x h d e = in_order-more (λ i. f) each i before now next xs ys x h d e
+in_turn-more f each i before now next xs ys x h d e = by_number-more (λ i. f) each i before now next xs ys x h d e
 
 -- the four words of a target of identical patrols
 pub free-drawn : (before one two three four : ChaCha) (gap loss gain open_loss : ℤ) (items : List ℤ) → Draws before one 1 gap (λ seed k. pos (2 ^ (10 + word_of_seed seed k % 11)))

@@ -13,9 +13,9 @@ unfoldable pub generator_at : ℕ → ℕ → ChaCha
 generator_at seed k = record { key = key_of (key_of_seed seed); stream = 0; word_pos = k }
 
 -- n things by their numbers from 0, each made of so many words, one after another from place k
-abbrev pub in_order : {X : Type 0} → (ℕ → ℕ → ℕ → X) → ℕ → ℕ → ℕ → ℕ → List X
-in_order f each n seed k = map (λ i. f i seed (k + i * each)) (numbers_from 0 n)
+abbrev pub by_number : {X : Type 0} → (ℕ → ℕ → ℕ → X) → ℕ → ℕ → ℕ → ℕ → List X
+by_number f each n seed k = map (λ i. f i seed (k + i * each)) (numbers_from 0 n)
 
 -- the same where they don't depend on their numbers
 abbrev pub in_turn : {X : Type 0} → (ℕ → ℕ → X) → ℕ → ℕ → ℕ → ℕ → List X
-in_turn f each n seed k = in_order (λ i. f) each n seed k
+in_turn f each n seed k = by_number (λ i. f) each n seed k

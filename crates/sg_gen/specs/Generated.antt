@@ -5,7 +5,7 @@ use Rattle.sg_model.specs.Games.{Attacker, Game, Named, payoff_of}
 use Rattle.sg_model.specs.Sums.{numbers, numbers_from}
 use Rattle.sg_gen.specs.declared.shape.Shape.{Shape}
 use Rattle.sg_gen.specs.declared.shape.Shape.TheVariants.{Free, Blocks, Table}
-use Rattle.sg_gen.specs.Draws.{in_order, in_turn, word_of_seed}
+use Rattle.sg_gen.specs.Draws.{by_number, in_turn, word_of_seed}
 
 -- ---- names
 
@@ -102,7 +102,7 @@ drawn_attacker rows actions l seed k = record {
 
 -- the first n types, one after another
 abbrev pub drawn_attackers : ℕ → ℕ → ℕ → ℕ → ℕ → List Attacker
-drawn_attackers rows actions n seed k = in_order (drawn_attacker rows actions) (rows * actions + rows * actions) n seed k
+drawn_attackers rows actions n seed k = by_number (drawn_attacker rows actions) (rows * actions + rows * actions) n seed k
 
 abbrev pub matrix_game : ℕ → ℕ → ℕ → ℕ → Game
 matrix_game seed rows actions types = record {

@@ -1,5 +1,5 @@
 -- Parts of a generated game while they are made.
-use Rattle.std.specs.Prelude.{◌≡◌, ℕ, ◌+◌, ◌<◌, ◌^◌, List, map, ℤ, Vec}
+use Rattle.std.specs.Prelude.{◌≡◌, ℕ, ◌+◌, ◌<◌, ◌^◌, List, map, Vec}
 use Rattle.std.specs.declared.alloc.Global.{Global}
 use Rattle.rand_chacha.specs.ChaCha.{ChaCha}
 use Rattle.sg_model.specs.Games.{Game}

@@ -48,12 +48,7 @@ fn lone_types(alloc: Global, payoffs: Vec<Vec<i64>>) -> Result<Vec<TypeParts>, A
 }
 
 /// The parts of a game of identical patrols.
-fn free_parts(
-    alloc: Global,
-    targets: u16,
-    patrols: u16,
-    seed: u64,
-) -> Result<Parts, AllocError>
+fn free_parts(alloc: Global, targets: u16, patrols: u16, seed: u64) -> Result<Parts, AllocError>
     requires { IsShape (Free targets patrols) }
     ensures { IfOk result (λ parts. IsPartsOf parts (free_game seed targets patrols)) }
 {

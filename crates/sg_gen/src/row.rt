@@ -90,11 +90,7 @@ pub(crate) fn draw_free_rows(
 }
 
 /// The payoffs of a target of a block.
-fn draw_block_row(
-    alloc: Global,
-    rng: &mut ChaCha20Rng,
-    span: u16,
-) -> Result<Vec<i64>, AllocError>
+fn draw_block_row(alloc: Global, rng: &mut ChaCha20Rng, span: u16) -> Result<Vec<i64>, AllocError>
     requires some { 1 ≤ span }
     requires few { span ≤ 1000 }
     ensures { IfOk result (λ row. Draws rng.old rng.new 1 row.items (block_row span)) }
@@ -129,11 +125,7 @@ fn draw_pay(rng: &mut ChaCha20Rng) -> i64
 }
 
 /// What is got from one row by each of so many actions.
-fn draw_pays(
-    alloc: Global,
-    rng: &mut ChaCha20Rng,
-    actions: u16,
-) -> Result<Vec<i64>, AllocError>
+fn draw_pays(alloc: Global, rng: &mut ChaCha20Rng, actions: u16) -> Result<Vec<i64>, AllocError>
     ensures { IfOk result (λ row. Draws rng.old rng.new (actions * 1) row.items (in_turn drawn_pay 1 actions)) }
 {
     let mut row = Vec::new(alloc);

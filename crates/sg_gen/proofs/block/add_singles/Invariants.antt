@@ -1,6 +1,5 @@
-use Rattle.std.proofs.Common.{◌≡◌, ◌+◌, ◌*◌, ◌-◌, ◌++◌, ◌∷◌, [], flat_map, map}
-use Rattle.sg_model.specs.Sums.{numbers, numbers_from}
-use Rattle.sg_gen.specs.Generated.{block_lists, blocks_lists, shares_of}
+use Rattle.std.proofs.Common.{◌≡◌, ◌+◌, ◌++◌, ◌∷◌, [], map}
+use Rattle.sg_model.specs.Sums.{numbers}
 use Rattle.sg_gen.specs.Making.{member_lists}
 use Rattle.sg_gen.proofs.block.add_singles.Given as goal
 

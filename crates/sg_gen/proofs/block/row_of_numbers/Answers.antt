@@ -1,8 +1,5 @@
-use Rattle.std.proofs.Common.{◌≡◌, ◌∙◌, ℕ, ◌+◌, ◌*◌, ◌-◌, ◌∷◌, [], ◌++◌, List, ap, arith, flat_map, map, refl, sym}
-use Rattle.sg_model.specs.Sums.{numbers, numbers_from}
-use Rattle.sg_gen.specs.Generated.{block_lists}
-use Rattle.sg_gen.specs.Making.{member_lists}
-use Rattle.sg_gen.proofs.Lists.{behind-more, joined-more, lists-push, numbers_from-more}
+use Rattle.std.proofs.Common.{◌∙◌, ℕ, ◌+◌, ◌∷◌, [], ◌++◌, List, ap, sym}
+use Rattle.sg_gen.proofs.Lists.{numbers_from-more}
 use Rattle.sg_gen.proofs.block.row_of_numbers.Goals as goal
 
 pub loop-i-preserved : goal.loop-i-preserved

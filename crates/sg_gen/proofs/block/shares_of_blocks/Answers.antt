@@ -1,8 +1,7 @@
-use Rattle.std.proofs.Common.{◌≡◌, ◌∙◌, ℕ, ◌+◌, ◌*◌, ◌-◌, ◌∷◌, [], ◌++◌, List, ap, arith, flat_map, map, refl, sym}
-use Rattle.sg_model.specs.Sums.{numbers, numbers_from}
-use Rattle.sg_gen.specs.Generated.{block_lists}
+use Rattle.std.proofs.Common.{◌≡◌, ◌∙◌, ℕ, ◌+◌, ◌*◌, [], ap, arith}
+use Rattle.sg_model.specs.Sums.{numbers_from}
 use Rattle.sg_gen.specs.Making.{member_lists}
-use Rattle.sg_gen.proofs.Lists.{behind-more, joined-more, lists-push, numbers_from-more}
+use Rattle.sg_gen.proofs.Lists.{behind-more, lists-push}
 use Rattle.sg_gen.proofs.block.shares_of_blocks.Goals as goal
 
 pub loop-k-preserved : goal.loop-k-preserved

@@ -1,4 +1,4 @@
-use Rattle.std.proofs.Common.{◌≡◌, ◌∙◌, ap, arith, refl, Some, ℤ}
+use Rattle.std.proofs.Common.{ap, arith, refl, Some}
 use Rattle.std.specs.Int.{w64}
 use Rattle.std.proofs.lemmas.Int.{to_z_pos}
 use Rattle.sg_gen.proofs.Assembled.{free-parts}

@@ -1,4 +1,4 @@
-use Rattle.std.proofs.Common.{◌≡◌, sym, subst, None}
+use Rattle.std.proofs.Common.{sym, subst}
 use Rattle.sg_model.specs.Limits.{IsGame}
 use Rattle.sg_gen.proofs.Kept.{made-is-game}
 use Rattle.sg_gen.proofs.made.make_game.Goals as goal

@@ -1,7 +1,4 @@
-use Rattle.std.proofs.Common.{◌≡◌, ◌∙◌, ◌+◌, List, ℕ, ap, sym, arith, length, string_bytes}
-use Rattle.sg_game.specs.Seen.{named_of}
-use Rattle.sg_gen.specs.Generated.{named_lists, numbered}
-use Rattle.sg_gen.specs.Making.{member_lists}
+use Rattle.std.proofs.Common.{ap, length}
 use Rattle.sg_gen.proofs.Lists.{lists-named}
 use Rattle.sg_gen.proofs.names.named_lists.Goals as goal
 

@@ -1,4 +1,4 @@
-use Rattle.std.proofs.Common.{◌≡◌, ◌∙◌, ap, arith, lit<}
+use Rattle.std.proofs.Common.{◌∙◌, ap, arith, lit<}
 use Rattle.std.specs.Prelude.{◌==◌, decimal}
 use Rattle.std.specs.List.{before_first}
 use Rattle.sg_gen.proofs.Dashes.{before, digits-of, has_dash}

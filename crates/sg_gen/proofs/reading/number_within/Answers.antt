@@ -1,5 +1,5 @@
-use Rattle.std.proofs.Common.{◌≡◌, ◌∙◌, ◌<◌, ◌^◌, ap, arith, sym, true, false}
-use Rattle.sg_words.specs.Kinds.{is_of, number, number_read}
+use Rattle.std.proofs.Common.{◌≡◌, ◌∙◌, ap, arith, sym, true, false}
+use Rattle.sg_words.specs.Kinds.{is_of, number}
 use Rattle.sg_gen.proofs.Dashes.{decimal-of, of-decimal}
 use Rattle.sg_gen.proofs.reading.number_within.Goals as goal
 

@@ -1,4 +1,4 @@
-use Rattle.std.proofs.Common.{◌∙◌, List, ℤ, ap}
+use Rattle.std.proofs.Common.{◌∙◌, ℤ, ap}
 use Rattle.std.specs.Prelude.{Vec}
 use Rattle.std.specs.declared.alloc.Global.{Global}
 use Rattle.sg_game.specs.Seen.{number_lists}

@@ -1,7 +1,6 @@
 use Rattle.std.proofs.Common.{◌*◌}
-use Rattle.sg_game.specs.Seen.{number_lists}
 use Rattle.sg_gen.specs.Draws.{in_turn}
-use Rattle.sg_gen.specs.Generated.{block_row, drawn_pay, drawn_table, free_row}
+use Rattle.sg_gen.specs.Generated.{drawn_pay}
 use Rattle.sg_gen.specs.Making.{Draws}
 use Rattle.sg_gen.proofs.row.draw_pays.Given as goal
 
