@@ -7,13 +7,15 @@ use Rattle.std.proofs.lemmas.Slice.Eq.{bytes_eq-Decides}
 use Rattle.sg_model.specs.Limits.{IsCount}
 use Rattle.sg_gen.specs.declared.shape.Shape.{Shape}
 use Rattle.sg_gen.specs.declared.shape.Shape.TheVariants.{Free, Blocks, Table}
+use Rattle.sg_format.specs.GameText.{game_text}
+use Rattle.sg_gen.specs.Generated.{made_game}
 use Rattle.sg_gen.specs.Shapes.{IsShape, shape_text}
 use Rattle.sg_shelf.specs.Files.{Files, HandsOver}
 use Rattle.sg_shelf.specs.States.{ShelfState, SinkState}
 use Rattle.sg_cli.specs.Inputs.{Content}
 use Rattle.sg_cli.specs.Effects.{Fails, IsDone, surroundings}
 use Rattle.sg_cli.specs.ExpectedStatus.{ExpectedStatus}
-use Rattle.sg_cli.specs.Making.{SpellsShape, ends_made, making, refuses_text}
+use Rattle.sg_cli.specs.Making.{IsMadeText, SpellsShape, ends_made, making, refuses_text}
 use Rattle.sg_cli.specs.MakingSteps.{MakingFails, WritesMade}
 use Rattle.sg_cli.specs.Refusals.{own_status}
 use Rattle.sg_cli.specs.declared.refusal.CommandRefusal.{CommandRefusal}
@@ -24,6 +26,9 @@ use Rattle.sg_cli.proofs.OneStatus.{IsOne, just, one_refusal, one_taken}
 use Rattle.sg_cli.proofs.Progress.{none_read}
 
 -- ---- what is done
+
+pub made_of : (text : List ℕ) (seed : ℕ) (shape : Shape) (written : List ℕ) → IsShape shape → text ≡ shape_text shape → written ≡ game_text (made_game shape seed) → IsMadeText text seed written
+made_of text seed shape written in_range spells is = record { of = record { shape = shape; in_range = in_range; spelled = spells }; is_text = is }
 
 module _ (hands : HandsOver) (shelf : ShelfState) (text : List ℕ) (seed : ℕ) (before after : SinkState) where
   pub done_making : (status : ℕ) → WritesMade text seed before after status → IsDone hands (making text seed) (surroundings shelf before) (surroundings shelf after) status
@@ -51,8 +56,21 @@ Told P = P ⊎ (¬ P)
 
 both_told : (P Q : Type 0) → Told P → Told Q → Told (P × Q)
 both_told P Q (inl p) (inl q) = inl (p, q)
-both_told P Q (inl p) (inr no) = inr (λ h. no h.1)
-both_told P Q (inr no) q = inr (λ h. no h.0)
+both_told P Q (inl p) (inr other) = inr (λ h. other h.1)
+both_told P Q (inr other) q = inr (λ h. other h.0)
+
+three_told : (P Q R : Type 0) → Told P → Told Q → Told R → Told (P × Q × R)
+three_told P Q R (inl p) (inl q) (inl r) = inl (p, q, r)
+three_told P Q R (inl p) (inl q) (inr other) = inr (λ h. other h.2)
+three_told P Q R (inl p) (inr other) r = inr (λ h. other h.1)
+three_told P Q R (inr other) q r = inr (λ h. other h.0)
+
+four_told : (P Q R S : Type 0) → Told P → Told Q → Told R → Told S → Told (P × Q × R × S)
+four_told P Q R S (inl p) (inl q) (inl r) (inl x) = inl (p, q, r, x)
+four_told P Q R S (inl p) (inl q) (inl r) (inr other) = inr (λ h. other h.3)
+four_told P Q R S (inl p) (inl q) (inr other) x = inr (λ h. other h.2)
+four_told P Q R S (inl p) (inr other) r x = inr (λ h. other h.1)
+four_told P Q R S (inr other) q r x = inr (λ h. other h.0)
 
 same_text : (a b : List ℕ) → Told (a ≡ b)
 same_text a b =
@@ -78,8 +96,8 @@ some_below P each (suc n) = later (each n) (some_below P each n)
   where
     later : Told (P n) → ((k : ℕ) × P k) ⊎ ((k : ℕ) → k < n → ¬ (P k)) → ((k : ℕ) × P k) ⊎ ((k : ℕ) → k < suc n → ¬ (P k))
     later (inl p) rest = inl (n, p)
-    later (inr no) (inl found) = inl found
-    later (inr no) (inr none) = inr (λ k lt. elim (cases_lt k n) [ inl less ↦ none k less | inr least ↦ (let e : k ≡ n = omega (arith, lt, least) in λ p. no (subst P e p)) ])
+    later (inr other) (inl found) = inl found
+    later (inr other) (inr none) = inr (λ k lt. elim (cases_lt k n) [ inl less ↦ none k less | inr least ↦ (let e : k ≡ n = omega (arith, lt, least) in λ p. other (subst P e p)) ])
 
 some_number : (P : ℕ → Type 0) (n : ℕ) → ((k : ℕ) → Told (P k)) → ((k : ℕ) → P k → k < n) → Told ((k : ℕ) × P k)
 some_number P n each bound = elim (some_below P each n) [ inl found ↦ inl found | inr none ↦ inr (λ found. none found.0 (bound found.0 found.1) found.1) ]
@@ -102,10 +120,10 @@ module _ (text : List ℕ) where
       (λ b. some_number (λ w. (s : ℕ) × Spells (Blocks b w s)) 11
       (λ w. some_number (λ s. Spells (Blocks b w s)) 1001
       (λ s. both_told (IsShape (Blocks b w s)) (text ≡ shape_text (Blocks b w s))
-      (both_told (IsCount 1 8 b) (IsCount 2 10 w × IsCount 1 1000 s) (count_told 1 8 b) (both_told (IsCount 2 10 w) (IsCount 1 1000 s) (count_told 2 10 w) (count_told 1 1000 s)))
+      (three_told (IsCount 1 8 b) (IsCount 2 10 w) (IsCount 1 1000 s) (count_told 1 8 b) (count_told 2 10 w) (count_told 1 1000 s))
       (same_text text (shape_text (Blocks b w s))))
-      (λ s h. omega (arith, h.0.1.1.at_most)))
-      (λ w h. omega (arith, h.1.0.1.0.at_most)))
+      (λ s h. omega (arith, h.0.2.at_most)))
+      (λ w h. omega (arith, h.1.0.1.at_most)))
       (λ b h. omega (arith, h.1.1.0.0.at_most))
 
   few_told : (n : ℕ) → Told (n ≤ 200000)
@@ -117,11 +135,10 @@ module _ (text : List ℕ) where
       (λ r. some_number (λ a. (l : ℕ) × Spells (Table r a l)) 65
       (λ a. some_number (λ l. Spells (Table r a l)) 9
       (λ l. both_told (IsShape (Table r a l)) (text ≡ shape_text (Table r a l))
-      (both_told (IsCount 1 4096 r) (IsCount 1 64 a × (IsCount 1 8 l × (r * a * l ≤ 200000))) (count_told 1 4096 r)
-      (both_told (IsCount 1 64 a) (IsCount 1 8 l × (r * a * l ≤ 200000)) (count_told 1 64 a) (both_told (IsCount 1 8 l) (r * a * l ≤ 200000) (count_told 1 8 l) (few_told (r * a * l)))))
+      (four_told (IsCount 1 4096 r) (IsCount 1 64 a) (IsCount 1 8 l) (r * a * l ≤ 200000) (count_told 1 4096 r) (count_told 1 64 a) (count_told 1 8 l) (few_told (r * a * l)))
       (same_text text (shape_text (Table r a l))))
-      (λ l h. omega (arith, h.0.1.1.0.at_most)))
-      (λ a h. omega (arith, h.1.0.1.0.at_most)))
+      (λ l h. omega (arith, h.0.2.at_most)))
+      (λ a h. omega (arith, h.1.0.1.at_most)))
       (λ r h. omega (arith, h.1.1.0.0.at_most))
 
   none_spelled : ¬ ((t : ℕ) × ((p : ℕ) × Spells (Free t p))) → ¬ ((b : ℕ) × ((w : ℕ) × ((s : ℕ) × Spells (Blocks b w s)))) → ¬ ((r : ℕ) × ((a : ℕ) × ((l : ℕ) × Spells (Table r a l)))) → (shape : Shape) → ¬ (Spells shape)
