@@ -9,12 +9,36 @@ use std::test::*;
 
 /// A shape, a seed and the text of their game.
 static GAMES: [(&str, &str, &str); 6] = [
-    ("blocks-1-2-1", "0", "version = 1\nform = \"security\"\ntargets = [\"t1\", \"t2\"]\n\n[[schedule]]\nname = \"s1\"\ntargets = [\"t1\"]\n\n[[schedule]]\nname = \"s2\"\ntargets = [\"t2\"]\n\n[[schedule]]\nname = \"s3\"\ntargets = [\"t1\", \"t2\"]\n\n[[resource]]\nname = \"r1\"\nschedules = [\"s1\", \"s2\", \"s3\"]\n\n[[type]]\nname = \"a1\"\nprior = 1\npayoffs = [[0, -1, 0, 1], [0, -1, 0, 1]]\n"),
-    ("blocks-2-2-9", "5", "version = 1\nform = \"security\"\ntargets = [\"t1\", \"t2\", \"t3\", \"t4\"]\n\n[[schedule]]\nname = \"s1\"\ntargets = [\"t1\"]\n\n[[schedule]]\nname = \"s2\"\ntargets = [\"t2\"]\n\n[[schedule]]\nname = \"s3\"\ntargets = [\"t1\", \"t2\"]\n\n[[schedule]]\nname = \"s4\"\ntargets = [\"t3\"]\n\n[[schedule]]\nname = \"s5\"\ntargets = [\"t4\"]\n\n[[schedule]]\nname = \"s6\"\ntargets = [\"t3\", \"t4\"]\n\n[[resource]]\nname = \"r1\"\nschedules = [\"s1\", \"s2\", \"s3\"]\n\n[[resource]]\nname = \"r2\"\nschedules = [\"s4\", \"s5\", \"s6\"]\n\n[[type]]\nname = \"a1\"\nprior = 1\npayoffs = [[0, -6, 0, 6], [0, -5, 0, 5], [0, -4, 0, 4], [0, -5, 0, 5]]\n"),
-    ("free-2-1", "7", "version = 1\nform = \"security\"\nscale = 4294967296\npatrols = 1\ntargets = [\"t1\", \"t2\"]\n\n[[type]]\nname = \"a1\"\nprior = 1\npayoffs = [[796, -415, -157, 524131], [739, -238, -722, 1326]]\n"),
-    ("free-1-0", "18446744073709551615", "version = 1\nform = \"security\"\nscale = 4294967296\npatrols = 0\ntargets = [\"t1\"]\n\n[[type]]\nname = \"a1\"\nprior = 1\npayoffs = [[332, -707, -66, 8126]]\n"),
-    ("matrix-2-3-2", "18446744073709551615", "version = 1\nform = \"matrix\"\nrows = [\"r1\", \"r2\"]\n\n[[type]]\nname = \"a1\"\nprior = 1\nactions = [\"x1\", \"x2\", \"x3\"]\nleader = [[-4, 9, -1], [-1, 0, 5]]\nfollower = [[-8, -10, -8], [-3, -2, 6]]\n\n[[type]]\nname = \"a2\"\nprior = 1\nactions = [\"x1\", \"x2\", \"x3\"]\nleader = [[2, -10, -4], [-2, 5, 3]]\nfollower = [[10, -5, 9], [-7, 8, -9]]\n"),
-    ("matrix-1-1-1", "0", "version = 1\nform = \"matrix\"\nrows = [\"r1\"]\n\n[[type]]\nname = \"a1\"\nprior = 1\nactions = [\"x1\"]\nleader = [[2]]\nfollower = [[8]]\n"),
+    (
+        "blocks-1-2-1",
+        "0",
+        "version = 1\nform = \"security\"\ntargets = [\"t1\", \"t2\"]\n\n[[schedule]]\nname = \"s1\"\ntargets = [\"t1\"]\n\n[[schedule]]\nname = \"s2\"\ntargets = [\"t2\"]\n\n[[schedule]]\nname = \"s3\"\ntargets = [\"t1\", \"t2\"]\n\n[[resource]]\nname = \"r1\"\nschedules = [\"s1\", \"s2\", \"s3\"]\n\n[[type]]\nname = \"a1\"\nprior = 1\npayoffs = [[0, -1, 0, 1], [0, -1, 0, 1]]\n",
+    ),
+    (
+        "blocks-2-2-9",
+        "5",
+        "version = 1\nform = \"security\"\ntargets = [\"t1\", \"t2\", \"t3\", \"t4\"]\n\n[[schedule]]\nname = \"s1\"\ntargets = [\"t1\"]\n\n[[schedule]]\nname = \"s2\"\ntargets = [\"t2\"]\n\n[[schedule]]\nname = \"s3\"\ntargets = [\"t1\", \"t2\"]\n\n[[schedule]]\nname = \"s4\"\ntargets = [\"t3\"]\n\n[[schedule]]\nname = \"s5\"\ntargets = [\"t4\"]\n\n[[schedule]]\nname = \"s6\"\ntargets = [\"t3\", \"t4\"]\n\n[[resource]]\nname = \"r1\"\nschedules = [\"s1\", \"s2\", \"s3\"]\n\n[[resource]]\nname = \"r2\"\nschedules = [\"s4\", \"s5\", \"s6\"]\n\n[[type]]\nname = \"a1\"\nprior = 1\npayoffs = [[0, -6, 0, 6], [0, -5, 0, 5], [0, -4, 0, 4], [0, -5, 0, 5]]\n",
+    ),
+    (
+        "free-2-1",
+        "7",
+        "version = 1\nform = \"security\"\nscale = 4294967296\npatrols = 1\ntargets = [\"t1\", \"t2\"]\n\n[[type]]\nname = \"a1\"\nprior = 1\npayoffs = [[796, -415, -157, 524131], [739, -238, -722, 1326]]\n",
+    ),
+    (
+        "free-1-0",
+        "18446744073709551615",
+        "version = 1\nform = \"security\"\nscale = 4294967296\npatrols = 0\ntargets = [\"t1\"]\n\n[[type]]\nname = \"a1\"\nprior = 1\npayoffs = [[332, -707, -66, 8126]]\n",
+    ),
+    (
+        "matrix-2-3-2",
+        "18446744073709551615",
+        "version = 1\nform = \"matrix\"\nrows = [\"r1\", \"r2\"]\n\n[[type]]\nname = \"a1\"\nprior = 1\nactions = [\"x1\", \"x2\", \"x3\"]\nleader = [[-4, 9, -1], [-1, 0, 5]]\nfollower = [[-8, -10, -8], [-3, -2, 6]]\n\n[[type]]\nname = \"a2\"\nprior = 1\nactions = [\"x1\", \"x2\", \"x3\"]\nleader = [[2, -10, -4], [-2, 5, 3]]\nfollower = [[10, -5, 9], [-7, 8, -9]]\n",
+    ),
+    (
+        "matrix-1-1-1",
+        "0",
+        "version = 1\nform = \"matrix\"\nrows = [\"r1\"]\n\n[[type]]\nname = \"a1\"\nprior = 1\nactions = [\"x1\"]\nleader = [[2]]\nfollower = [[8]]\n",
+    ),
 ];
 
 /// Whether this is made with nothing read.
@@ -38,7 +62,10 @@ fn makes_games(rt: HostRuntime) -> Result<(), AllocError> {
             out,
             err: "",
         };
-        assert!(rt; is_made(rt.alloc(), shape, seed, &NO_PUT, &expected)?, "{shape} {seed}");
+        assert!(rt;
+            is_made(rt.alloc(), shape, seed, &NO_PUT, &expected)?,
+            "{shape} {seed}"
+        );
     }
     Ok(())
 }
@@ -77,7 +104,10 @@ fn refuses_other_shapes_and_seeds(rt: HostRuntime) -> Result<(), AllocError> {
         err: "words refused\n",
     };
     for (shape, seed) in REFUSED {
-        assert!(rt; is_made(rt.alloc(), shape, seed, &NO_PUT, &expected)?, "{shape} {seed}");
+        assert!(rt;
+            is_made(rt.alloc(), shape, seed, &NO_PUT, &expected)?,
+            "{shape} {seed}"
+        );
     }
     Ok(())
 }
@@ -116,8 +146,20 @@ fn is_solved(alloc: Global, shape: &str, seed: &str) -> Result<bool, AllocError>
     let mut made = sink_of(alloc, &[], 0)?;
     let mut solved = sink_of(alloc, &[], 0)?;
     let mut checked = sink_of(alloc, &[], 0)?;
-    let first = ran(alloc, &["make", shape, seed], b"".as_slice(), None, &mut made)?;
-    let second = ran(alloc, &["solve", "game.toml"], made.bytes(), None, &mut solved)?;
+    let first = ran(
+        alloc,
+        &["make", shape, seed],
+        b"".as_slice(),
+        None,
+        &mut made,
+    )?;
+    let second = ran(
+        alloc,
+        &["solve", "game.toml"],
+        made.bytes(),
+        None,
+        &mut solved,
+    )?;
     let report = match str::from_utf8(solved.bytes()) {
         Ok(report) => report,
         Err(_) => return Ok(false),
