@@ -8,6 +8,7 @@ memory, the seconds of its `check` of the same report (reading and checking alon
 before, to a file, and the ratio of the two.
 """
 import csv
+import itertools
 import os
 import sys
 import tempfile
@@ -62,7 +63,7 @@ def python_seconds(source, target):
     with open(source, newline="") as rows, open(target, "w", newline="") as file:
         reader, writer = csv.reader(rows), csv.writer(file, lineterminator="\n")
         while True:
-            block = [row for row, _ in zip(reader, range(10_000))]
+            block = list(itertools.islice(reader, 10_000))
             start = time.perf_counter()
             if not block:
                 file.flush()
