@@ -23,7 +23,7 @@ module _ (files : Files) (name named : List ℕ) (seed : ℕ) (w : IsWritten fil
   both_read : (status : ℕ) → ByRest (rostering name named seed) files (game w.solved ∷ report w.answer.report ∷ []) [] status → ExpectedStatus (rostering name named seed) files status
   both_read status due =
       by_said any_bytes (rostering name named seed) files status [] (game_file name) (report_file named ∷ []) (game w.solved) starts (says_game files name named w)
-      (by_said any_bytes (rostering name named seed) files status (game w.solved ∷ []) (report_file named) [] (report w.answer.report) (takes_one (game w.solved) (origami w.solved is_game w.is_solved).one_type)
+      (by_said any_bytes (rostering name named seed) files status (game w.solved ∷ []) (report_file named) [] (report w.answer.report) (takes_one (game w.solved) tt)
       (says_report files name named w is_game) due)
 
   few_written : ¬ (IsLongTotal w.answer.report.tickets.total) → ExpectedStatus (rostering name named seed) files 0

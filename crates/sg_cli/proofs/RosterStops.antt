@@ -174,7 +174,7 @@ module _ (hands : HandsOver) (name named : List ℕ) where
       record {
         of = r;
         read = subst (λ (x : Game). HasRead hands a b (game_file name ∷ report_file named ∷ []) (game x ∷ report r ∷ [])) (sym o.same) h.read;
-        first = subst (λ (x : Game). IsRostered (game x ∷ [])) (sym o.same) (takes_one (game first) h.is_checked);
+        first = subst (λ (x : Game). IsRostered (game x ∷ [])) (sym o.same) (takes_one (game first) tt);
         whole = subst (λ (x : Game). IsRostered (game x ∷ report r ∷ [])) (sym o.same) (record { accepted = h.judged; few = λ total long. o.few (subst IsLongTotal (sym long.0) long.1) });
         order = record {
           same = refl;
