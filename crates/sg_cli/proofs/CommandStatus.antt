@@ -1,14 +1,19 @@
 -- Told files decide one status for each command of the list, and each ends with a status of success.
 use Rattle.std.proofs.Common.{◌≡◌, ◌≢◌, ◌⊎◌, ℕ, Bool, true, false, List, Option, Result, Ok, Err, IfOk, IfErr, Some, sym, ◌∙◌, subst, inl, inr}
-use Rattle.sg_words.specs.Commands.{Asked, solve, check, show, roster}
+use Rattle.sg_words.specs.Commands.{Asked, solve, check, show, roster, make}
 use Rattle.sg_cli.specs.Inputs.{Content}
 use Rattle.sg_cli.specs.Checking.{ends_yes, writes_yes, yes_status}
 use Rattle.sg_cli.specs.CommandList.{command_for}
-use Rattle.sg_cli.specs.Effects.{Fails, IsDone}
+use Rattle.sg_shelf.specs.Files.{HandsOver}
+use Rattle.sg_shelf.specs.States.{ShelfState, SinkState}
+use Rattle.sg_cli.specs.Effects.{Fails, IsDone, surroundings}
+use Rattle.sg_cli.specs.Making.{making}
+use Rattle.sg_cli.specs.MakingSteps.{MakingFails, WritesMade}
 use Rattle.sg_cli.specs.Showing.{ends_shown, writes_table}
 use Rattle.sg_cli.specs.Laws.{OneStatusIsDue}
 use Rattle.sg_cli.specs.Runs.{ComesOf, DoesCommand, FormsFirst, Observation}
 use Rattle.sg_cli.proofs.JudgingStatus.{one_judging, success_checking, success_showing}
+use Rattle.sg_cli.proofs.MakingStatus.{done_making, fails_making, one_making, success_making}
 use Rattle.sg_cli.proofs.OneStatus.{just}
 use Rattle.sg_cli.proofs.RosterStatus.{one_rostering, success_rostering}
 use Rattle.sg_cli.proofs.SolvingStatus.{one_solving, success_solving}
@@ -20,6 +25,7 @@ one_status files (solve name) = one_solving files name
 one_status files (check name named) = one_judging files name named ends_yes writes_yes (λ g r. just (yes_status r))
 one_status files (show name named) = one_judging files name named ends_shown writes_table (λ g r. just 0)
 one_status files (roster name named seed) = one_rostering files name named seed
+one_status files (make text seed) = one_making files text seed
 
 -- ---- success
 
@@ -28,6 +34,7 @@ success (solve name) = success_solving
 success (check name named) = success_checking
 success (show name named) = success_showing
 success (roster name named seed) = success_rostering
+success (make text seed) = success_making
 
 -- no other status is one of a command that was done
 pub no_other : (o : Observation) (status : ℕ) → DoesCommand o status → status ≢ 0 → status ≢ 10 → ⊥
@@ -62,3 +69,14 @@ module _ (o : Observation) (asked : Asked) (asks : o.asked ≡ Some asked) where
   comes (Err (Own own)) h = record { asked = asked; asks = asks; fails = h }
   comes (Err NotWritten) h = record { asked = asked; asks = asks; fails = h }
   comes (Err Memory) h = inl (record { asked = asked; asks = asks; fails = h })
+
+-- ---- a command that reads nothing
+
+module _ (hands : HandsOver) (shelf : ShelfState) (text : List ℕ) (seed : ℕ) (before after : SinkState) where
+  pub makes : (r : Result ℕ Refusal) → IfOk r (WritesMade text seed before after) → IfOk r (IsDone hands (making text seed) (surroundings shelf before) (surroundings shelf after))
+  makes (Ok status) h = done_making hands shelf text seed before after status h
+  makes (Err refusal) h = tt
+
+  pub makes_not : (r : Result ℕ Refusal) → IfErr r (MakingFails text seed before after) → IfErr r (Fails hands (making text seed) (surroundings shelf before) (surroundings shelf after))
+  makes_not (Ok status) h = tt
+  makes_not (Err refusal) h = fails_making hands shelf text seed before after refusal h

@@ -22,7 +22,7 @@ use Rattle.sg_cli.specs.Refusals.{own_status}
 use Rattle.sg_cli.proofs.OneStatus.{IsOne, formed, just, one_file, one_game, one_refusal, one_report, one_taken}
 use Rattle.sg_cli.specs.declared.input.InputKind.TheVariants as kinds
 use Rattle.sg_cli.specs.declared.refusal.CommandRefusal.{CommandRefusal}
-use Rattle.sg_cli.specs.declared.refusal.CommandRefusal.TheVariants.{NotYet, ReportWrong, RosterTooLong}
+use Rattle.sg_cli.specs.declared.refusal.CommandRefusal.TheVariants.{NotYet, ReportWrong, RosterTooLong, NoShape}
 
 -- ---- what is refused
 
@@ -30,16 +30,19 @@ no_game : (g : Game) (own : CommandRefusal) → ¬ (refuses_wrong (game g ∷ []
 no_game g NotYet h = h
 no_game g (ReportWrong line reason) h = h
 no_game g (RosterTooLong total) h = h
+no_game g NoShape h = h
 
 wrong_report : (g : Game) (r : Report) (own : CommandRefusal) → refuses_wrong (game g ∷ report r ∷ []) own → own_status own ≡ 7
 wrong_report g r NotYet h = absurd h
 wrong_report g r (ReportWrong line reason) h = refl
 wrong_report g r (RosterTooLong total) h = absurd h
+wrong_report g r NoShape h = absurd h
 
 right_report : (g : Game) (r : Report) → IsAccepted g r → (own : CommandRefusal) → ¬ (refuses_wrong (game g ∷ report r ∷ []) own)
 right_report g r is NotYet h = h
 right_report g r is (ReportWrong line reason) h = (refusal_is_one g r).0 is line reason h
 right_report g r is (RosterTooLong total) h = h
+right_report g r is NoShape h = h
 
 -- ---- by the files
 

@@ -3,6 +3,7 @@ pub mod Completes
 pub mod Formed
 pub mod JudgingStatus
 pub mod Lengths
+pub mod MakingStatus
 pub mod OneStatus
 pub mod Outcomes
 pub mod Pairs

@@ -69,5 +69,6 @@ not_success (Refused (faults.Report fault)) status e = (λ z. absurd (omega (ari
 not_success (Own owns.NotYet) status e = (λ z. absurd (omega (arith, e, z)), λ z. absurd (omega (arith, e, z)))
 not_success (Own (owns.ReportWrong line reason)) status e = (λ z. absurd (omega (arith, e, z)), λ z. absurd (omega (arith, e, z)))
 not_success (Own (owns.RosterTooLong total)) status e = (λ z. absurd (omega (arith, e, z)), λ z. absurd (omega (arith, e, z)))
+not_success (Own owns.NoShape) status e = (λ z. absurd (omega (arith, e, z)), λ z. absurd (omega (arith, e, z)))
 not_success NotWritten status e = (λ z. absurd (omega (arith, e, z)), λ z. absurd (omega (arith, e, z)))
 not_success Memory status e = (λ z. absurd (omega (arith, e, z)), λ z. absurd (omega (arith, e, z)))

@@ -1,7 +1,6 @@
 -- What `solve` writes gets its roster.
 use Rattle.std.proofs.Common.{ℕ, List, [], ◌∷◌, refl, sym, subst, inl, inr}
 use Rattle.sg_model.specs.Limits.{IsGame}
-use Rattle.sg_model.proofs.Promises.{origami}
 use Rattle.sg_format.proofs.Accepted.{accepted}
 use Rattle.sg_shelf.specs.Files.{Files, any_bytes}
 use Rattle.sg_tickets.specs.Expansion.{IsLongTotal}

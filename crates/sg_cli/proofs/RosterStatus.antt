@@ -17,7 +17,7 @@ use Rattle.sg_cli.specs.Rostering.{ends_rostered, refuses_unrostered, rostering,
 use Rattle.sg_cli.specs.declared.input.InputFault.TheVariants as faults
 use Rattle.sg_cli.specs.declared.input.InputKind.TheVariants as kinds
 use Rattle.sg_cli.specs.declared.refusal.CommandRefusal.{CommandRefusal}
-use Rattle.sg_cli.specs.declared.refusal.CommandRefusal.TheVariants.{NotYet, ReportWrong, RosterTooLong}
+use Rattle.sg_cli.specs.declared.refusal.CommandRefusal.TheVariants.{NotYet, ReportWrong, RosterTooLong, NoShape}
 use Rattle.sg_cli.proofs.JudgingStatus.{one_judging}
 use Rattle.sg_cli.proofs.OneStatus.{IsOne}
 use Rattle.sg_cli.proofs.RosterStops.{refuses_so, starts, takes_one}
@@ -76,12 +76,14 @@ module _ (files : Files) (name named : List ℕ) (seed : ℕ) where
   back_one : (content : Content) (own : CommandRefusal) → refuses_unrostered (content ∷ []) own → refuses_wrong (content ∷ []) own
   back_one content NotYet h = h
   back_one content (ReportWrong line reason) h = h
+  back_one content NoShape h = h
   back_one (game g) (RosterTooLong total) h = absurd h.long
   back_one (report r) (RosterTooLong total) h = absurd h.long
 
   back_none : (own : CommandRefusal) → refuses_unrostered [] own → refuses_wrong [] own
   back_none NotYet h = h
   back_none (ReportWrong line reason) h = h
+  back_none NoShape h = h
   back_none (RosterTooLong total) h = absurd h.long
 
   module _ (status : ℕ) where
@@ -94,6 +96,7 @@ module _ (files : Files) (name named : List ℕ) (seed : ℕ) where
     back_both : (g : Game) (r : Report) → ByRest (rostering name named seed) files (game g ∷ report r ∷ []) [] status → ByRest judged files (game g ∷ report r ∷ []) [] status
     back_both g r (inl (NotYet, h, e)) = inl (NotYet, h, e)
     back_both g r (inl (ReportWrong line reason, h, e)) = inl (ReportWrong line reason, h, e)
+    back_both g r (inl (NoShape, h, e)) = inl (NoShape, h, e)
     back_both g r (inl (RosterTooLong total, h, e)) = inr (h.accepted, inl (subst IsLongTotal (sym h.long.0) h.long.1, e))
     back_both g r (inr (takes, e)) = inr (takes.accepted, inr (λ long. takes.few r.tickets.total (refl, long), e))
 

@@ -26,7 +26,7 @@ use Rattle.sg_cli.specs.RosterSteps.{HasOrder, HasRoster, OrderFails}
 use Rattle.sg_cli.specs.Steps.{HasAccepted}
 use Rattle.sg_cli.specs.Rostering.{HasLongTotal, IsRoster, IsRostered, refuses_unrostered, rostering, rostering_plan}
 use Rattle.sg_cli.specs.declared.refusal.CommandRefusal.{CommandRefusal}
-use Rattle.sg_cli.specs.declared.refusal.CommandRefusal.TheVariants.{NotYet, ReportWrong, RosterTooLong}
+use Rattle.sg_cli.specs.declared.refusal.CommandRefusal.TheVariants.{NotYet, ReportWrong, RosterTooLong, NoShape}
 use Rattle.sg_cli.specs.declared.refusal.Refusal.{Refusal}
 use Rattle.sg_cli.specs.declared.refusal.Refusal.TheVariants.{Words, NotRead, TooLong, Refused, Own, NotWritten, Memory}
 use Rattle.sg_cli.proofs.Progress.{all_read}
@@ -57,6 +57,7 @@ pub refuses_so : (contents : List Content) (own : CommandRefusal) → refuses_wr
 refuses_so contents NotYet h = h
 refuses_so contents (ReportWrong line reason) h = h
 refuses_so contents (RosterTooLong total) h = absurd (no_total contents total h)
+refuses_so contents NoShape h = h
 
 -- ---- the order of the tickets
 
@@ -154,6 +155,7 @@ module _ (hands : HandsOver) (name named : List ℕ) where
     stops_ordering first whole (Refused fault) h = absurd h
     stops_ordering first whole (Own NotYet) h = absurd h
     stops_ordering first whole (Own (ReportWrong line reason)) h = absurd h
+    stops_ordering first whole (Own NoShape) h = absurd h
     stops_ordering first whole (Own (RosterTooLong total)) h =
         record {
           front = game_file name ∷ report_file named ∷ [];

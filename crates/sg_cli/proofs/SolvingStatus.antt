@@ -11,18 +11,20 @@ use Rattle.sg_cli.specs.Solving.{IsSolved, ends_solved, solving}
 use Rattle.sg_cli.proofs.OneStatus.{IsOne, just, one_file, one_game, one_refusal, one_taken}
 use Rattle.sg_cli.specs.declared.input.InputKind.TheVariants as kinds
 use Rattle.sg_cli.specs.declared.refusal.CommandRefusal.{CommandRefusal}
-use Rattle.sg_cli.specs.declared.refusal.CommandRefusal.TheVariants.{NotYet, ReportWrong, RosterTooLong}
+use Rattle.sg_cli.specs.declared.refusal.CommandRefusal.TheVariants.{NotYet, ReportWrong, RosterTooLong, NoShape}
 
 module _ (files : Files) (name : List ℕ) where
   no_refusal : (g : Game) → is_scaled g ≡ true → (own : CommandRefusal) → ¬ ((solving name).plan.refuses (game g ∷ []) own)
   no_refusal g e NotYet h = h e
   no_refusal g e (ReportWrong line reason) h = h
   no_refusal g e (RosterTooLong total) h = h
+  no_refusal g e NoShape h = h
 
   same : (g : Game) (own : CommandRefusal) → (solving name).plan.refuses (game g ∷ []) own → own_status own ≡ 3
   same g NotYet h = refl
   same g (ReportWrong line reason) h = absurd h
   same g (RosterTooLong total) h = absurd h
+  same g NoShape h = absurd h
 
   -- by a game that was read
   by_game : (g : Game) (b : Bool) → is_scaled g ≡ b → IsOne (ByRest (solving name) files (game g ∷ []) [])

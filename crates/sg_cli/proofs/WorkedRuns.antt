@@ -74,6 +74,7 @@ worked_refusals =
       report_refused = (refl, rw (nine, line_23) refl);
       report_wrong = (refl, rw (six, line_18) refl);
       roster_too_long = (refl, rw million_and_one refl);
+      no_shape = (refl, refl);
       not_written = (refl, refl);
       memory = (refl, refl);
     }

@@ -8,7 +8,7 @@ use Rattle.sg_cli.specs.declared.input.InputKind.TheVariants as kinds
 use Rattle.sg_cli.specs.declared.input.InputFault.{InputFault}
 use Rattle.sg_cli.specs.declared.input.InputFault.TheVariants as faults
 use Rattle.sg_cli.specs.declared.refusal.CommandRefusal.{CommandRefusal}
-use Rattle.sg_cli.specs.declared.refusal.CommandRefusal.TheVariants.{NotYet, ReportWrong, RosterTooLong}
+use Rattle.sg_cli.specs.declared.refusal.CommandRefusal.TheVariants.{NotYet, ReportWrong, RosterTooLong, NoShape}
 use Rattle.sg_cli.specs.declared.refusal.Refusal.{Refusal}
 use Rattle.sg_cli.specs.declared.refusal.Refusal.TheVariants.{Words, NotRead, TooLong, Refused, Own, NotWritten, Memory}
 
@@ -24,6 +24,7 @@ abbrev pub own_status : CommandRefusal → ℕ
 own_status NotYet = 3
 own_status (ReportWrong line reason) = 7
 own_status (RosterTooLong total) = 8
+own_status NoShape = 2
 
 -- the status with which a run ends
 abbrev pub status_of : Refusal → ℕ
@@ -63,6 +64,7 @@ abbrev pub own_line : CommandRefusal → List ℕ
 own_line NotYet = codes "not yet\n"
 own_line (ReportWrong line reason) = codes "no " ++ at_line_text reason line
 own_line (RosterTooLong total) = codes "roster too long " ++ (signed_decimal total ++ codes "\n")
+own_line NoShape = codes "words refused\n"
 
 -- the line that tells it
 abbrev pub line_of : Refusal → List ℕ
@@ -79,6 +81,7 @@ abbrev pub own_has_numbers : CommandRefusal → Type 0
 own_has_numbers NotYet = ⊥
 own_has_numbers (ReportWrong line reason) = Unit {0}
 own_has_numbers (RosterTooLong total) = Unit {0}
+own_has_numbers NoShape = ⊥
 
 abbrev pub HasNumbers : Refusal → Type 0
 HasNumbers (Refused fault) = Unit {0}

@@ -10,7 +10,7 @@ use Rattle.sg_cli.specs.Inputs.{Content, game, game_file, report, report_file}
 use Rattle.sg_cli.specs.Commands.{Command, Plan}
 use Rattle.sg_cli.specs.Judging.{refuses_wrong, takes_accepted}
 use Rattle.sg_cli.specs.declared.refusal.CommandRefusal.{CommandRefusal}
-use Rattle.sg_cli.specs.declared.refusal.CommandRefusal.TheVariants.{NotYet, ReportWrong, RosterTooLong}
+use Rattle.sg_cli.specs.declared.refusal.CommandRefusal.TheVariants.{NotYet, ReportWrong, RosterTooLong, NoShape}
 
 -- a game and a report were read, whose tickets are more than a million: so many
 abbrev pub HasLongTotal : List Content → ℤ → Type 0
@@ -32,6 +32,7 @@ abbrev pub refuses_unrostered : List Content → CommandRefusal → Type 0
 refuses_unrostered contents NotYet = refuses_wrong contents NotYet
 refuses_unrostered contents (ReportWrong line reason) = refuses_wrong contents (ReportWrong line reason)
 refuses_unrostered contents (RosterTooLong total) = IsTooLongToRoster contents total
+refuses_unrostered contents NoShape = refuses_wrong contents NoShape
 
 -- with success, whether the report's bounds meet or not
 abbrev pub ends_rostered : List Content → ℕ → Type 0

@@ -20,7 +20,7 @@ use Rattle.sg_cli.specs.ExpectedStatus.{ExpectedStatus}
 use Rattle.sg_cli.specs.Refusals.{status_of, line_of}
 use Rattle.sg_cli.specs.declared.input.InputFault.TheVariants as faults
 use Rattle.sg_cli.specs.declared.input.InputKind.TheVariants as kinds
-use Rattle.sg_cli.specs.declared.refusal.CommandRefusal.TheVariants.{NotYet, ReportWrong, RosterTooLong}
+use Rattle.sg_cli.specs.declared.refusal.CommandRefusal.TheVariants.{NotYet, ReportWrong, RosterTooLong, NoShape}
 use Rattle.sg_cli.specs.declared.refusal.Refusal.{Refusal}
 use Rattle.sg_cli.specs.declared.refusal.Refusal.TheVariants.{Words, NotRead, TooLong, Refused, Own, NotWritten, Memory}
 
@@ -49,6 +49,7 @@ pub record WorkedRefusals : Type 0 where
   pub report_refused : IsToldExactly (Refused (faults.Report (record { line = 23; reason = 9 }))) 7 (codes "report refused 9 at line 23\n")
   pub report_wrong : IsToldExactly (Own (ReportWrong 18 6)) 7 (codes "no 6 at line 18\n")
   pub roster_too_long : IsToldExactly (Own (RosterTooLong (pos 1000001))) 8 (codes "roster too long 1000001\n")
+  pub no_shape : IsToldExactly (Own NoShape) 2 (codes "words refused\n")
   pub not_written : IsToldExactly NotWritten 9 (codes "write failed\n")
   pub memory : IsToldExactly Memory 11 (codes "want of memory\n")
 

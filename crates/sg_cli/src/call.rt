@@ -8,6 +8,7 @@ ghost use Rattle.sg_cli.specs.Runs.{Answers, ComesOf, DoesCommand, FormsFirst, I
 ghost use Rattle.sg_game.specs.Seen.{texts};
 
 use crate::checking::check_named;
+use crate::making::make_shaped;
 use crate::refusal::Refusal;
 use crate::rostering::roster_named;
 use crate::showing::show_named;
@@ -41,6 +42,7 @@ fn run_command<S: Shelf, O: Sink>(
         Ok(Some(Command::Roster { game, report, seed })) => {
             roster_named(alloc, game, report, seed, shelf, out)
         }
+        Ok(Some(Command::Make { shape, seed })) => make_shaped(alloc, shape, seed, out),
         Ok(None) => Err(Refusal::Words),
         Err(_) => Err(Refusal::Memory),
     }
@@ -48,7 +50,7 @@ fn run_command<S: Shelf, O: Sink>(
 
 /// Does what the words ask for, over the files of a shelf, and answers the status with which the program ends.
 ///
-/// `words` are the words after the program's name. A report, the line that accepts one, a table or a roster goes to
+/// `words` are the words after the program's name. A report, the line that accepts one, a table, a roster or a generated game goes to
 /// `out`, a refusal to `err` as one line.
 pub fn run<S: Shelf, O: Sink, E: Sink>(
     alloc: Global,

@@ -1,7 +1,7 @@
-//! The program's one call, [`run`]: words in; a report, a yes to one, a table, a roster or a refusal out.
+//! The program's one call, [`run`]: words in; a report, a yes to one, a table, a roster, a game or a refusal out.
 //!
 //! What it promises stands in `specs/Runs.antt` (`Answers`, `IsComplete`): what each command reads, takes, refuses and writes
-//! in a module of its own (`specs/Solving.antt`, `specs/Checking.antt`, `specs/Showing.antt`, `specs/Rostering.antt`); what that means for the shelf
+//! in a module of its own (`specs/Solving.antt`, `specs/Checking.antt`, `specs/Showing.antt`, `specs/Rostering.antt`, `specs/Making.antt`); what that means for the shelf
 //! and the outputs, for all commands at once, in `specs/Effects.antt`; which status told files decide in
 //! `specs/ExpectedStatus.antt`; and the status and line of each refusal in `specs/Refusals.antt`.
 //!
@@ -15,6 +15,7 @@ mod commitment;
 mod input;
 mod judging;
 mod laws;
+mod making;
 mod process;
 mod program;
 mod ranges;

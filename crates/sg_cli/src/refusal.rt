@@ -18,6 +18,8 @@ pub enum CommandRefusal {
     ReportWrong { line: u64, reason: u8 },
     /// The report is accepted, but its tickets are more than the days of a roster may be: so many.
     RosterTooLong { total: i128 },
+    /// The text is that of no shape of a generated game.
+    NoShape,
 }
 
 /// Why a run does not do what the words ask for. One refusal decides the status and the line.
@@ -90,6 +92,7 @@ impl CommandRefusal {
             CommandRefusal::NotYet => 3,
             CommandRefusal::ReportWrong { .. } => 7,
             CommandRefusal::RosterTooLong { .. } => 8,
+            CommandRefusal::NoShape => 2,
         }
     }
 
@@ -102,6 +105,7 @@ impl CommandRefusal {
             CommandRefusal::NotYet => "not yet\n",
             CommandRefusal::ReportWrong { .. } => unreachable!(),
             CommandRefusal::RosterTooLong { .. } => unreachable!(),
+            CommandRefusal::NoShape => "words refused\n",
         }
     }
 }

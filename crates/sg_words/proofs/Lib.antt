@@ -16,3 +16,4 @@ pub mod Written
 pub mod Worked
 pub mod WorkedRosters
 pub mod Numbered
+pub mod WorkedMakes

@@ -2,11 +2,11 @@
 use Rattle.std.specs.Prelude.{◌≡◌, ◌↔◌, ℕ, false, List, [], ◌∷◌, ◌++◌, All, Option, Some, None, option_and_then, find, codes, map}
 use Rattle.std.specs.Str.{bytes_eq}
 use Rattle.sg_words.specs.Words.{Text, Piece}
-use Rattle.sg_words.specs.Kinds.{any, number, number_read}
+use Rattle.sg_words.specs.Kinds.{Kind, any, number, number_read}
 use Rattle.sg_words.specs.Usages.{Setting, Usage, arguments_of, option_names, reading_of}
 use Rattle.sg_words.specs.Writing.{Spells}
 use Rattle.sg_words.specs.declared.command.Command.{Command}
-use Rattle.sg_words.specs.declared.command.Command.TheVariants.{Solve, Check, Show, Roster}
+use Rattle.sg_words.specs.declared.command.Command.TheVariants.{Solve, Check, Show, Roster, Make}
 
 -- what is asked for, with the texts that were given
 pub data Asked : Type 0 where
@@ -14,6 +14,7 @@ pub data Asked : Type 0 where
   check : (game report : Text) → Asked
   show : (game report : Text) → Asked
   roster : (game report : Text) (seed : ℕ) → Asked
+  make : (shape : Text) (seed : ℕ) → Asked
 
 -- a command's row, and what its arguments ask for
 pub record Form : Type 0 where
@@ -30,14 +31,23 @@ abbrev pub with_two : (Text → Text → Asked) → List Text → Option Asked
 with_two command (first ∷ second ∷ []) = Some (command first second)
 with_two command _ = None
 
+-- exactly one argument, and the number that a second writes
+abbrev pub with_one_and_number : (Text → ℕ → Asked) → List Text → Option Asked
+with_one_and_number command (first ∷ second ∷ []) = Some (command first (number_read second))
+with_one_and_number command _ = None
+
 -- exactly two arguments, and the number that a third writes
 abbrev pub with_two_and_number : (Text → Text → ℕ → Asked) → List Text → Option Asked
 with_two_and_number command (first ∷ second ∷ third ∷ []) = Some (command first second (number_read third))
 with_two_and_number command _ = None
 
--- the option `--seed`: a whole number below 2^64, and 0 where it isn't given
+-- a seed: a whole number below 2^64
+abbrev pub seed_kind : Kind
+seed_kind = number 0 18446744073709551615
+
+-- the option `--seed`, and 0 where it isn't given
 abbrev pub seed_setting : Setting
-seed_setting = record { name = codes "seed"; kind = number 0 18446744073709551615; default = codes "0" }
+seed_setting = record { name = codes "seed"; kind = seed_kind; default = codes "0" }
 
 -- the table of commands
 abbrev pub forms : List Form
@@ -45,6 +55,7 @@ forms = record { usage = record { name = codes "solve"; positionals = any ∷ []
     ∷ record { usage = record { name = codes "check"; positionals = any ∷ any ∷ []; options = [] }; asked = with_two check }
     ∷ record { usage = record { name = codes "show"; positionals = any ∷ any ∷ []; options = [] }; asked = with_two show }
     ∷ record { usage = record { name = codes "roster"; positionals = any ∷ any ∷ []; options = seed_setting ∷ [] }; asked = with_two_and_number roster }
+    ∷ record { usage = record { name = codes "make"; positionals = any ∷ seed_kind ∷ []; options = [] }; asked = with_one_and_number make }
     ∷ []
 
 -- its rows
@@ -88,3 +99,4 @@ asked_of (Solve game) = solve game.now
 asked_of (Check game report) = check game.now report.now
 asked_of (Show game report) = show game.now report.now
 asked_of (Roster game report seed) = roster game.now report.now seed
+asked_of (Make shape seed) = make shape.now seed

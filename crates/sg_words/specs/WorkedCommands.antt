@@ -1,7 +1,7 @@
--- Words of the program's own command with an option, as worked out by hand.
+-- Words of the program's own commands with numbers, as worked out by hand.
 use Rattle.std.specs.Prelude.{◌≡◌, ℕ, List, [], ◌∷◌, Option, Some, None, codes}
 use Rattle.sg_words.specs.Words.{Text}
-use Rattle.sg_words.specs.Commands.{Asked, command_given, roster}
+use Rattle.sg_words.specs.Commands.{Asked, command_given, make, roster}
 
 -- what words behind `roster` ask for
 abbrev pub rostered : List Text → Option Asked
@@ -25,3 +25,21 @@ pub record WorkedRosters : Type 0 where
   pub twice : rostered (codes "g" ∷ codes "r" ∷ codes "--seed=3" ∷ codes "--seed=3" ∷ []) ≡ None
   pub front : rostered (codes "g" ∷ codes "r" ∷ codes "--see" ∷ codes "3" ∷ []) ≡ None
   pub few : rostered (codes "g" ∷ codes "--seed=3" ∷ []) ≡ None
+
+-- what words behind `make` ask for
+abbrev pub made : List Text → Option Asked
+made words = command_given (codes "make" ∷ words)
+
+-- seeds of generated games; what the first word spells is not judged here
+pub record WorkedMakes : Type 0 where
+  pub least : made (codes "free-1-0" ∷ codes "0" ∷ []) ≡ Some (make (codes "free-1-0") 0)
+  pub greatest : made (codes "free-1-0" ∷ codes "18446744073709551615" ∷ []) ≡ Some (make (codes "free-1-0") 18446744073709551615)
+  pub any_text : made (codes "" ∷ codes "7" ∷ []) ≡ Some (make (codes "") 7)
+  pub past : made (codes "free-1-0" ∷ codes "18446744073709551616" ∷ []) ≡ None
+  pub leading_zero : made (codes "free-1-0" ∷ codes "01" ∷ []) ≡ None
+  pub empty : made (codes "free-1-0" ∷ codes "" ∷ []) ≡ None
+  pub signed : made (codes "free-1-0" ∷ codes "-1" ∷ []) ≡ None
+  pub signed_behind : made (codes "free-1-0" ∷ codes "--" ∷ codes "-1" ∷ []) ≡ None
+  pub few : made (codes "free-1-0" ∷ []) ≡ None
+  pub many : made (codes "free-1-0" ∷ codes "1" ∷ codes "2" ∷ []) ≡ None
+  pub option : made (codes "free-1-0" ∷ codes "--seed" ∷ codes "1" ∷ []) ≡ None

@@ -29,4 +29,11 @@ pub enum Command<'a> {
         /// The seed of the order of the days, 0 where none is given.
         seed: u64,
     },
+    /// `make SHAPE SEED`: write a generated game.
+    Make {
+        /// What the game is like, as a text.
+        shape: &'a str,
+        /// The seed of its payoffs.
+        seed: u64,
+    },
 }

@@ -1,7 +1,7 @@
 //! The table of commands, and the command that a row's arguments ask for.
 
 ghost use Rattle.std.specs.Prelude.{◌≡◌, ◌↔◌, Option, Some, None, IfOk, IsNone, map, option_map, string_bytes};
-ghost use Rattle.sg_words.specs.Commands.{Asked, Gives, solve, check, show, roster, with_one, with_two, with_two_and_number, asked_by, asked_of, command_given};
+ghost use Rattle.sg_words.specs.Commands.{Asked, Gives, solve, check, show, roster, make, with_one, with_two, with_one_and_number, with_two_and_number, asked_by, asked_of, command_given};
 
 use crate::command::Command;
 use crate::kind::{Kind, number};
@@ -10,7 +10,7 @@ use crate::usage::{Setting, Usage};
 use std::alloc::{AllocError, Global};
 
 /// The commands: each with what its positional words must be, and its options.
-static USAGES: [Usage<'static>; 4] = [
+static USAGES: [Usage<'static>; 5] = [
     Usage {
         name: "solve",
         positionals: &[Kind::Any],
@@ -37,6 +37,17 @@ static USAGES: [Usage<'static>; 4] = [
             },
             default: "0",
         }],
+    },
+    Usage {
+        name: "make",
+        positionals: &[
+            Kind::Any,
+            Kind::Number {
+                least: 0,
+                greatest: u64::MAX,
+            },
+        ],
+        options: &[],
     },
 ];
 
@@ -86,6 +97,18 @@ fn roster<'a>(arguments: &[&'a str]) -> Option<Command<'a>>
     }
 }
 
+fn make<'a>(arguments: &[&'a str]) -> Option<Command<'a>>
+    ensures { option_map asked_of result ≡ with_one_and_number make (map (λ text. text.now) arguments.now) }
+{
+    match arguments {
+        [shape, word] => Some(Command::Make {
+            shape: *shape,
+            seed: number(*word),
+        }),
+        _ => None,
+    }
+}
+
 /// The command of this name with these arguments.
 fn command_with<'a>(name: &str, arguments: &[&'a str]) -> Option<Command<'a>>
     ensures { option_map asked_of result ≡ asked_by name.now (map (λ text. text.now) arguments.now) }
@@ -95,6 +118,7 @@ fn command_with<'a>(name: &str, arguments: &[&'a str]) -> Option<Command<'a>>
         "check" => check(arguments),
         "show" => show(arguments),
         "roster" => roster(arguments),
+        "make" => make(arguments),
         _ => None,
     }
 }

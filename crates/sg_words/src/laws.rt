@@ -1,7 +1,7 @@
 //! Laws about the definitions, each as the contract of a function that does nothing.
 
 ghost use Rattle.sg_words.specs.Commands.{WordsGive};
-ghost use Rattle.sg_words.specs.WorkedCommands.{WorkedRosters};
+ghost use Rattle.sg_words.specs.WorkedCommands.{WorkedMakes, WorkedRosters};
 ghost use Rattle.sg_words.specs.WorkedWords.{RefusedWords, WorkedWords};
 
 /// The command of a list of words is the one that the rules of writing give, and there is at most one.
@@ -23,4 +23,9 @@ pub fn refused_words()
 /// What words behind `roster` give by the program's own table, as worked out by hand.
 pub fn worked_rosters()
     ensures { WorkedRosters }
+{}
+
+/// What words behind `make` give by the program's own table, as worked out by hand.
+pub fn worked_makes()
+    ensures { WorkedMakes }
 {}

@@ -1,7 +1,7 @@
 //! The words of a call, and the commands that they give.
 use sg_words::{
     Command, Kind, Setting, Usage, command_of, number, read_words, refused_words, words_give,
-    worked_rosters, worked_words,
+    worked_makes, worked_rosters, worked_words,
 };
 use std::alloc::{AllocError, Global};
 
@@ -444,6 +444,62 @@ fn first_wrong_roster(
 fn rosters_name_a_seed(rt: HostRuntime) -> Result<(), AllocError> {
     worked_rosters();
     assert_eq!(rt; first_wrong_roster(rt.alloc(), &LISTS)?, None);
+    Ok(())
+}
+
+/// The words after `make`, and the shape and the seed that they name, by hand.
+static MAKES: [(&[&str], Option<(&str, u64)>); 17] = [
+    (&["free-1-0", "0"], Some(("free-1-0", 0))),
+    (
+        &["free-1-0", "18446744073709551615"],
+        Some(("free-1-0", u64::MAX)),
+    ),
+    (&["free-1-0", "18446744073709551616"], None),
+    // What is no shape is no matter of words.
+    (&["no shape", "7"], Some(("no shape", 7))),
+    (&["", "7"], Some(("", 7))),
+    // Seeds in their one spelling.
+    (&["free-1-0", "07"], None),
+    (&["free-1-0", ""], None),
+    (&["free-1-0", "+7"], None),
+    (&["free-1-0", "-7"], None),
+    // What stands behind `--`.
+    (&["free-1-0", "--", "7"], Some(("free-1-0", 7))),
+    (&["--", "-x", "7"], Some(("-x", 7))),
+    (&["--", "free-1-0", "-7"], None),
+    // Exactly two words, and no option.
+    (&[], None),
+    (&["free-1-0"], None),
+    (&["free-1-0", "7", "8"], None),
+    (&["free-1-0", "--seed", "7"], None),
+    (&["7", "free-1-0"], None),
+];
+
+fn make<'a>(named: Option<(&'a str, u64)>) -> Option<Command<'a>> {
+    match named {
+        Some((shape, seed)) => Some(Command::Make { shape, seed }),
+        None => None,
+    }
+}
+
+/// The first words, counted from 0, that ask for another generated game.
+fn first_wrong_make(
+    alloc: Global,
+    rows: &[(&[&str], Option<(&str, u64)>)],
+) -> Result<Option<usize>, AllocError> {
+    for k in 0..rows.len() {
+        let (texts, want) = rows[k];
+        if !give(alloc, &["make"], texts, make(want))? {
+            return Ok(Some(k));
+        }
+    }
+    Ok(None)
+}
+
+#[test]
+fn makes_name_a_shape_and_a_seed(rt: HostRuntime) -> Result<(), AllocError> {
+    worked_makes();
+    assert_eq!(rt; first_wrong_make(rt.alloc(), &MAKES)?, None);
     Ok(())
 }
 

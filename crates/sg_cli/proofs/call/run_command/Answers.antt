@@ -1,7 +1,7 @@
 use Rattle.std.proofs.Common.{Some, refl, sym, ◌∙◌, ap}
 use Rattle.std.specs.Option.{option_map}
 use Rattle.sg_words.specs.Commands as commands
-use Rattle.sg_cli.proofs.CommandStatus.{comes, does, kept_first, kept_late}
+use Rattle.sg_cli.proofs.CommandStatus.{comes, does, kept_first, kept_late, makes, makes_not}
 use Rattle.sg_cli.proofs.call.run_command.Goals as goal
 
 pub returns-in-Ok-Some-Solve-clause-ok : goal.returns-in-Ok-Some-Solve-clause-ok
@@ -48,3 +48,16 @@ returns-in-Ok-Some-Roster-clause-err g c =
 pub returns-in-Ok-Some-Roster-clause-kept : goal.returns-in-Ok-Some-Roster-clause-kept
 returns-in-Ok-Some-Roster-clause-kept g c =
     kept_late (commands.roster c.in-Ok-Some-Roster.game.now c.in-Ok-Some-Roster.report.now c.in-Ok-Some-Roster.seed) _ (sym c.in-Ok-Some-Roster.ensures.answer ∙ ap (option_map commands.asked_of) (c.in-Ok-Some-Roster.field-0-is ∙ ap Some c.in-Ok-Some-Roster.field-0-0-is)) refl c.roster_named.result _ c.roster_named.ensures.kept
+
+pub returns-in-Ok-Some-Make-clause-ok : goal.returns-in-Ok-Some-Make-clause-ok
+returns-in-Ok-Some-Make-clause-ok g c =
+    does _ (commands.make c.in-Ok-Some-Make.shape.now c.in-Ok-Some-Make.seed) (sym c.in-Ok-Some-Make.ensures.answer ∙ ap (option_map commands.asked_of) (c.in-Ok-Some-Make.field-0-is ∙ ap Some c.in-Ok-Some-Make.field-0-0-is)) c.make_shaped.result
+    (makes _ _ c.in-Ok-Some-Make.shape.now c.in-Ok-Some-Make.seed _ _ c.make_shaped.result c.make_shaped.ensures.ok)
+
+pub returns-in-Ok-Some-Make-clause-err : goal.returns-in-Ok-Some-Make-clause-err
+returns-in-Ok-Some-Make-clause-err g c =
+    comes _ (commands.make c.in-Ok-Some-Make.shape.now c.in-Ok-Some-Make.seed) (sym c.in-Ok-Some-Make.ensures.answer ∙ ap (option_map commands.asked_of) (c.in-Ok-Some-Make.field-0-is ∙ ap Some c.in-Ok-Some-Make.field-0-0-is)) c.make_shaped.result
+    (makes_not _ _ c.in-Ok-Some-Make.shape.now c.in-Ok-Some-Make.seed _ _ c.make_shaped.result c.make_shaped.ensures.err)
+
+pub returns-in-Ok-Some-Make-clause-kept : goal.returns-in-Ok-Some-Make-clause-kept
+returns-in-Ok-Some-Make-clause-kept g c = kept_first c.make_shaped.result _ _ c.make_shaped.ensures.kept

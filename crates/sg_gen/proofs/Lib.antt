@@ -1,0 +1,11 @@
+pub mod Lists
+pub mod Words
+pub mod Assembled
+pub mod Spelled
+pub mod Counted
+pub mod FreeGames
+pub mod BlockGames
+pub mod TableGames
+pub mod Kept
+pub mod Dashes
+pub mod ShapeTexts

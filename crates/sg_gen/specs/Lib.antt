@@ -1,0 +1,5 @@
+pub mod Draws
+pub mod Shapes
+pub mod Generated
+pub mod Making
+pub mod GeneratedLaws
