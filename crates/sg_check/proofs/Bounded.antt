@@ -1,5 +1,5 @@
 -- The bound of a fact, formed or not.
-use Rattle.std.proofs.Common.{◌≡◌, ◌∙◌, ℕ, suc, ◌+◌, true, false, List, [], ◌∷◌, ℤ, pos, ◌+ℤ◌, ◌*ℤ◌, ◌≤ℤ◌, Some, None, Ok, Err, ap, subst, sym, refl, arith, ◌↔◌, inl, inr}
+use Rattle.std.proofs.Common.{◌≡◌, ◌∙◌, ℕ, suc, ◌+◌, true, false, [], ◌∷◌, ℤ, pos, ◌+ℤ◌, ◌*ℤ◌, ◌≤ℤ◌, Some, None, Ok, ap, subst, refl, arith, ◌↔◌, inl}
 use Rattle.std.specs.Prelude.{int_lt}
 use Rattle.std.specs.List.{All}
 use Rattle.std.proofs.lemmas.Int.{ints}
@@ -19,7 +19,7 @@ use Rattle.sg_check.specs.declared.numbers.Numbers.{Numbers}
 use Rattle.sg_check.specs.declared.quotient.Quotient.{Quotient}
 use Rattle.sg_check.specs.Answering.{BoundAnswers, TellsFirst, held_line}
 use Rattle.sg_check.specs.Parts.{bounded_stops}
-use Rattle.sg_check.specs.Placing.{AreNumbers, BoundFits, IsBoundOf}
+use Rattle.sg_check.specs.Placing.{AreNumbersOf, BoundFits, IsBoundOf}
 use Rattle.sg_check.proofs.Tops.{reduced-as}
 
 three : (rho mu rest priors : ℤ) → BoundFits rho mu rest priors ↔ All Fits ((rho *ℤ rest) ∷ (mu +ℤ (rho *ℤ rest)) ∷ (rho *ℤ priors) ∷ [])
@@ -32,7 +32,7 @@ three rho mu rest priors =
           record { share = All-head Fits x (y ∷ z ∷ []) h; num = All-head Fits y (z ∷ []) t; den = All-head Fits z [] (All-tail Fits y (z ∷ []) t) },
     )
 
-module _ (g : Game) (r : Report) (m : Numbers) (is : AreNumbers g m) (n : ℕ) (f : Fact) (s : Stated) (rho_is : s.rho ≡ rho_of f) (mu_is : s.mu ≡ mu_of f) where
+module _ (g : Game) (r : Report) (m : Numbers) (is : AreNumbersOf g m) (n : ℕ) (f : Fact) (s : Stated) (rho_is : s.rho ≡ rho_of f) (mu_is : s.mu ≡ mu_of f) where
   sums-fit : int_lt (pos 0) s.mu ≡ true → BoundFits s.rho s.mu (rest_of g r.caps n) m.priors ↔ All Fits (bound_sums g r.caps n f)
   sums-fit some =
       let some' : int_lt (pos 0) (mu_of f) ≡ true = subst (λ (z : ℤ). int_lt (pos 0) z ≡ true) mu_is some in

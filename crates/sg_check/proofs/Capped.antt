@@ -1,16 +1,16 @@
 -- The tests of caps, in order: of each its form, its facts and its bound.
-use Rattle.std.proofs.Common.{◌≡◌, ◌∙◌, ℕ, ◌+◌, ◌<◌, ◌≤◌, ◌-◌, ◌^◌, min, List, [], ◌∷◌, ◌++◌, length, drop, get_or, ℤ, Result, Ok, Err, ap, subst, sym, refl, arith, inl, inr}
+use Rattle.std.proofs.Common.{◌≡◌, ◌∙◌, ℕ, ◌+◌, ◌<◌, ◌≤◌, ◌-◌, ◌^◌, min, List, [], ◌∷◌, ◌++◌, length, drop, get_or, Ok, ap, subst, sym, refl, arith, inl, inr}
 use Rattle.std.specs.List.{All}
 use Rattle.std.proofs.lemmas.List.{append_assoc, drop_all, drop_more}
-use Rattle.sg_model.specs.Games.{Game, action_count}
+use Rattle.sg_model.specs.Games.{Game}
 use Rattle.sg_tree.specs.declared.fact.Fact.{Fact}
 use Rattle.sg_tree.specs.declared.report.Cap.{Cap}
 use Rattle.sg_tree.specs.declared.report.Report.{Report}
 use Rattle.sg_bounds.specs.Caps.{IsUnderCap}
-use Rattle.sg_bounds.specs.Checking.{AllPass, FirstFails, IsCapShape, Passes, Stop, bound_stops, cap_lines, cap_stops, cap_within, capped, caps_end, caps_stops, fact_lines, proof_lines, proof_stops, root_line, value_line}
+use Rattle.sg_bounds.specs.Checking.{AllPass, Passes, Stop, bound_stops, cap_lines, cap_stops, cap_within, capped, caps_end, caps_stops, fact_lines, proof_lines, proof_stops, root_line, value_line}
 use Rattle.sg_bounds.specs.Regions.{alone}
 use Rattle.sg_check.specs.declared.refusal.Refusal.{Refusal}
-use Rattle.sg_check.specs.Answering.{AnswersTests, LineAnswers, TellsFirst, held_line}
+use Rattle.sg_check.specs.Answering.{LineAnswers, TellsFirst, held_line}
 use Rattle.sg_check.specs.Parts.{shown_stops}
 use Rattle.sg_check.proofs.Firsts.{AllPass-append, FirstFails-left, FirstFails-right, IsRest, rest-fails, rest-itself, rest-next}
 

@@ -1,10 +1,10 @@
 -- Runs over tests, one behind another.
-use Rattle.std.proofs.Common.{◌≡◌, ◌+◌, List, [], ◌∷◌, ◌++◌, length, Option, Result, Ok, Err, ap, subst, arith}
-use Rattle.std.proofs.lemmas.List.{append_assoc, nil_from_length}
+use Rattle.std.proofs.Common.{◌≡◌, ◌+◌, List, [], ◌∷◌, ◌++◌, length, Option, Result, Ok, Err, subst}
+use Rattle.std.proofs.lemmas.List.{append_assoc}
 use Rattle.sg_model.specs.Games.{Game}
 use Rattle.sg_frac.specs.Fractions.{Fraction}
 use Rattle.sg_tree.specs.declared.report.Report.{Report}
-use Rattle.sg_bounds.specs.Checking.{AllPass, Stop, bound_stops, cap_lines, caps_stops, root_line, stops_of, ticket_stops, value_line}
+use Rattle.sg_bounds.specs.Checking.{AllPass, Stop, bound_stops, caps_stops, stops_of, ticket_stops, value_line}
 use Rattle.sg_check.specs.declared.refusal.Refusal.{Refusal}
 use Rattle.sg_check.specs.Answering.{AnswersTests, BoundAnswers, TellsFirst}
 use Rattle.sg_check.specs.Parts.{closing_stops, opening_stops, total_stops, worth_stops}

@@ -8,7 +8,7 @@ use Rattle.sg_model.specs.Games.{Game, is_matrix, payoff}
 use Rattle.sg_model.specs.Limits.{IsGame, IsPay}
 use Rattle.sg_model.specs.Plays.{covers, pay_a, pay_d}
 use Rattle.sg_model.specs.Commitments.{cover_count, sum_a, sum_d, weight_total}
-use Rattle.sg_model.proofs.Ints.{v, plus, less, times, same_by, mul-le, product_nonneg}
+use Rattle.sg_model.proofs.Ints.{v, plus, times, same_by, mul-le, product_nonneg}
 use Rattle.sg_model.proofs.Sums.{total-same}
 use Rattle.sg_model.proofs.Covers.{ArePositive, total-covered, weight_total-nonneg}
 use Rattle.sg_model.proofs.Promises.{pay_a-in_range, pay_d-in_range}

@@ -1,8 +1,7 @@
 -- The tests of nodes, of parts in order, of splits with their bases, and of the root.
-use Rattle.std.proofs.Common.{◌≡◌, ◌∙◌, ℕ, ◌+◌, ◌<◌, ◌≤◌, ◌-◌, ◌^◌, min, true, false, List, [], ◌∷◌, ◌++◌, length, map, take, drop, get_or, pos, ◌≤ℤ◌, Option, Some, None, Result, Ok, Err, ap, subst, sym, refl, arith, inl, inr, length-append}
-use Rattle.std.proofs.lemmas.Int.{ints}
+use Rattle.std.proofs.Common.{◌≡◌, ◌∙◌, ℕ, ◌+◌, ◌<◌, ◌≤◌, ◌-◌, ◌^◌, min, false, List, [], ◌∷◌, ◌++◌, length, map, take, drop, get_or, pos, ◌≤ℤ◌, Option, Some, None, Result, Ok, Err, ap, subst, sym, refl, arith, inl, inr, length-append}
 use Rattle.std.proofs.lemmas.List.{append-nil, append_assoc, drop_all, drop_more, take_all, take_more}
-use Rattle.sg_model.specs.Games.{Game, action_count}
+use Rattle.sg_model.specs.Games.{Game}
 use Rattle.sg_model.specs.Limits.{is_scaled}
 use Rattle.sg_frac.specs.Fractions.{Fraction, IsReduced, IsReducedForm}
 use Rattle.sg_tree.specs.declared.fact.Fact.{Fact}
@@ -10,9 +9,9 @@ use Rattle.sg_tree.specs.declared.report.Cap.{Cap}
 use Rattle.sg_tree.specs.declared.report.Report.{Report}
 use Rattle.sg_tree.specs.declared.tree.Tree.{Tree}
 use Rattle.sg_tree.specs.declared.tree.Tree.TheVariants.{Unproved, Closed, Split}
-use Rattle.sg_bounds.specs.Checking.{AllPass, FirstFails, Passes, Stop, base_lines, base_stops, fact_lines, fact_stops, forks, part_lines, part_stops, rooted, tree_lines, tree_stops}
+use Rattle.sg_bounds.specs.Checking.{AllPass, Passes, Stop, base_lines, fact_lines, fact_stops, forks, part_lines, part_stops, rooted, tree_lines, tree_stops}
 use Rattle.sg_bounds.specs.Leaves.{base_bound, fact_bound, leaf_bounds, listed, part_bounds, root_bound}
-use Rattle.sg_bounds.specs.Trees.{IsRoot, Node, Parts, closed, node_of, part_count, parts_of, split, unproved}
+use Rattle.sg_bounds.specs.Trees.{IsRoot, Node, Parts, closed, node_of, part_count, parts_of, split}
 use Rattle.sg_check.specs.declared.fork.Fork.{Fork}
 use Rattle.sg_check.specs.declared.refusal.Refusal.{Refusal}
 use Rattle.sg_check.specs.declared.top.Top.{Top}
@@ -20,7 +19,7 @@ use Rattle.sg_check.specs.Answering.{BaseAnswers, BoundAnswers, FirstAnswers, Fo
 use Rattle.sg_check.specs.Parts.{fork_stops}
 use Rattle.sg_check.proofs.Firsts.{AllPass-append, FirstFails-left, FirstFails-right, IsRest, rest-fails, rest-itself, rest-next}
 use Rattle.sg_check.proofs.Tops.{top-start}
-use Rattle.sg_check.proofs.Trees.{node_of-Closed, node_of-Split, node_of-Unproved, part_count-length}
+use Rattle.sg_check.proofs.Trees.{node_of-Closed, node_of-Split, node_of-Unproved}
 
 abbrev pub nodes : List Tree → Parts
 nodes parts = parts_of (map node_of parts)

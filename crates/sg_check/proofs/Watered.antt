@@ -16,13 +16,12 @@ use Rattle.sg_model.specs.Games.{Game, payoff, resource_count}
 use Rattle.sg_model.specs.Limits.{IsGame, is_scaled}
 use Rattle.sg_model.specs.declared.level.Level.{Level}
 use Rattle.sg_model.specs.declared.level.Level.TheVariants.{Resources, Target}
-use Rattle.sg_model.proofs.Forms.{no_matrix}
 use Rattle.sg_model.proofs.Ints.{v, n, plus, less, times, same_by, mul-le, cancel-le, product_nonneg}
 use Rattle.sg_model.proofs.Levels.{IsAtLevel, at_level_each, multiple_is}
 use Rattle.sg_model.proofs.Numbers.{All-numbers, All-numbers-at, length-numbers_from}
 use Rattle.sg_model.proofs.Best.{filter_none}
 use Rattle.sg_model.proofs.Sums.{total-nonneg}
-use Rattle.sg_model.proofs.Promises.{limited, payoff-in_range}
+use Rattle.sg_model.proofs.Promises.{payoff-in_range}
 use Rattle.std.specs.Prelude.{Option, None, MatchOption}
 use Rattle.sg_game.proofs.Patrols.{numbers-more}
 use Rattle.sg_game.proofs.Spreads.{greatest-append}

@@ -16,7 +16,7 @@ pub record AreActions (g : Game) (acts : List ℕ) : Type 0 where
   pub each : All (λ (p : ℕ × ℕ). (1 ≤ p.1) × (p.1 ≤ action_count g p.0)) (fixed (prefix acts))
 
 -- the numbers of a game, in their ranges
-pub record AreNumbers (g : Game) (m : Numbers) : Type 0 where
+pub record AreNumbersOf (g : Game) (m : Numbers) : Type 0 where
   pub shift : m.shift ≡ shift_of g
   pub priors : m.priors ≡ prior_total g
   pub measures : AreMeasures g m.measures
@@ -25,7 +25,7 @@ pub record AreNumbers (g : Game) (m : Numbers) : Type 0 where
 
 -- a game with its numbers, and a report with a cap for each type from 2
 pub record IsSetting (g : Game) (r : Report) (m : Numbers) : Type 0 where
-  pub numbers : AreNumbers g m
+  pub numbers : AreNumbersOf g m
   pub caps : length r.caps + 1 ≡ length g.types
 
 -- the numbers under the bound of a fact fit: rho times the rest, mu with it, and rho times the priors

@@ -2,7 +2,7 @@
 use Rattle.std.specs.Prelude.{◌≡◌, ℕ, ◌≤◌, List, ℤ, pos, ◌*ℤ◌, ◌≤ℤ◌, All, MatchOption, Option, Some, None}
 use Rattle.sg_model.specs.declared.ticket.Ticket.{Ticket}
 use Rattle.sg_model.specs.Games.{Game, action_count, prior_total}
-use Rattle.sg_model.specs.Plays.{IsLegal, pay_a, pay_d}
+use Rattle.sg_model.specs.Plays.{pay_a, pay_d}
 use Rattle.sg_model.specs.Commitments.{sum_a, sum_d, weight_total, worth}
 use Rattle.sg_num.specs.Exact.{Fits}
 use Rattle.sg_bounds.specs.Sizes.{pay_sums}

@@ -1,9 +1,9 @@
 -- What testing a water level forms, for a game that declares a scale.
-use Rattle.std.specs.Prelude.{◌≡◌, ◌⊎◌, ℕ, ◌≤◌, ◌^◌, List, [], ◌∷◌, length, ℤ, pos, ◌+ℤ◌, ◌-ℤ◌, ◌*ℤ◌, ◌≤ℤ◌, false, int_div, Option, Some, None, Result, Ok, Err}
+use Rattle.std.specs.Prelude.{◌≡◌, ◌⊎◌, ℕ, ◌≤◌, ◌^◌, List, [], ◌∷◌, length, ℤ, pos, ◌+ℤ◌, ◌-ℤ◌, ◌*ℤ◌, ◌≤ℤ◌, int_div, Option, Some, None, Result, Ok, Err}
 use Rattle.std.specs.Int.{int_max}
-use Rattle.sg_model.specs.Games.{Game, is_matrix, payoff, resource_count}
+use Rattle.sg_model.specs.Games.{Game, payoff}
 use Rattle.sg_model.specs.Limits.{IsPay, IsWithin}
-use Rattle.sg_model.specs.Origami.{IsOrigami, gap, share}
+use Rattle.sg_model.specs.Origami.{gap, share}
 use Rattle.sg_model.specs.Sums.{greatest}
 use Rattle.sg_frac.specs.Fractions.{Fraction, IsReducedForm}
 use Rattle.sg_tree.specs.declared.report.Cap.{Cap}

@@ -7,7 +7,7 @@ ghost use Rattle.sg_model.specs.Payoffs.{greatest_of};
 ghost use Rattle.sg_model.specs.Sums.{numbers, numbers_from, total};
 ghost use Rattle.sg_bounds.specs.Caps.{cap_of};
 ghost use Rattle.sg_bounds.specs.Leaves.{rest_of, root_bound};
-ghost use Rattle.sg_check.specs.Placing.{AreNumbers, BoundFits, IsBoundOf, IsSetting};
+ghost use Rattle.sg_check.specs.Placing.{AreNumbersOf, BoundFits, IsBoundOf, IsSetting};
 
 use crate::numbers::Numbers;
 use crate::quotient::{Quotient, reduced};
@@ -141,7 +141,7 @@ fn greatest_sum(game: &Game) -> i128
 
 /// The bound of the root's open base: the greatest payoffs.
 pub(crate) fn open_bound(game: &Game, numbers: &Numbers) -> Frac
-    requires { AreNumbers game.now numbers.now }
+    requires { AreNumbersOf game.now numbers.now }
     ensures { IsReducedForm (root_bound game.now).num (root_bound game.now).den result }
 {
     reduced(&Quotient {

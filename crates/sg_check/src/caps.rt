@@ -7,7 +7,7 @@ ghost use Rattle.sg_game.specs.Counts.{IsTypeOf};
 ghost use Rattle.sg_bounds.specs.Caps.{IsUnderCap};
 ghost use Rattle.sg_bounds.specs.Checking.{IsCapShape, Passes, bound_stops, cap_stops, capped, proof_lines, proof_stops, root_line, value_line};
 ghost use Rattle.sg_check.specs.Answering.{LineAnswers, held_line};
-ghost use Rattle.sg_check.specs.Placing.{AreNumbers};
+ghost use Rattle.sg_check.specs.Placing.{AreNumbersOf};
 
 use crate::fact::{lines_of, stated_by, test_shown};
 use crate::numbers::Numbers;
@@ -28,7 +28,7 @@ fn is_at_most(mu: i128, rho: i128, worth: i128) -> bool
 
 /// A payoff with the shift, times the prior of type `l`.
 fn shifted_worth(game: &Game, numbers: &Numbers, l: u8, v: i64) -> i128
-    requires numbers { AreNumbers game.now numbers.now }
+    requires numbers { AreNumbersOf game.now numbers.now }
     requires known { IsTypeOf game.now l }
     ensures { result ≡ (attacker game.now l).prior *ℤ (v +ℤ shift_of game.now) }
 {
@@ -37,7 +37,7 @@ fn shifted_worth(game: &Game, numbers: &Numbers, l: u8, v: i64) -> i128
 
 /// Whether a fact's region is empty, or its bound for type `l` is at most `v`.
 fn is_under(game: &Game, numbers: &Numbers, l: u8, v: i64, fact: &Fact) -> bool
-    requires numbers { AreNumbers game.now numbers.now }
+    requires numbers { AreNumbersOf game.now numbers.now }
     requires known { IsTypeOf game.now l }
     ensures { IsTrue result ↔ IsUnderCap game.now l v fact.now }
 {
@@ -50,7 +50,7 @@ fn is_under(game: &Game, numbers: &Numbers, l: u8, v: i64, fact: &Fact) -> bool
 
 /// Whether that is so of all facts.
 fn are_under(game: &Game, numbers: &Numbers, l: u8, v: i64, facts: &[Fact]) -> bool
-    requires numbers { AreNumbers game.now numbers.now }
+    requires numbers { AreNumbersOf game.now numbers.now }
     requires known { IsTypeOf game.now l }
     ensures { IsTrue result ↔ All (IsUnderCap game.now l v) facts.now }
 {
@@ -100,7 +100,7 @@ fn test_proof(
     facts: &[Fact],
     line: u64,
 ) -> Result<u64, Refusal>
-    requires numbers { AreNumbers game.now numbers.now }
+    requires numbers { AreNumbersOf game.now numbers.now }
     requires known { IsTypeOf game.now l }
     requires few { length facts.now ≤ action_count game.now l }
     ensures { (n : ℕ) → line ≡ held_line n → LineAnswers game.now report.now (proof_stops l 1 n facts.now) (n + proof_lines facts.now) result }
@@ -127,7 +127,7 @@ fn test_cap(
     cap: &Cap,
     line: u64,
 ) -> Result<u64, Refusal>
-    requires numbers { AreNumbers game.now numbers.now }
+    requires numbers { AreNumbersOf game.now numbers.now }
     requires place { i + 2 < 2 ^ 64 }
     ensures { (n : ℕ) → line ≡ held_line n → LineAnswers game.now report.now (cap_stops (i + 2) n cap.now) (n + 1 + proof_lines cap.now.proof) result }
 {
@@ -153,7 +153,7 @@ pub(crate) fn test_caps(
     numbers: &Numbers,
     line: u64,
 ) -> Result<u64, Refusal>
-    requires numbers { AreNumbers game.now numbers.now }
+    requires numbers { AreNumbersOf game.now numbers.now }
     requires line { line ≡ held_line (value_line report.now + 1) }
     ensures { LineAnswers game.now report.now (bound_stops report.now) (root_line report.now) result }
 {

@@ -9,7 +9,7 @@ ghost use Rattle.sg_bounds.specs.Regions.{IsFix, prefix};
 ghost use Rattle.sg_bounds.specs.Sizes.{bound_sums, size_sums};
 ghost use Rattle.sg_check.specs.Answering.{AnswersTests, BoundAnswers, held_line};
 ghost use Rattle.sg_check.specs.Parts.{bounded_stops, shown_stops};
-ghost use Rattle.sg_check.specs.Placing.{AreNumbers, IsSetting};
+ghost use Rattle.sg_check.specs.Placing.{AreNumbersOf, IsSetting};
 
 use crate::bound::{Stated, bound_of};
 use crate::numbers::Numbers;
@@ -24,7 +24,7 @@ use sg_tree::{Fact, Report};
 
 /// Whether the size sum of a fact and the numbers under it fit.
 fn fits(game: &Game, numbers: &Numbers, fix: &FixedTypes, fact: &Fact) -> bool
-    requires numbers { AreNumbers game.now numbers.now }
+    requires numbers { AreNumbersOf game.now numbers.now }
     requires fix { IsFix game.now fix.now }
     ensures { IsTrue result ↔ All Fits (size_sums game.now fix.now fact.now) }
 {
@@ -33,7 +33,7 @@ fn fits(game: &Game, numbers: &Numbers, fix: &FixedTypes, fact: &Fact) -> bool
 
 /// Whether a fact holds where the fixed types take their actions.
 fn holds(game: &Game, numbers: &Numbers, fix: &FixedTypes, fact: &Fact) -> bool
-    requires numbers { AreNumbers game.now numbers.now }
+    requires numbers { AreNumbersOf game.now numbers.now }
     requires fix { IsFix game.now fix.now }
     requires size { All Fits (size_sums game.now fix.now fact.now) }
     ensures { IsTrue result ↔ HoldsFor game.now fix.now fact.now }
@@ -56,7 +56,7 @@ pub(crate) fn test_shown(
     fact: &Fact,
     line: u64,
 ) -> Result<(), Refusal>
-    requires numbers { AreNumbers game.now numbers.now }
+    requires numbers { AreNumbersOf game.now numbers.now }
     requires fix { IsFix game.now fix.now }
     ensures { (n : ℕ) → line ≡ held_line n → AnswersTests game.now report.now (shown_stops n fix.now fact.now) result }
 {

@@ -1,7 +1,7 @@
 //! The numbers of a game that its bounds are formed of.
 
 ghost use Rattle.std.specs.Prelude.{◌≡◌};
-ghost use Rattle.sg_check.specs.Placing.{AreNumbers};
+ghost use Rattle.sg_check.specs.Placing.{AreNumbersOf};
 
 use sg_game::{Game, prior_total, shift};
 use sg_plays_fact::{Measures, measures_of};
@@ -19,7 +19,7 @@ pub(crate) struct Numbers {
 
 /// The numbers of a game.
 pub(crate) fn numbers_of(game: &Game) -> Numbers
-    ensures { AreNumbers game.now result }
+    ensures { AreNumbersOf game.now result }
 {
     Numbers {
         shift: i128::from(shift(game)),

@@ -1,4 +1,4 @@
-use Rattle.std.proofs.Common.{◌≡◌, ℕ, ℤ, ◌+◌, ◌-◌, ◌*◌, ◌^◌, length, pos, ◌+ℤ◌, ◌≤ℤ◌}
+use Rattle.std.proofs.Common.{◌≡◌, ℕ, ◌+◌, ◌-◌, ◌*◌, ◌^◌, pos, ◌+ℤ◌, ◌≤ℤ◌}
 use Rattle.sg_model.specs.Games.{attacker}
 use Rattle.sg_model.specs.Sums.{numbers, numbers_from, total}
 use Rattle.sg_check.proofs.bound.fixed_priors.Given as goal

@@ -1,9 +1,8 @@
-use Rattle.std.proofs.Common.{◌≡◌, ℕ, ℤ, suc, ◌+◌, ◌-◌, ◌<◌, ◌≤◌, ◌^◌, arith, length, ◌*ℤ◌, of_z, to_z, pos, refl, rules}
-use Rattle.std.specs.Int.{w128}
-use Rattle.std.proofs.lemmas.Int.{ints, to_z-of_z}
+use Rattle.std.proofs.Common.{◌≡◌, ℕ, suc, ◌+◌, ◌-◌, ◌<◌, ◌≤◌, arith, length, ◌*ℤ◌}
+use Rattle.std.proofs.lemmas.Int.{ints}
 use Rattle.sg_model.specs.Games.{attacker}
 use Rattle.sg_bounds.specs.Caps.{cap_of}
-use Rattle.sg_check.proofs.Bounded.{sum-next, total-last}
+use Rattle.sg_check.proofs.Bounded.{sum-next}
 use Rattle.sg_check.proofs.bound.open_caps.Goals as goal
 
 pub loop-l-preserved : goal.loop-l-preserved

@@ -1,4 +1,4 @@
-use Rattle.std.proofs.Common.{◌≡◌, ℕ, ℤ, suc, ◌+◌, ◌-◌, ◌<◌, ◌≤◌, ◌^◌, arith, length, ◌*ℤ◌, of_z, to_z, pos, refl, rules}
+use Rattle.std.proofs.Common.{◌≡◌, ◌^◌, arith, ◌*ℤ◌, of_z, to_z, pos, refl, rules}
 use Rattle.std.specs.Int.{w128}
 use Rattle.std.proofs.lemmas.Int.{ints, to_z-of_z}
 use Rattle.sg_model.specs.Games.{attacker}

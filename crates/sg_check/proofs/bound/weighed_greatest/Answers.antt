@@ -1,7 +1,6 @@
-use Rattle.std.proofs.Common.{◌≡◌, ℕ, ℤ, suc, ◌+◌, ◌-◌, ◌<◌, ◌≤◌, ◌^◌, arith, length, ◌*ℤ◌, of_z, to_z, pos, refl, rules}
+use Rattle.std.proofs.Common.{◌≡◌, ◌^◌, arith, of_z, to_z, pos, rules}
 use Rattle.std.specs.Int.{w128}
 use Rattle.std.proofs.lemmas.Int.{ints, to_z-of_z}
-use Rattle.sg_model.specs.Games.{attacker}
 use Rattle.sg_check.proofs.Within.{product_is}
 use Rattle.sg_check.proofs.bound.weighed_greatest.Goals as goal
 

@@ -1,10 +1,9 @@
-use Rattle.std.proofs.Common.{◌≡◌, ◌+◌, ◌∙◌, ap, arith, get_or, length, of_z, refl, rules, subst, sym, take, to_z}
+use Rattle.std.proofs.Common.{◌≡◌, of_z, refl, rules, subst, to_z}
 use Rattle.std.specs.List.{All}
 use Rattle.std.specs.Int.{w64}
 use Rattle.std.proofs.lemmas.Int.{to_z-of_z}
 use Rattle.std.proofs.lemmas.List.{take_all}
 use Rattle.std.proofs.lemmas.List.Elements.{All-more}
-use Rattle.sg_tree.specs.declared.fact.Fact.{Fact}
 use Rattle.sg_bounds.specs.Caps.{IsUnderCap}
 use Rattle.sg_check.proofs.caps.are_under.Goals as goal
 

@@ -1,7 +1,7 @@
-use Rattle.std.proofs.Common.{◌≡◌, ◌∙◌, ℤ, Bool, arith, pos, of_z, to_z, rules, inl, inr, subst, sym, ap, refl, ◌⊎◌, ◌↔◌, ◌≤ℤ◌, ◌*ℤ◌, ◌+ℤ◌}
+use Rattle.std.proofs.Common.{◌≡◌, ◌∙◌, ℤ, Bool, pos, of_z, to_z, rules, inl, inr, subst, sym, ap, ◌⊎◌, ◌↔◌, ◌≤ℤ◌, ◌*ℤ◌, ◌+ℤ◌}
 use Rattle.std.specs.Prelude.{IsTrue}
 use Rattle.std.specs.Int.{w128, w64}
-use Rattle.std.proofs.lemmas.Int.{ints, to_z-of_z}
+use Rattle.std.proofs.lemmas.Int.{to_z-of_z}
 use Rattle.sg_model.specs.Games.{attacker}
 use Rattle.sg_model.specs.Payoffs.{shift_of}
 use Rattle.sg_bounds.specs.Facts.{mu_of, rho_of}

@@ -1,12 +1,12 @@
-use Rattle.std.proofs.Common.{◌≡◌, ◌∙◌, ◌+◌, ℕ, ℤ, List, arith, of_z, refl, rules, subst, sym, to_z, Ok}
+use Rattle.std.proofs.Common.{◌≡◌, ◌+◌, ℕ, ℤ, List, arith, of_z, refl, subst, sym, to_z, Ok}
 use Rattle.std.specs.Int.{w64}
-use Rattle.std.proofs.lemmas.Int.{ints, to_z-of_z}
+use Rattle.std.proofs.lemmas.Int.{ints}
 use Rattle.std.specs.List.{All}
 use Rattle.sg_tree.specs.declared.fact.Fact.{Fact}
 use Rattle.sg_bounds.specs.Caps.{IsUnderCap}
-use Rattle.sg_bounds.specs.Checking.{Passes, capped, proof_lines, proof_stops}
+use Rattle.sg_bounds.specs.Checking.{proof_lines, proof_stops}
 use Rattle.sg_check.specs.Answering.{LineAnswers, TellsFirst, held_line}
-use Rattle.sg_check.proofs.Capped.{cap-above, cap-fact, cap-passes, cap-unlike}
+use Rattle.sg_check.proofs.Capped.{cap-above, cap-fact, cap-passes}
 use Rattle.sg_check.proofs.caps.test_cap.Goals as goal
 
 pub returns-then-not-are_under : goal.returns-then-not-are_under

@@ -1,11 +1,11 @@
-use Rattle.std.proofs.Common.{◌≡◌, ◌+◌, ◌∷◌, ℕ, List, [], arith, subst, sym, Ok, Err}
+use Rattle.std.proofs.Common.{◌≡◌, ◌+◌, ℕ, arith, subst, sym}
 use Rattle.sg_tree.specs.declared.fix.Fix.{Fix}
 use Rattle.sg_bounds.specs.Regions.{IsFix, alone}
 use Rattle.sg_bounds.specs.Checking.{AllPass}
 use Rattle.sg_check.specs.Answering.{TellsFirst, held_line}
 use Rattle.sg_check.specs.Parts.{shown_stops}
 use Rattle.sg_check.proofs.Placed.{alone-fix}
-use Rattle.sg_check.proofs.Capped.{shown-end, shown-fails, shown-more, shown-start}
+use Rattle.sg_check.proofs.Capped.{shown-fails, shown-more}
 use Rattle.sg_check.proofs.caps.test_proof.Goals as goal
 
 pub test_shown-requires-clause-fix : goal.test_shown-requires-clause-fix

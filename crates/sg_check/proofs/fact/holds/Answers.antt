@@ -1,4 +1,4 @@
-use Rattle.std.proofs.Common.{◌≡◌, FitsSigned, of_z, rules, subst, sym, to_z}
+use Rattle.std.proofs.Common.{◌≡◌, of_z, rules, subst, sym, to_z}
 use Rattle.std.specs.Int.{w128}
 use Rattle.std.specs.List.{All}
 use Rattle.std.proofs.lemmas.Int.{to_z-of_z}

@@ -1,5 +1,4 @@
-use Rattle.std.proofs.Common.{◌≡◌, ◌∙◌, ◌+◌, ap, sym, arith, eqb-true, eq-eqb}
-use Rattle.sg_model.specs.Games.{action_count}
+use Rattle.std.proofs.Common.{◌∙◌, sym, arith, eqb-true, eq-eqb}
 use Rattle.sg_check.proofs.Trees.{part_count-length}
 use Rattle.sg_check.proofs.fork.is_fork.Goals as goal
 

@@ -1,4 +1,4 @@
-use Rattle.sg_check.proofs.Walked.{base-closed, base-fails, base-open}
+use Rattle.sg_check.proofs.Walked.{base-fails}
 use Rattle.sg_check.proofs.fork.test_base.Goals as goal
 
 pub returns-in-Err : goal.returns-in-Err

@@ -1,12 +1,12 @@
 use Rattle.std.proofs.Common.{◌≡◌, ◌∙◌, ◌+◌, ap, arith, refl, sym, Result, Ok, Err}
 use Rattle.sg_check.specs.Answering.{held_line}
-use Rattle.sg_bounds.specs.Trees.{node_of, part_count, parts_of}
+use Rattle.sg_bounds.specs.Trees.{part_count}
 use Rattle.std.specs.Prelude.{IfOk}
 use Rattle.sg_model.specs.Games.{action_count}
 use Rattle.sg_check.specs.declared.fork.Fork.{Fork}
 use Rattle.sg_check.specs.declared.refusal.Refusal.{Refusal}
 use Rattle.sg_check.proofs.Trees.{part_count-length}
-use Rattle.sg_check.proofs.Walked.{fork-base, fork-fails, nodes}
+use Rattle.sg_check.proofs.Walked.{fork-base, nodes}
 use Rattle.sg_check.proofs.fork.test_fork.Goals as goal
 
 -- what holds anyway holds where there is a result

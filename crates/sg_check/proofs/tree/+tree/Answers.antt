@@ -1,13 +1,9 @@
-use Rattle.std.proofs.Common.{◌≡◌, ◌≢◌, ◌∙◌, ◌+◌, ◌∷◌, ◌++◌, ℕ, List, [], Ok, Err, ap, arith, length, refl, rules, subst, sym, take}
+use Rattle.std.proofs.Common.{◌≡◌, ◌∙◌, ◌+◌, ◌∷◌, ◌++◌, ℕ, List, [], Ok, Err, ap, arith, refl, subst, sym}
 use Rattle.sg_tree.specs.declared.tree.Tree.{Tree}
 use Rattle.sg_tree.specs.declared.tree.Tree.TheVariants.{Split}
-use Rattle.sg_model.specs.Games.{action_count}
 use Rattle.sg_bounds.specs.Trees.{node_of}
 use Rattle.sg_check.specs.Answering.{NodeAnswers}
-use Rattle.sg_check.specs.Placing.{AreActions}
-use Rattle.sg_check.proofs.Trees.{part_count-length}
-use Rattle.sg_check.proofs.Placed.{actions-more, some-more}
-use Rattle.sg_check.proofs.Walked.{closed-answers, open-answers, split-answers, split-fails, walk-end, walk-fails, walk-more, walk-start}
+use Rattle.sg_check.proofs.Walked.{closed-answers, open-answers, split-answers, split-fails, walk-end, walk-fails, walk-more}
 use Rattle.sg_check.proofs.tree.+tree.Goals as goal
 
 pub test_node-returns-in-Unproved : goal.test_node-returns-in-Unproved

@@ -1,4 +1,4 @@
-use Rattle.std.proofs.Common.{◌≡◌, ◌∙◌, ap, arith, pos, refl, sym, ◌≤ℤ◌, Some}
+use Rattle.std.proofs.Common.{◌∙◌, ap, arith, pos, refl, sym, ◌≤ℤ◌, Some}
 use Rattle.std.proofs.lemmas.Int.{ints}
 use Rattle.sg_model.specs.Games.{action_count}
 use Rattle.sg_bounds.specs.Leaves.{root_bound}
