@@ -15,8 +15,9 @@ use sg_game::{Game, greatest, shift};
 pub(crate) fn attacker_most(game: &Game) -> i128
     ensures { result ≡ attacker_most game.now }
 {
+    let types = game.types();
     let mut most = attacker_span(game, 1);
-    for l in 1..game.types() {
+    for l in 1..types {
         most = most.max(attacker_span(game, l + 1));
     }
     i128::from(most.max(1))
@@ -27,8 +28,10 @@ fn greatest_payoff(game: &Game) -> i64
     ensures most { result ≡ greatest (flat_map (payoffs_of game.now) (numbers (length game.now.types))) }
     ensures within { IsPay result }
 {
+    game.promises();
+    let types = game.types();
     let mut most = greatest(game, 1);
-    for l in 1..game.types() {
+    for l in 1..types {
         most = most.max(greatest(game, l + 1));
     }
     most

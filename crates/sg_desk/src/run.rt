@@ -73,7 +73,7 @@ impl<'a> Run<'a> {
     pub(crate) fn close(self, pool: &mut Pool)
         requires width { self.node.width ≡ pool.old.width }
         requires out { length pool.old.free + ((listed_program self.node.family).height + 1) ≤ pool.old.count }
-        ensures { GivesBack pool.old pool.new ((listed_program self.node.family).height + 1) }
+        ensures { GivesBack pool.old pool.new ((listed_program self.entry.node.family).height + 1) }
     {
         self.node.close(pool);
     }
