@@ -1,3 +1,4 @@
 pub mod Measured
 pub mod Formed
 pub mod Marked
+pub mod Opened

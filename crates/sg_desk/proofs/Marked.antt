@@ -37,7 +37,7 @@ drop-drop : (m n : ℕ) (vs : List ℤ) → drop m (drop n vs) ≡ drop (n + m) 
 drop-drop m zero vs = let e : m ≡ 0 + m = omega arith in ap (λ k. drop k vs) e
 drop-drop m (suc n) [] = nothing m ∙ sym (nothing (suc n + m))
   where
-    nothing : (k : ℕ) → drop k (◌++◌ {X = ℤ} [] []) ≡ []
+    nothing : (k : ℕ) → ◌≡◌ {A = List ℤ} (drop k []) []
     nothing zero = refl
     nothing (suc k) = refl
 drop-drop m (suc n) (v ∷ vs) = let e : suc (n + m) ≡ suc n + m = omega arith in drop-drop m n vs ∙ ap (λ k. drop k (v ∷ vs)) e
@@ -56,12 +56,12 @@ marks-more ms m y row at e =
 
 -- so far, of one type
 pub record AreMarked (before marks : List Mark) (l act n row next : ℕ) (y : List ℤ) : Type 0 where
-  pub marks : marks ≡ before ++ marks_of (others_to l act n) (drop row y)
-  pub next : next ≡ row + length (others_to l act n)
+  pub are : marks ≡ before ++ marks_of (others_to l act n) (drop row y)
+  pub next_is : next ≡ row + length (others_to l act n)
   pub near : next ≤ row + n
 
 pub marked-none : (before : List Mark) (l act row : ℕ) (y : List ℤ) → AreMarked before before l act 0 row row y
-marked-none before l act row y = record { marks = sym (append-nil before); next = omega arith; near = omega arith }
+marked-none before l act row y = record { are = sym (append-nil before); next_is = omega arith; near = omega arith }
 
 pub marked-other : (before marks all : List Mark) (l act n row next : ℕ) (y : List ℤ) → n + 1 ≢ act → AreMarked before marks l act n row next y
     → all ≡ marks ++ marks_of ((l, n + 1) ∷ []) (place y next ∷ []) → AreMarked before all l act (n + 1) row (next + 1) y
@@ -70,12 +70,12 @@ marked-other before marks all l act n row next y ne h e =
     let more = others-more l act n ne in
     let long : length (others_to l act (n + 1)) ≡ length ms + 1 = ap length more ∙ length-append ms ((l, n + 1) ∷ []) in
     record {
-      marks =
+      are =
           e
-          ∙ (ap (λ (xs : List Mark). xs ++ marks_of ((l, n + 1) ∷ []) (place y next ∷ [])) h.marks
+          ∙ (ap (λ (xs : List Mark). xs ++ marks_of ((l, n + 1) ∷ []) (place y next ∷ [])) h.are
           ∙ (append_assoc before (marks_of ms (drop row y)) (marks_of ((l, n + 1) ∷ []) (place y next ∷ []))
-          ∙ ap (λ (xs : List Mark). before ++ xs) (sym (ap (λ ks. marks_of ks (drop row y)) more ∙ marks-more ms (l, n + 1) y row next h.next))));
-      next = omega (arith, h.next, long);
+          ∙ ap (λ (xs : List Mark). before ++ xs) (sym (ap (λ ks. marks_of ks (drop row y)) more ∙ marks-more ms (l, n + 1) y row next h.next_is))));
+      next_is = omega (arith, h.next_is, long);
       near = let a = h.near in omega (arith, a);
     }
 
@@ -83,8 +83,8 @@ pub marked-same : (before marks : List Mark) (l act n row next : ℕ) (y : List 
 marked-same before marks l act n row next y is h =
     let same = others-same l act n is in
     record {
-      marks = h.marks ∙ ap (λ ks. before ++ marks_of ks (drop row y)) (sym same);
-      next = h.next ∙ ap (λ ks. row + length ks) (sym same);
+      are = h.are ∙ ap (λ ks. before ++ marks_of ks (drop row y)) (sym same);
+      next_is = h.next_is ∙ ap (λ ks. row + length ks) (sym same);
       near = let a = h.near in omega (arith, a);
     }
 
@@ -95,8 +95,8 @@ abbrev pub compared_to : Game → Fix → ℕ → List (ℕ × ℕ)
 compared_to g fix n = flat_map (other_actions g) (take n (fixed fix))
 
 pub record AreAllMarked (g : Game) (fix : Fix) (marks : List Mark) (n row : ℕ) (y : List ℤ) : Type 0 where
-  pub marks : marks ≡ marks_of (compared_to g fix n) (drop 1 y)
-  pub row : row ≡ 1 + length (compared_to g fix n)
+  pub are : marks ≡ marks_of (compared_to g fix n) (drop 1 y)
+  pub row_is : row ≡ 1 + length (compared_to g fix n)
 
 compared-more : (g : Game) (fix : Fix) (n : ℕ) → n < length fix.acts → compared_to g fix (n + 1) ≡ compared_to g fix n ++ other_actions g (fix.first + n, slice_index fix.acts n)
 compared-more g fix n lt =
@@ -112,16 +112,16 @@ all-marked g fix before marks n row next l act y lt el ea h en em =
     let ns : List (ℕ × ℕ) = other_actions g here in
     let at : here ≡ (fix.first + n, slice_index fix.acts n) = ap (λ (k : ℕ). (k, act)) el ∙ ap (λ (k : ℕ). (fix.first + n, k)) ea in
     let more : compared_to g fix (n + 1) ≡ ms ++ ns = compared-more g fix n lt ∙ ap (λ p. ms ++ other_actions g p) (sym at) in
-    let behind : drop (length ms) (drop 1 y) ≡ drop row y = drop-drop (length ms) 1 y ∙ ap (λ k. drop k y) (sym h.row) in
+    let behind : drop (length ms) (drop 1 y) ≡ drop row y = drop-drop (length ms) 1 y ∙ ap (λ k. drop k y) (sym h.row_is) in
     record {
-      marks =
+      are =
           em
-          ∙ (ap (λ (xs : List Mark). xs ++ marks_of ns (drop row y)) h.marks
+          ∙ (ap (λ (xs : List Mark). xs ++ marks_of ns (drop row y)) h.are
           ∙ sym (ap (λ ks. marks_of ks (drop 1 y)) more ∙ (marks-append ms ns (drop 1 y) ∙ ap (λ vs. marks_of ms (drop 1 y) ++ marks_of ns vs) behind)));
-      row = omega (arith, en, h.row, ap length more, length-append ms ns);
+      row_is = omega (arith, en, h.row_is, ap length more, length-append ms ns);
     }
 
 pub all-end : (g : Game) (fix : Fix) (marks : List Mark) (n row : ℕ) (y : List ℤ) → length fix.acts ≤ n → n ≤ length fix.acts → AreAllMarked g fix marks n row y → marks ≡ marks_of (comparisons g fix) (drop 1 y)
 all-end g fix marks n row y le ge h =
     let e : n ≡ length (fixed fix) = omega (arith, le, ge, fixed-count fix) in
-    h.marks ∙ ap (λ ps. marks_of (flat_map (other_actions g) ps) (drop 1 y)) (ap (λ k. take k (fixed fix)) e ∙ take-length (fixed fix))
+    h.are ∙ ap (λ ps. marks_of (flat_map (other_actions g) ps) (drop 1 y)) (ap (λ k. take k (fixed fix)) e ∙ take-length (fixed fix))

@@ -2,10 +2,10 @@
 use Rattle.std.proofs.Common.{◌≡◌, ◌≢◌, ◌∙◌, ℕ, zero, suc, ◌+◌, ◌<◌, ◌≤◌, Bool, true, false, List, [], ◌∷◌, ◌++◌, map, length, ℤ, pos, ◌+ℤ◌, refl, ap, sym, subst, arith, inl, inr}
 use Rattle.std.specs.Int.{int_max}
 use Rattle.std.specs.List.{flat_map}
-use Rattle.std.proofs.lemmas.Int.{ints}
+use Rattle.std.proofs.lemmas.Int.{int_max_is, ints}
 use Rattle.sg_model.specs.Sums.{greatest, numbers, numbers_from, nth, total}
 use Rattle.sg_model.specs.Games.{Game, action_count, attacker, payoff}
-use Rattle.sg_model.specs.Limits.{IsGame}
+use Rattle.sg_model.specs.Limits.{IsGame, IsPay}
 use Rattle.sg_model.specs.Payoffs.{payoffs_at, payoffs_of}
 use Rattle.sg_model.proofs.Forms.{no_matrix}
 use Rattle.sg_model.proofs.Promises.{game_cases, peopled, yes_matrix}
@@ -59,3 +59,10 @@ fixed-row g fix = go fix.first fix.acts
     go : (a : ℕ) (acts : List ℕ) → fixed_priors g (record { first = a; acts = acts }) ≡ total (λ l. (attacker g l).prior) (numbers_from a (length acts))
     go a [] = refl
     go a (c ∷ cs) = ap (λ z. (attacker g a).prior +ℤ z) (go (a + 1) cs)
+
+-- a larger number, by what it is the larger of
+pub larger-is : (m r a b a' b' : ℤ) → r ≡ int_max a b → a ≡ a' → b ≡ b' → m ≡ int_max a' b' → r ≡ m
+larger-is m r a b a' b' e p q h = e ∙ (ap (λ z. int_max z b) p ∙ (ap (λ z. int_max a' z) q ∙ sym h))
+
+pub larger-pay : (m a b : ℤ) → m ≡ int_max a b → IsPay a → IsPay b → IsPay m
+larger-pay m a b e p q = let is = int_max_is a b in record { at_least = omega (arith, ints, e, is, p.at_least, q.at_least); at_most = omega (arith, ints, e, is, p.at_most, q.at_most) }

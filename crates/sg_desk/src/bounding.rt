@@ -70,7 +70,8 @@ fn open_worth(game: &Game, caps: Caps, n: u8) -> i128
 
 /// What the bound of a fact that fixes the first `n` types adds to `mu`, for each `rho`.
 fn rest(game: &Game, caps: Caps, n: u8) -> i128
-    requires { n ≤ length game.now.types }
+    requires some { 1 ≤ n }
+    requires few { n ≤ length game.now.types }
     ensures { result ≡ rest_of game.now (end_caps game.now caps) n }
 {
     let priors = priors_from(game, 1, n);
@@ -97,7 +98,8 @@ fn misfit(rho: i128, mu: i128, rest: i128, priors: i128) -> Option<Wide>
 
 /// The first operation under the bound of a fact that fixes the first `n` types that doesn't fit.
 fn bound_misfit(game: &Game, caps: Caps, n: u8, rho: i128, mu: i128) -> Option<Wide>
-    requires { n ≤ length game.now.types }
+    requires some { 1 ≤ n }
+    requires few { n ≤ length game.now.types }
     ensures { (marks : List Mark) → result ≡ first_wide (bound_steps game.now (end_caps game.now caps) n (Plays rho mu marks)) }
 {
     if mu < 1 {

@@ -5,11 +5,19 @@ ghost use Rattle.sg_model.specs.Games.{attacker};
 ghost use Rattle.sg_model.specs.Limits.{IsPay};
 ghost use Rattle.sg_model.specs.Payoffs.{payoffs_of};
 ghost use Rattle.sg_model.specs.Sums.{greatest, numbers, numbers_from, total};
+ghost use Rattle.std.specs.Int.{int_max};
 ghost use Rattle.std.specs.List.{flat_map};
 ghost use Rattle.sg_bounds.specs.Sizes.{attacker_most, defender_most};
 
 use crate::spans::attacker_span;
 use sg_game::{Game, greatest, shift};
+
+/// The larger of two numbers.
+fn larger(left: i64, right: i64) -> i64
+    ensures { result ≡ int_max left right }
+{
+    if right < left { left } else { right }
+}
 
 /// The greatest difference between two attacker payoffs of one type, and at least 1.
 pub(crate) fn attacker_most(game: &Game) -> i128
@@ -18,9 +26,9 @@ pub(crate) fn attacker_most(game: &Game) -> i128
     let types = game.types();
     let mut most = attacker_span(game, 1);
     for l in 1..types {
-        most = most.max(attacker_span(game, l + 1));
+        most = larger(most, attacker_span(game, l + 1));
     }
-    i128::from(most.max(1))
+    i128::from(larger(1, most))
 }
 
 /// The defender's greatest payoff.
@@ -32,7 +40,7 @@ fn greatest_payoff(game: &Game) -> i64
     let types = game.types();
     let mut most = greatest(game, 1);
     for l in 1..types {
-        most = most.max(greatest(game, l + 1));
+        most = larger(most, greatest(game, l + 1));
     }
     most
 }
