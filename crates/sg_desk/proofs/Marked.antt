@@ -125,3 +125,14 @@ pub all-end : (g : Game) (fix : Fix) (marks : List Mark) (n row : ℕ) (y : List
 all-end g fix marks n row y le ge h =
     let e : n ≡ length (fixed fix) = omega (arith, le, ge, fixed-count fix) in
     h.are ∙ ap (λ ps. marks_of (flat_map (other_actions g) ps) (drop 1 y)) (ap (λ k. take k (fixed fix)) e ∙ take-length (fixed fix))
+
+-- as they are put
+pub marked-other-by : (before marks put all : List Mark) (l act n row next after : ℕ) (y : List ℤ) (v : ℤ) → n + 1 ≢ act → AreMarked before marks l act n row next y
+    → put ≡ marks ++ marks_of ((l, n + 1) ∷ []) (v ∷ []) → v ≡ place y next → all ≡ put → after ≡ next + 1 → AreMarked before all l act (n + 1) row after y
+marked-other-by before marks put all l act n row next after y v ne h e ev ea en =
+    subst (λ k. AreMarked before all l act (n + 1) row k y) (sym en)
+    (marked-other before marks all l act n row next y ne h (ea ∙ (e ∙ ap (λ (z : ℤ). marks ++ marks_of ((l, n + 1) ∷ []) (z ∷ [])) ev)))
+
+pub marked-same-by : (before marks all : List Mark) (l act n row next after : ℕ) (y : List ℤ) → n + 1 ≡ act → AreMarked before marks l act n row next y → all ≡ marks → after ≡ next → AreMarked before all l act (n + 1) row after y
+marked-same-by before marks all l act n row next after y is h ea en =
+    subst (λ k. AreMarked before all l act (n + 1) row k y) (sym en) (subst (λ xs. AreMarked before xs l act (n + 1) row next y) (sym ea) (marked-same before marks l act n row next y is h))

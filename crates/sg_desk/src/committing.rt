@@ -2,6 +2,7 @@
 
 ghost use Rattle.std.specs.Prelude.{◌≡◌, ◌<ℤ◌, pos, IfOk, None};
 ghost use Rattle.sg_model.specs.Commitments.{AreLegal};
+ghost use Rattle.sg_commit.specs.Committed.{IsCommitted};
 ghost use Rattle.sg_commit.specs.Parts.{AreMultiple, part_fault};
 ghost use Rattle.sg_bounds.specs.Regions.{IsFix};
 ghost use Rattle.sg_rows.specs.Rows.{place};
@@ -58,10 +59,14 @@ fn tickets(alloc: Global, parts: &[Part]) -> Result<Vec<Ticket>, AllocError>
 /// The commitment of tickets without a fault.
 fn committed(tickets: Vec<Ticket>) -> Commitment
     requires { part_fault tickets.items ≡ None }
-    ensures { AreMultiple tickets.items result.tickets }
+    ensures rules { IsCommitted result }
+    ensures shares { AreMultiple tickets.items result.tickets }
 {
     match Commitment::of(tickets) {
-        Ok(k) => k,
+        Ok(k) => {
+            let _tickets = k.tickets();
+            k
+        }
         Err(_) => unreachable!(),
     }
 }
