@@ -1,19 +1,39 @@
 -- What is told of a run that is done: its commitment, and what its end shows.
-use Rattle.std.proofs.Common.{◌≡◌, ◌∙◌, ℕ, List, [], ◌∷◌, ◌++◌, map, ℤ, pos, Option, Some, None, ap, sym, subst, refl, arith, inl, inr}
-use Rattle.std.specs.Prelude.{◌<ℤ◌, ◌≤ℤ◌, ◌⊎◌}
+use Rattle.std.proofs.Common.{◌≡◌, ◌∙◌, ℕ, List, [], ◌∷◌, ◌++◌, length, map, ℤ, pos, Option, Some, None, Result, Ok, Err, ap, sym, subst, refl, arith, inl, inr}
+use Rattle.std.specs.Prelude.{◌<ℤ◌, ◌≤ℤ◌, IfOk}
 use Rattle.std.proofs.lemmas.Int.{ints}
 use Rattle.sg_num.specs.declared.step.Wide.{Wide}
-use Rattle.sg_num.specs.Operations.{first_wide}
+use Rattle.sg_num.specs.declared.step.Op.TheVariants.{Times}
+use Rattle.sg_num.specs.Exact.{exact_times}
+use Rattle.sg_num.specs.Operations.{first_wide, formed, times}
 use Rattle.sg_model.specs.declared.ticket.Ticket.{Ticket}
-use Rattle.sg_model.specs.Games.{Game}
+use Rattle.sg_model.specs.Commitments.{weight_total, worth}
+use Rattle.sg_model.specs.Games.{Game, prior_total}
+use Rattle.sg_model.specs.Sums.{numbers}
 use Rattle.sg_commit.specs.Committed.{Committed, IsCommitted}
+use Rattle.sg_commit.specs.ExactSums.{exact_worth}
 use Rattle.sg_commit.specs.Parts.{AreMultiple}
+use Rattle.sg_commit.specs.SumSteps.{worth_steps}
+use Rattle.sg_commit.proofs.SumSteps.{sums_are_formed}
+use Rattle.sg_tree.specs.declared.fact.Fact.{Fact}
+use Rattle.sg_tree.specs.declared.fact.Fact.TheVariants.{Plays}
+use Rattle.sg_tree.specs.declared.fact.Mark.{Mark}
 use Rattle.sg_tree.specs.declared.fix.Fix.{Fix}
+use Rattle.sg_bounds.specs.Facts.{mu_of}
+use Rattle.sg_bounds.specs.SizeSteps.{size_steps}
+use Rattle.sg_rows.specs.Rows.{place}
+use Rattle.sg_rows.proofs.Fitting.{Err-stops, Ok-fits}
+use Rattle.sg_simplex.proofs.Shown.{alone-fits, alone-stops, named-fits, named-stops}
+use Rattle.sg_upper.proofs.Quotients.{step-Err, step-Ok}
+use Rattle.sg_search.specs.Results.{Reaches}
 use Rattle.sg_lp.specs.Moves.{NamedStep, first_shown, under_name}
 use Rattle.sg_lp.specs.States.{Tableau}
 use Rattle.sg_programs.specs.Plays.{plays_program}
 use Rattle.sg_programs.specs.Points.{point_rows, point_steps, point_ticket, point_tickets}
-use Rattle.sg_programs.specs.Shown.{IsCommitmentAt}
+use Rattle.sg_programs.specs.Shown.{CommitmentShows, EndShows, IsCommitmentAt, PointShows, ShowsOr, both_bounds, commitment_values, fact_at, fact_values}
+use Rattle.sg_work.specs.declared.work.Ended.{Ended}
+use Rattle.sg_desk.specs.declared.run.Run.{Run}
+use Rattle.sg_desk.specs.Ending.{DoneTells, IsStuckAt, TellsAt}
 use Rattle.sg_dual.specs.declared.part.Part.{Part}
 use Rattle.sg_dual.specs.Parts.{part_of_row, point_parts, tickets_of}
 
@@ -29,3 +49,82 @@ commitment-is g h fix t parts tickets k e fit is of rules shares =
       subst (λ x. first_wide (point_steps (plays_program x fix) t) ≡ None) e fit,
       (rules, subst (λ xs. AreMultiple xs k.tickets) same shares),
     )
+
+-- ---- the values of a commitment
+
+module _ (g : Game) (k : List Ticket) where
+  abbrev steps : List Wide
+  steps = worth_steps g k (pos 0) (numbers (length g.types))
+
+  abbrev last : Wide
+  last = times (weight_total k) (prior_total g)
+
+  worth-is : exact_worth g k ≡ formed steps (worth g k)
+  worth-is = (sums_are_formed g k).worth
+
+  pub worth-stops : (w : Wide) → Err w ≡ exact_worth g k → ◌≡◌ {A = Option NamedStep} (Some (record { name = 6; step = w })) (first_shown (commitment_values g k))
+  worth-stops w e = sym (named-stops 6 steps (under_name 7 (last ∷ [])) w (Err-stops steps (worth g k) w (e ∙ worth-is)))
+
+  module _ (v : ℤ) (e : Ok v ≡ exact_worth g k) where
+    worth-fits : first_shown (commitment_values g k) ≡ first_shown (under_name 7 (last ∷ []))
+    worth-fits = named-fits 6 steps (under_name 7 (last ∷ [])) (Ok-fits steps (worth g k) v (e ∙ worth-is))
+
+    pub base-fits : (u : ℤ) → Ok u ≡ exact_times (weight_total k) (prior_total g) → ◌≡◌ {A = Option NamedStep} None (first_shown (commitment_values g k))
+    base-fits u h = sym (worth-fits ∙ alone-fits 7 (last ∷ []) (step-Ok Times (weight_total k) (prior_total g) u [] h).0)
+
+    pub base-stops : (w : Wide) → Err w ≡ exact_times (weight_total k) (prior_total g) → ◌≡◌ {A = Option NamedStep} (Some (record { name = 7; step = w })) (first_shown (commitment_values g k))
+    base-stops w h = sym (worth-fits ∙ alone-stops 7 (last ∷ []) w (step-Err Times (weight_total k) (prior_total g) w [] h))
+
+-- ---- what the end shows
+
+here : (o : Option NamedStep) (s : NamedStep) (Later : Type 0) → o ≡ Some s → ShowsOr o Later (Some s)
+here o s Later e = subst (λ (x : Option NamedStep). ShowsOr x Later (Some s)) (sym e) refl
+
+later : (o : Option NamedStep) (Later : Type 0) (shown : Option NamedStep) → o ≡ None → Later → ShowsOr o Later shown
+later o Later shown e h = subst (λ (x : Option NamedStep). ShowsOr x Later shown) (sym e) h
+
+-- what holds of a value that is told holds of what it implies
+pub IfOk-map : {A E : Type 0} (P Q : A → Type 0) (r : Result A E) → IfOk r P → ((x : A) → P x → Q x) → IfOk r Q
+IfOk-map P Q (Ok x) h f = f x h
+IfOk-map P Q (Err e) h f = tt
+
+pub stuck-tells : (g : Game) (r : Run) (s : NamedStep) → EndShows g r.fix r.node.tableau (Some s) → (e : Ended) → IsStuckAt r s e → DoneTells g r e
+stuck-tells g r s shows e is = subst (DoneTells g r) (sym is) (s, (shows, refl))
+
+module _ (g : Game) (r : Run) (rho mu : ℤ) (marks : List Mark) (fact : fact_at g r.fix r.node.tableau ≡ Plays rho mu marks) where
+  abbrev t : Tableau
+  t = r.node.tableau
+
+  abbrev f : Fact
+  f = Plays rho mu marks
+
+  pub fact-shows : (w : Wide) → Some w ≡ first_wide (size_steps g r.fix f ++ both_bounds g r.fix f) → EndShows g r.fix t (Some (record { name = 4; step = w }))
+  fact-shows w e =
+      here (first_shown (fact_values g r.fix (fact_at g r.fix t))) (record { name = 4; step = w }) (PointShows g r.fix t (Some (record { name = 4; step = w })))
+      (ap (λ x. first_shown (fact_values g r.fix x)) fact ∙ alone-stops 4 (size_steps g r.fix f ++ both_bounds g r.fix f) w (sym e))
+
+  module _ (fits : first_shown (fact_values g r.fix f) ≡ None) where
+    after-fact : (o : Option NamedStep) → PointShows g r.fix t o → EndShows g r.fix t o
+    after-fact o h = later (first_shown (fact_values g r.fix (fact_at g r.fix t))) (PointShows g r.fix t o) o (ap (λ x. first_shown (fact_values g r.fix x)) fact ∙ fits) h
+
+    module _ (some : pos 1 ≤ℤ mu) where
+      above : pos 0 <ℤ place t.y 0
+      above = let e = ap mu_of fact in omega (arith, ints, some, e)
+
+      pub point-shows : (w : Wide) → first_wide (point_steps (plays_program g r.fix) t) ≡ Some w → EndShows g r.fix t (Some (record { name = 5; step = w }))
+      point-shows w e =
+          after-fact (Some (record { name = 5; step = w })) (inr (above,
+          here (first_shown (under_name 5 (point_steps (plays_program g r.fix) t))) (record { name = 5; step = w }) (CommitmentShows g r.fix t (Some (record { name = 5; step = w })))
+          (alone-stops 5 (point_steps (plays_program g r.fix) t) w e)))
+
+      module _ (k : Committed) (at : (first_wide (point_steps (plays_program g r.fix) t) ≡ None) × IsCommitmentAt g r.fix t k) (reach : Reaches g r.fix (fact_at g r.fix t) k.tickets) where
+        commitment-shows : (o : Option NamedStep) → first_shown (commitment_values g k.tickets) ≡ o → EndShows g r.fix t o
+        commitment-shows o e =
+            after-fact o (inr (above,
+            later (first_shown (under_name 5 (point_steps (plays_program g r.fix) t))) (CommitmentShows g r.fix t o) o (alone-fits 5 (point_steps (plays_program g r.fix) t) at.0) (k, (at.1, e))))
+
+        pub tells-done : (o : Option NamedStep) → first_shown (commitment_values g k.tickets) ≡ o → (e : Ended) → TellsAt r f k o e → DoneTells g r e
+        tells-done (Some s) shown e is = stuck-tells g r s (commitment-shows (Some s) shown) e is
+        tells-done None shown e is =
+            subst (DoneTells g r) (sym is)
+            (commitment-shows None shown, sym fact, (above, at.1), (omega (arith, ints, some), at.1.0, subst (λ x. Reaches g r.fix x k.tickets) fact reach))
