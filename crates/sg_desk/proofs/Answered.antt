@@ -1,5 +1,5 @@
 -- What is told of a run that is done: its commitment, and what its end shows.
-use Rattle.std.proofs.Common.{◌≡◌, ◌∙◌, ℕ, List, [], ◌∷◌, ◌++◌, length, map, ℤ, pos, Option, Some, None, Result, Ok, Err, ap, sym, subst, refl, arith, inl, inr}
+use Rattle.std.proofs.Common.{◌≡◌, ◌∙◌, ℕ, List, [], ◌∷◌, ◌++◌, drop, length, map, ℤ, pos, Option, Some, None, Result, Ok, Err, ap, sym, subst, refl, arith, inl, inr}
 use Rattle.std.specs.Prelude.{◌<ℤ◌, ◌≤ℤ◌, IfOk}
 use Rattle.std.proofs.lemmas.Int.{ints}
 use Rattle.sg_num.specs.declared.step.Wide.{Wide}
@@ -19,7 +19,11 @@ use Rattle.sg_tree.specs.declared.fact.Fact.{Fact}
 use Rattle.sg_tree.specs.declared.fact.Fact.TheVariants.{Plays}
 use Rattle.sg_tree.specs.declared.fact.Mark.{Mark}
 use Rattle.sg_tree.specs.declared.fix.Fix.{Fix}
+use Rattle.sg_tree.specs.declared.report.Cause.{Cause}
+use Rattle.sg_tree.specs.declared.report.Cause.TheVariants as cause
+use Rattle.sg_tree.specs.declared.report.Cause.TheVariants.{Wide as TooWide}
 use Rattle.sg_bounds.specs.Facts.{mu_of}
+use Rattle.sg_bounds.specs.PlayRows.{comparisons}
 use Rattle.sg_bounds.specs.SizeSteps.{size_steps}
 use Rattle.sg_rows.specs.Rows.{place}
 use Rattle.sg_rows.proofs.Fitting.{Err-stops, Ok-fits}
@@ -28,10 +32,16 @@ use Rattle.sg_upper.proofs.Quotients.{step-Err, step-Ok}
 use Rattle.sg_search.specs.Results.{Reaches}
 use Rattle.sg_lp.specs.Moves.{NamedStep, first_shown, under_name}
 use Rattle.sg_lp.specs.States.{Tableau}
+use Rattle.sg_simplex.specs.declared.turn.Turn.{Turn}
+use Rattle.sg_simplex.specs.declared.turn.Turn.TheVariants as turn
+use Rattle.sg_programs.specs.Marks.{marks_of}
+use Rattle.sg_programs.specs.NodeTests.{IsNodeEnd, Method, StopsNode, listed_plays}
 use Rattle.sg_programs.specs.Plays.{plays_program}
 use Rattle.sg_programs.specs.Points.{point_rows, point_steps, point_ticket, point_tickets}
 use Rattle.sg_programs.specs.Shown.{CommitmentShows, EndShows, IsCommitmentAt, PointShows, ShowsOr, both_bounds, commitment_values, fact_at, fact_values}
 use Rattle.sg_work.specs.declared.work.Ended.{Ended}
+use Rattle.sg_work.specs.declared.work.Ended.TheVariants.{Stuck, Worked}
+use Rattle.sg_desk.specs.Runs.{EndedBy, IsOutcome, IsRunOf}
 use Rattle.sg_desk.specs.declared.run.Run.{Run}
 use Rattle.sg_desk.specs.Ending.{DoneTells, IsStuckAt, TellsAt}
 use Rattle.sg_dual.specs.declared.part.Part.{Part}
@@ -128,3 +138,38 @@ module _ (g : Game) (r : Run) (rho mu : ℤ) (marks : List Mark) (fact : fact_at
         tells-done None shown e is =
             subst (DoneTells g r) (sym is)
             (commitment-shows None shown, sym fact, (above, at.1), (omega (arith, ints, some), at.1.0, subst (λ x. Reaches g r.fix x k.tickets) fact reach))
+
+-- ---- the fact of a run that is done
+
+pub fact-is : (g : Game) (fix : Fix) (t : Tableau) (rho mu : ℤ) (marks : List Mark) (y : List ℤ) → rho ≡ t.rho → y ≡ t.y → mu ≡ place y 0 → marks ≡ marks_of (comparisons g fix) (drop 1 y) → fact_at g fix t ≡ Plays rho mu marks
+fact-is g fix t rho mu marks y er ey em es =
+    let a : place t.y 0 ≡ mu = ap (λ z. place z 0) (sym ey) ∙ sym em in
+    let b : marks_of (comparisons g fix) (drop 1 t.y) ≡ marks = ap (λ z. marks_of (comparisons g fix) (drop 1 z)) (sym ey) ∙ sym es in
+    ap (λ z. Plays z (place t.y 0) (marks_of (comparisons g fix) (drop 1 t.y))) (sym er) ∙ (ap (λ z. Plays rho z (marks_of (comparisons g fix) (drop 1 t.y))) a ∙ ap (Plays rho mu) b)
+
+pub fact-fits : (g : Game) (fix : Fix) (f h : Fact) → f ≡ h → ◌≡◌ {A = Option Wide} None (first_wide (size_steps g fix f ++ both_bounds g fix f)) → first_shown (fact_values g fix h) ≡ None
+fact-fits g fix f h e none = ap (λ x. first_shown (fact_values g fix x)) (sym e) ∙ alone-fits 4 (size_steps g fix f ++ both_bounds g fix f) (sym none)
+
+-- ---- what a run that has ended came to
+
+module _ (g : Game) (pivots looks width : ℕ) (r : Run) (is : IsRunOf g pivots looks width r) where
+  abbrev m : Method
+  m = listed_plays g pivots looks
+
+  pub end-of : (answer : Turn) → r.answer ≡ Some answer → IsNodeEnd g (listed_plays g pivots looks) r.fix r.node.steps r.node.tableau answer
+  end-of answer e =
+      let by : EndedBy g m r.fix r.node.steps r.node.tableau (Some answer) = subst (EndedBy g m r.fix r.node.steps r.node.tableau) e is.ended in
+      record { other = by.0; answers = by.1; first = is.first }
+
+  pub looks-stop : (step : ℕ) (fix : Fix) → r.answer ≡ Some turn.LooksSpent → step ≡ r.node.steps → fix ≡ r.fix → StopsNode g (listed_plays g pivots looks) r.fix (cause.Looks looks step fix)
+  looks-stop step fix e s f = record { moves = r.node.steps; state = r.node.tableau; answer = turn.LooksSpent; end = end-of turn.LooksSpent e; says = (refl, refl, s, f) }
+
+  pub outcome-done : r.answer ≡ Some turn.Done → (e : Ended) → DoneTells g r e → IsOutcome g (listed_plays g pivots looks) r.fix e
+  outcome-done e (Worked fact point) h = record { moves = r.node.steps; state = r.node.tableau; end = end-of turn.Done e; shows = h.0; fact_is = h.1; point_is = h.2; reaches = h.3 }
+  outcome-done e (Stuck why) h =
+      let s = h.0 in
+      subst (StopsNode g (listed_plays g pivots looks) r.fix) (sym (stuck-is why (TooWide s.name s.step r.node.steps r.fix) h.1.1))
+      (record { moves = r.node.steps; state = r.node.tableau; answer = turn.Done; end = end-of turn.Done e; says = (inr (refl, h.1.0), refl, refl) })
+    where
+      stuck-is : (a b : Cause) → Stuck a ≡ Stuck b → a ≡ b
+      stuck-is a b q = cc

@@ -3,3 +3,5 @@ pub mod Formed
 pub mod Marked
 pub mod Opened
 pub mod Answered
+pub mod Roomy
+pub mod Laned
