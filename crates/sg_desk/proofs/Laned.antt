@@ -154,3 +154,9 @@ module _ (g : Game) (pivots looks : ℕ) (pool : PoolView) (runs : List (Option 
           out = omega (arith, one, alike, rows-held, out);
           lanes = All-set (IsLaneOf g pivots looks pool.width) runs i (Some next) is d.lanes;
         }
+
+pub some-one : (r : Run) → ◌≡◌ {A = Option Run} None (Some r) → ⊥
+some-one r e = cc
+
+pub same-run : (a b : Run) → ◌≡◌ {A = Option Run} (Some a) (Some b) → a ≡ b
+same-run a b e = cc

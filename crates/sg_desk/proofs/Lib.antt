@@ -5,3 +5,4 @@ pub mod Opened
 pub mod Answered
 pub mod Roomy
 pub mod Laned
+pub mod Stepped

@@ -20,6 +20,7 @@ impl<'a> Work for Desk<'a> {
     ghost stops = { λ d. StopsNode d.game (listed_plays d.game d.pivots d.looks) };
 
     fn start(&mut self, alloc: Global, lane: u8, fix: &Fix) -> Result<(), AllocError> {
+        self.game.promises();
         let pool = &mut self.pool;
         let run = Run::start(alloc, self.game, fix, self.pivots, self.looks, pool)?;
         self.runs[lane as usize - 1] = Some(run);
@@ -27,6 +28,7 @@ impl<'a> Work for Desk<'a> {
     }
 
     fn step(&mut self, lane: u8) -> Step {
+        self.game.promises();
         match &mut self.runs[lane as usize - 1] {
             Some(run) => run.step(),
             None => unreachable!(),
@@ -34,6 +36,7 @@ impl<'a> Work for Desk<'a> {
     }
 
     fn finish(&self, alloc: Global, lane: u8) -> Result<Ended, AllocError> {
+        self.game.promises();
         match &self.runs[lane as usize - 1] {
             Some(run) => run.finish(alloc, self.game, self.pivots, self.looks),
             None => unreachable!(),

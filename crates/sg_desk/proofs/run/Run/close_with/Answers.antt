@@ -1,4 +1,4 @@
-use Rattle.std.proofs.Common.{◌≡◌, None, arith, ap, refl, subst}
+use Rattle.std.proofs.Common.{◌≡◌, None, Some, arith, ap, refl, subst}
 use Rattle.std.proofs.lemmas.Int.{ints, to_z-of_z}
 use Rattle.sg_num.specs.Operations.{first_wide}
 use Rattle.sg_tree.specs.declared.fact.Fact.TheVariants.{Plays}
@@ -34,6 +34,6 @@ returns-in-Err-Wide c =
     let r = a.self.now in
     let e : r.node.family.fix ≡ r.fix = ap (λ (n : NodeOf). n.fix) c.requires.run.family in
     let wide = rw c.in-Err-Wide.field-0-is at c.in-Err-Wide.ensures.formed in
-    let shown = subst (λ (x : Fix). first_wide (point_steps (plays_program g x) r.node.tableau) ≡ _) e wide in
+    let shown = subst (λ (x : Fix). first_wide (point_steps (plays_program g x) r.node.tableau) ≡ Some c.in-Err-Wide.wide) e wide in
     let s : NamedStep = record { name = 5; step = c.in-Err-Wide.wide } in
     IfOk-map (IsStuckAt r s) (DoneTells g r) c.wide.result c.wide.ensures (stuck-tells g r s (point-shows g r a.rho a.mu a.marks c.requires.fact c.requires.fits (omega (arith, ints, c.if-mu-lt1.false)) c.in-Err-Wide.wide shown))
