@@ -12,16 +12,16 @@ use Rattle.sg_tree.specs.declared.fix.Fix.{Fix}
 use Rattle.sg_lp.specs.Pooled.{GivesBack, taken_from}
 use Rattle.sg_lp.specs.States.{start_of}
 use Rattle.sg_pool.specs.Pools.{PoolView}
-use Rattle.sg_programs.specs.NodeTests.{EndsNode, listed_plays}
+use Rattle.sg_programs.specs.NodeTests.{ClosesNode, EndsNode, StopsNode, listed_plays}
 use Rattle.sg_programs.specs.Plays.{plays_program}
-use Rattle.sg_work.specs.Works.{IsLoaded, IsUnloaded, Load, load_at}
+use Rattle.sg_work.specs.Works.{AreSameTests, IsLoaded, IsUnloaded, Load, load_at}
 use Rattle.sg_desk.specs.declared.run.Run.{Run}
 use Rattle.sg_desk.specs.Runs.{IsRunOf, has_ended, load_of}
-use Rattle.sg_desk.specs.Desks.{IsDesk, IsLaneOf, rows_out}
+use Rattle.sg_desk.specs.Desks.{DeskView, IsDesk, IsLaneOf, rows_out}
 use Rattle.sg_desk.proofs.Roomy.{height-within, sum-room}
 
 -- the lane's own load
-load-is : (runs : List (Option Run)) (lane : ℕ) → 1 ≤ lane → load_at (map load_of runs) lane ≡ load_of (slice_index_or runs (lane - 1) None)
+pub load-is : (runs : List (Option Run)) (lane : ℕ) → 1 ≤ lane → load_at (map load_of runs) lane ≡ load_of (slice_index_or runs (lane - 1) None)
 load-is runs zero low = absurd (omega (arith, low))
 load-is runs (suc k) low = let e : k ≡ suc k - 1 = omega arith in at runs k ∙ ap (λ i. load_of (slice_index_or runs i None)) e
   where
@@ -160,3 +160,11 @@ some-one r e = cc
 
 pub same-run : (a b : Run) → ◌≡◌ {A = Option Run} (Some a) (Some b) → a ≡ b
 same-run a b e = cc
+
+-- the tests of a desk are those of what it is seen as
+pub same-tests : (v w : DeskView) → v ≡ w → AreSameTests (EndsNode v.game (listed_plays v.game v.pivots v.looks)) (ClosesNode v.game (listed_plays v.game v.pivots v.looks)) (StopsNode v.game (listed_plays v.game v.pivots v.looks))
+    (EndsNode w.game (listed_plays w.game w.pivots w.looks)) (ClosesNode w.game (listed_plays w.game w.pivots w.looks)) (StopsNode w.game (listed_plays w.game w.pivots w.looks))
+same-tests v w e =
+    subst (λ (u : DeskView). AreSameTests (EndsNode v.game (listed_plays v.game v.pivots v.looks)) (ClosesNode v.game (listed_plays v.game v.pivots v.looks)) (StopsNode v.game (listed_plays v.game v.pivots v.looks))
+    (EndsNode u.game (listed_plays u.game u.pivots u.looks)) (ClosesNode u.game (listed_plays u.game u.pivots u.looks)) (StopsNode u.game (listed_plays u.game u.pivots u.looks))) e
+    (record { end_alike = λ node moves. (λ x. x, λ x. x); close_alike = λ node fact point. (λ x. x, λ x. x); stop_alike = λ node why. (λ x. x, λ x. x) })
