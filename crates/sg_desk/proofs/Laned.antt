@@ -1,5 +1,5 @@
 -- Lanes: what a lane holds, and what is kept where one is given something else.
-use Rattle.std.proofs.Common.{◌≡◌, ◌≢◌, ◌∙◌, ℕ, zero, suc, ◌+◌, ◌-◌, ◌*◌, ◌<◌, ◌≤◌, Bool, true, false, List, [], ◌∷◌, length, map, take, Option, Some, None, ap, sym, subst, refl, arith, pos, slice_index_or, slice_set, length-take, length-set}
+use Rattle.std.proofs.Common.{◌≡◌, ◌≢◌, ◌∙◌, ℕ, zero, suc, ◌+◌, ◌-◌, ◌*◌, ◌<◌, ◌≤◌, Bool, true, false, List, [], ◌∷◌, length, map, replicate, take, Option, Some, None, ap, sym, subst, refl, arith, pos, slice_index_or, slice_set, length-take, length-set}
 use Rattle.std.specs.List.{All, sum_by}
 use Rattle.std.proofs.lemmas.List.{length-map}
 use Rattle.std.proofs.lemmas.List.Elements.{All-set}
@@ -14,9 +14,12 @@ use Rattle.sg_lp.specs.States.{start_of}
 use Rattle.sg_pool.specs.Pools.{PoolView}
 use Rattle.sg_programs.specs.NodeTests.{ClosesNode, EndsNode, StopsNode, listed_plays}
 use Rattle.sg_programs.specs.Plays.{plays_program}
-use Rattle.sg_work.specs.Works.{AreSameTests, IsLoaded, IsUnloaded, Load, load_at}
+use Rattle.sg_work.specs.Works.{AreSameTests, IsFinding, IsLoaded, IsUnloaded, Load, load_at}
 use Rattle.sg_desk.specs.declared.run.Run.{Run}
-use Rattle.sg_desk.specs.Runs.{IsRunOf, has_ended, load_of}
+use Rattle.sg_programs.proofs.NodeEnds.{closed_is_result}
+use Rattle.sg_work.specs.declared.work.Ended.{Ended}
+use Rattle.sg_work.specs.declared.work.Ended.TheVariants.{Stuck, Worked}
+use Rattle.sg_desk.specs.Runs.{IsOutcome, IsRunOf, has_ended, load_of}
 use Rattle.sg_desk.specs.Desks.{DeskView, IsDesk, IsLaneOf, rows_out}
 use Rattle.sg_desk.proofs.Roomy.{height-within, sum-room}
 
@@ -168,3 +171,22 @@ same-tests v w e =
     subst (λ (u : DeskView). AreSameTests (EndsNode v.game (listed_plays v.game v.pivots v.looks)) (ClosesNode v.game (listed_plays v.game v.pivots v.looks)) (StopsNode v.game (listed_plays v.game v.pivots v.looks))
     (EndsNode u.game (listed_plays u.game u.pivots u.looks)) (ClosesNode u.game (listed_plays u.game u.pivots u.looks)) (StopsNode u.game (listed_plays u.game u.pivots u.looks))) e
     (record { end_alike = λ node moves. (λ x. x, λ x. x); close_alike = λ node fact point. (λ x. x, λ x. x); stop_alike = λ node why. (λ x. x, λ x. x) })
+
+loads-none : (n : ℕ) → ◌≡◌ {A = List (Option Load)} (map load_of (replicate n None)) (replicate n None)
+loads-none zero = refl
+loads-none (suc n) = ap (λ (ys : List (Option Load)). None ∷ ys) (loads-none n)
+
+-- a desk whose lanes hold nothing
+pub new-view : (g : Game) (pivots looks n : ℕ) (runs : List (Option Run)) → runs ≡ replicate n None
+    → ◌≡◌ {A = DeskView} (record { game = g; loads = map load_of runs; pivots = pivots; looks = looks }) (record { game = g; loads = replicate n None; pivots = pivots; looks = looks })
+new-view g pivots looks n runs e =
+    let at : List (Option Load) → DeskView = λ xs. record { game = g; loads = xs; pivots = pivots; looks = looks } in
+    ap at (ap (map load_of) e ∙ loads-none n)
+
+-- what is told of a run that has ended is what the work on nodes tells
+pub finding : (g : Game) → IsGame g → g.scale ≡ pos 0 → (pivots looks width : ℕ) (r : Run) → IsRunOf g pivots looks width r → (loads : List (Option Load)) (lane : ℕ)
+    → load_at loads lane ≡ Some (record { node = r.fix; moves = r.node.steps; ended = has_ended r.answer }) → (e : Ended) → IsOutcome g (listed_plays g pivots looks) r.fix e
+    → IsFinding g (ClosesNode g (listed_plays g pivots looks)) (StopsNode g (listed_plays g pivots looks)) loads lane e
+finding g h unscaled pivots looks width r is loads lane at (Worked fact point) out =
+    (record { node = r.fix; moves = r.node.steps; ended = has_ended r.answer }, at, out, closed_is_result g h unscaled r.fix is.node (listed_plays g pivots looks) fact point out)
+finding g h unscaled pivots looks width r is loads lane at (Stuck why) out = (record { node = r.fix; moves = r.node.steps; ended = has_ended r.answer }, at, out)
