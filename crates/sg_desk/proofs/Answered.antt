@@ -1,5 +1,5 @@
 -- What is told of a run that is done: its commitment, and what its end shows.
-use Rattle.std.proofs.Common.{◌≡◌, ◌∙◌, ℕ, List, [], ◌∷◌, ◌++◌, drop, length, map, ℤ, pos, Option, Some, None, Result, Ok, Err, ap, sym, subst, refl, arith, inl, inr}
+use Rattle.std.proofs.Common.{◌≡◌, ◌∙◌, ℕ, List, [], ◌∷◌, ◌++◌, drop, length, map, ℤ, pos, Option, Some, None, Result, Ok, Err, ap, sym, subst, refl, arith, inr}
 use Rattle.std.specs.Prelude.{◌<ℤ◌, ◌≤ℤ◌, IfOk}
 use Rattle.std.proofs.lemmas.Int.{ints}
 use Rattle.sg_num.specs.declared.step.Wide.{Wide}
@@ -123,15 +123,19 @@ module _ (g : Game) (r : Run) (rho mu : ℤ) (marks : List Mark) (fact : fact_at
 
       pub point-shows : (w : Wide) → first_wide (point_steps (plays_program g r.fix) t) ≡ Some w → EndShows g r.fix t (Some (record { name = 5; step = w }))
       point-shows w e =
-          after-fact (Some (record { name = 5; step = w })) (inr (above,
-          here (first_shown (under_name 5 (point_steps (plays_program g r.fix) t))) (record { name = 5; step = w }) (CommitmentShows g r.fix t (Some (record { name = 5; step = w })))
-          (alone-stops 5 (point_steps (plays_program g r.fix) t) w e)))
+          after-fact (Some (record { name = 5; step = w })) (inr (
+            above,
+            here (first_shown (under_name 5 (point_steps (plays_program g r.fix) t))) (record { name = 5; step = w }) (CommitmentShows g r.fix t (Some (record { name = 5; step = w })))
+                (alone-stops 5 (point_steps (plays_program g r.fix) t) w e),
+          ))
 
       module _ (k : Committed) (at : (first_wide (point_steps (plays_program g r.fix) t) ≡ None) × IsCommitmentAt g r.fix t k) (reach : Reaches g r.fix (fact_at g r.fix t) k.tickets) where
         commitment-shows : (o : Option NamedStep) → first_shown (commitment_values g k.tickets) ≡ o → EndShows g r.fix t o
         commitment-shows o e =
-            after-fact o (inr (above,
-            later (first_shown (under_name 5 (point_steps (plays_program g r.fix) t))) (CommitmentShows g r.fix t o) o (alone-fits 5 (point_steps (plays_program g r.fix) t) at.0) (k, (at.1, e))))
+            after-fact o (inr (
+              above,
+              later (first_shown (under_name 5 (point_steps (plays_program g r.fix) t))) (CommitmentShows g r.fix t o) o (alone-fits 5 (point_steps (plays_program g r.fix) t) at.0) (k, (at.1, e)),
+            ))
 
         pub tells-done : (o : Option NamedStep) → first_shown (commitment_values g k.tickets) ≡ o → (e : Ended) → TellsAt r f k o e → DoneTells g r e
         tells-done (Some s) shown e is = stuck-tells g r s (commitment-shows (Some s) shown) e is

@@ -1,14 +1,11 @@
 -- Operations formed one after another: a running total, and the values of a fact.
-use Rattle.std.proofs.Common.{◌≡◌, ◌∙◌, ℕ, Bool, true, false, cond, List, [], ◌∷◌, ◌++◌, drop, length, map, ℤ, pos, ◌+ℤ◌, ◌*ℤ◌, Option, Some, None, Result, Ok, Err, ap, sym, refl, arith, subst}
-use Rattle.std.specs.Prelude.{if◌then◌else◌, slice_index_or, ◌<◌, ◌≤◌}
+use Rattle.std.proofs.Common.{◌≡◌, ◌∙◌, ℕ, Bool, true, false, cond, List, [], ◌∷◌, ◌++◌, length, ℤ, ◌+ℤ◌, ◌*ℤ◌, Option, Some, None, Result, Ok, Err, ap, sym, refl, arith}
 use Rattle.std.proofs.lemmas.Int.{ints}
-use Rattle.sg_num.specs.declared.step.Op.{Op}
 use Rattle.sg_num.specs.declared.step.Op.TheVariants.{Sum, Times}
 use Rattle.sg_num.specs.declared.step.Wide.{Wide}
-use Rattle.sg_num.specs.Exact.{exact, exact_sum, exact_times, fits, result_of}
+use Rattle.sg_num.specs.Exact.{exact_sum, exact_times, fits}
 use Rattle.sg_num.specs.Operations.{first_wide, formed, plus, times}
 use Rattle.sg_model.specs.Sums.{total}
-use Rattle.sg_tree.specs.declared.fact.Mark.{Mark}
 use Rattle.sg_bounds.specs.SizeSteps.{running_steps}
 use Rattle.std.proofs.lemmas.Bool.Decides.{nat_tests}
 use Rattle.std.specs.Prelude.{nat_eq}

@@ -1,12 +1,11 @@
 -- Lanes: what a lane holds, and what is kept where one is given something else.
-use Rattle.std.proofs.Common.{◌≡◌, ◌≢◌, ◌∙◌, ℕ, zero, suc, ◌+◌, ◌-◌, ◌*◌, ◌<◌, ◌≤◌, Bool, true, false, List, [], ◌∷◌, length, map, replicate, take, Option, Some, None, ap, sym, subst, refl, arith, pos, slice_index_or, slice_set, length-take, length-set}
-use Rattle.std.specs.List.{All, sum_by}
+use Rattle.std.proofs.Common.{◌≡◌, ◌∙◌, ℕ, zero, suc, ◌+◌, ◌-◌, ◌*◌, ◌<◌, ◌≤◌, Bool, List, [], ◌∷◌, length, map, replicate, Option, Some, None, ap, sym, subst, refl, arith, pos, slice_index_or, slice_set, length-take, length-set}
+use Rattle.std.specs.List.{All}
 use Rattle.std.proofs.lemmas.List.{length-map}
 use Rattle.std.proofs.lemmas.List.Elements.{All-set}
 use Rattle.std.proofs.lemmas.List.Sums.{sum_by-set}
 use Rattle.sg_model.specs.Games.{Game}
 use Rattle.sg_model.specs.Limits.{IsGame, program_rows}
-use Rattle.sg_model.specs.Sums.{nth}
 use Rattle.sg_bounds.specs.Regions.{IsNode}
 use Rattle.sg_tree.specs.declared.fix.Fix.{Fix}
 use Rattle.sg_lp.specs.Pooled.{GivesBack, taken_from}

@@ -1,10 +1,10 @@
 -- The greatest of lists of payoffs, one list more at a time, and sums of priors.
-use Rattle.std.proofs.Common.{◌≡◌, ◌≢◌, ◌∙◌, ℕ, zero, suc, ◌+◌, ◌<◌, ◌≤◌, Bool, true, false, List, [], ◌∷◌, ◌++◌, map, length, ℤ, pos, ◌+ℤ◌, refl, ap, sym, subst, arith, inl, inr}
+use Rattle.std.proofs.Common.{◌≡◌, ◌≢◌, ◌∙◌, ℕ, zero, suc, ◌+◌, ◌≤◌, List, [], ◌∷◌, ◌++◌, map, length, ℤ, pos, ◌+ℤ◌, refl, ap, sym, arith, inl, inr}
 use Rattle.std.specs.Int.{int_max}
 use Rattle.std.specs.List.{flat_map}
 use Rattle.std.proofs.lemmas.Int.{int_max_is, ints}
 use Rattle.sg_model.specs.Sums.{greatest, numbers, numbers_from, nth, total}
-use Rattle.sg_model.specs.Games.{Game, action_count, attacker, payoff}
+use Rattle.sg_model.specs.Games.{Game, action_count, attacker}
 use Rattle.sg_model.specs.Limits.{IsGame, IsPay}
 use Rattle.sg_model.specs.Payoffs.{payoffs_at, payoffs_of}
 use Rattle.sg_model.proofs.Forms.{no_matrix}

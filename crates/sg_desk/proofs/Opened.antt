@@ -1,5 +1,5 @@
 -- What is taken of the open types: their caps with their priors.
-use Rattle.std.proofs.Common.{◌≡◌, ◌∙◌, ℕ, zero, suc, ◌+◌, ◌-◌, ◌<◌, ◌≤◌, List, [], length, ℤ, pos, ◌+ℤ◌, ◌-ℤ◌, ◌*ℤ◌, refl, ap, sym, arith}
+use Rattle.std.proofs.Common.{◌≡◌, ℕ, zero, suc, ◌+◌, ◌-◌, ◌<◌, ◌≤◌, [], length, ℤ, ◌-ℤ◌, ◌*ℤ◌, refl, ap, arith}
 use Rattle.std.proofs.lemmas.Int.{ints}
 use Rattle.sg_model.specs.Sums.{numbers, numbers_from, total}
 use Rattle.sg_model.specs.Games.{Game, attacker}

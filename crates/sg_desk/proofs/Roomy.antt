@@ -1,9 +1,9 @@
 -- How many rows of the pool a node has: no more than the largest program of its game, and one.
-use Rattle.std.proofs.Common.{◌≡◌, ◌∙◌, ℕ, zero, suc, ◌+◌, ◌-◌, ◌*◌, ◌<◌, ◌≤◌, List, [], ◌∷◌, ◌++◌, length, ap, sym, refl, arith, inl, inr, slice_index_or}
+use Rattle.std.proofs.Common.{◌≡◌, ◌∙◌, ℕ, zero, suc, ◌+◌, ◌-◌, ◌*◌, ◌<◌, ◌≤◌, List, [], ◌∷◌, ◌++◌, length, ap, refl, arith, inl, inr, slice_index_or}
 use Rattle.std.specs.List.{All, sum_by}
 use Rattle.std.proofs.lemmas.List.Elements.{All-head, All-tail}
 use Rattle.std.proofs.lemmas.List.Sums.{sum_by-append, sum_by-cons}
-use Rattle.sg_model.specs.Sums.{nth, numbers, numbers_from}
+use Rattle.sg_model.specs.Sums.{numbers, numbers_from}
 use Rattle.sg_model.specs.Games.{Attacker, Game, action_count, nobody, resource_count}
 use Rattle.sg_model.specs.Limits.{IsGame, program_rows}
 use Rattle.sg_model.proofs.Forms.{no_matrix}

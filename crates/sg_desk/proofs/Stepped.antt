@@ -1,10 +1,9 @@
 -- A step of a run: it is a run of its node still, and the step is one of the work on nodes.
-use Rattle.std.proofs.Common.{◌≡◌, ◌≢◌, ◌∙◌, ℕ, suc, ◌+◌, ◌-◌, ◌<◌, ◌≤◌, ◌⊎◌, inl, inr, Bool, true, false, List, Option, Some, None, ap, sym, subst, refl, arith, pos, slice_set}
+use Rattle.std.proofs.Common.{◌≡◌, ◌≢◌, ◌∙◌, ℕ, ◌+◌, ◌<◌, ◌⊎◌, inl, inr, false, List, Option, Some, None, ap, sym, subst, refl, arith, pos}
 use Rattle.sg_model.specs.Games.{Game}
 use Rattle.sg_model.specs.Limits.{IsGame}
-use Rattle.sg_tree.specs.declared.fix.Fix.{Fix}
 use Rattle.sg_lp.specs.Moves.{Runs}
-use Rattle.sg_lp.specs.States.{IsTableau, Tableau}
+use Rattle.sg_lp.specs.States.{Tableau}
 use Rattle.sg_lp.proofs.Runs.{run-one, run-state}
 use Rattle.sg_simplex.specs.Nodes.{IsProgramNode, NodeView}
 use Rattle.sg_simplex.specs.Turns.{HasCause, HasMoved, Turns}

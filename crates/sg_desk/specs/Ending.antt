@@ -1,5 +1,5 @@
 -- What is told of a run that is done.
-use Rattle.std.specs.Prelude.{◌≡◌, ◌≢◌, Option, Some, None, pos}
+use Rattle.std.specs.Prelude.{◌≡◌, Option, Some, None, pos}
 use Rattle.sg_model.specs.Games.{Game}
 use Rattle.sg_commit.specs.Committed.{Committed}
 use Rattle.sg_tree.specs.declared.fact.Fact.{Fact}

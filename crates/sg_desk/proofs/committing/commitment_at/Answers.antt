@@ -1,4 +1,4 @@
-use Rattle.std.proofs.Common.{◌≡◌, ◌∙◌, ap, subst, sym, rules}
+use Rattle.std.proofs.Common.{◌∙◌, ap, subst, sym}
 use Rattle.sg_model.specs.Games.{Game}
 use Rattle.sg_dual.specs.Parts.{RefuseAt, tickets_of}
 use Rattle.sg_programs.specs.Plays.{plays_program}

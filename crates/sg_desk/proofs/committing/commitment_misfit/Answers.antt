@@ -1,4 +1,4 @@
-use Rattle.std.proofs.Common.{◌≡◌, ◌∙◌, FitsSigned, ap, arith, rules}
+use Rattle.std.proofs.Common.{◌≡◌, ◌∙◌, FitsSigned, ap, arith}
 use Rattle.std.specs.Int.{w128}
 use Rattle.std.proofs.lemmas.Int.{ints, to_z-of_z}
 use Rattle.sg_num.specs.Exact.{exact_times}

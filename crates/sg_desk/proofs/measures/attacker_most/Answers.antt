@@ -1,4 +1,4 @@
-use Rattle.std.proofs.Common.{◌≡◌, ◌+◌, ◌∙◌, FitsSigned, length, map, pos, ap, arith}
+use Rattle.std.proofs.Common.{◌≡◌, FitsSigned, length, map, pos, ap, arith}
 use Rattle.std.specs.Int.{int_max, w64}
 use Rattle.std.proofs.lemmas.Int.{ints, to_z-of_z}
 use Rattle.sg_model.specs.Sums.{greatest, numbers}

@@ -1,4 +1,4 @@
-use Rattle.std.proofs.Common.{◌≡◌, ◌+◌, FitsSigned, arith}
+use Rattle.std.proofs.Common.{◌+◌, FitsSigned, arith}
 use Rattle.std.specs.Int.{w64}
 use Rattle.std.proofs.lemmas.Int.{ints, to_z-of_z}
 use Rattle.sg_model.specs.Payoffs.{payoffs_of}

@@ -1,10 +1,8 @@
-use Rattle.std.proofs.Common.{◌≡◌, ◌∙◌, FitsSigned, [], ◌∷◌, ◌*ℤ◌, ap, map, pos, rules}
+use Rattle.std.proofs.Common.{◌∙◌, FitsSigned, [], ◌∷◌, ◌*ℤ◌, ap, map, pos, rules}
 use Rattle.std.specs.Int.{w128}
 use Rattle.std.proofs.lemmas.Int.{to_z-of_z}
-use Rattle.sg_num.specs.declared.step.Wide.{Wide}
 use Rattle.sg_num.specs.Exact.{exact_times}
 use Rattle.sg_num.specs.Operations.{times}
-use Rattle.sg_model.specs.Games.{Game}
 use Rattle.sg_model.specs.Sums.{total}
 use Rattle.sg_tree.specs.declared.fact.Mark.{Mark}
 use Rattle.sg_bounds.specs.Sizes.{attacker_most, defender_most, fixed_priors}

@@ -1,4 +1,4 @@
-use Rattle.std.proofs.Common.{◌≡◌, ◌∙◌, FitsSigned, ap, of_z, to_z, rules}
+use Rattle.std.proofs.Common.{◌∙◌, FitsSigned, ap, of_z, to_z, rules}
 use Rattle.std.specs.Int.{w128}
 use Rattle.std.proofs.lemmas.Int.{to_z-of_z}
 use Rattle.sg_tree.specs.declared.fact.Fact.TheVariants.{Plays}

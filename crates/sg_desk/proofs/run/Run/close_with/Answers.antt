@@ -4,7 +4,6 @@ use Rattle.sg_num.specs.Operations.{first_wide}
 use Rattle.sg_tree.specs.declared.fact.Fact.TheVariants.{Plays}
 use Rattle.sg_tree.specs.declared.fix.Fix.{Fix}
 use Rattle.sg_dobss.specs.Listings.{NodeOf}
-use Rattle.sg_dual.specs.Parts.{RefuseAt}
 use Rattle.sg_lp.specs.Moves.{NamedStep, first_shown}
 use Rattle.sg_programs.specs.Plays.{plays_program}
 use Rattle.sg_programs.specs.Points.{point_steps}

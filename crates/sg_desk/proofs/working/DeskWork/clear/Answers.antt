@@ -1,4 +1,4 @@
-use Rattle.std.proofs.Common.{◌≡◌, ◌∙◌, ◌+◌, ◌-◌, Some, None, true, ap, slice_set, sym, subst}
+use Rattle.std.proofs.Common.{◌∙◌, ◌+◌, ◌-◌, None, ap, slice_set, sym, subst}
 use Rattle.std.proofs.lemmas.List.{get_or_default}
 use Rattle.sg_dobss.specs.Listings.{NodeOf}
 use Rattle.sg_lp.specs.Pooled.{GivesBack}

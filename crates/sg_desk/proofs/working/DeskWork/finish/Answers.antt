@@ -1,4 +1,4 @@
-use Rattle.std.proofs.Common.{◌≡◌, ◌∙◌, ◌-◌, Some, None, true, ap, sym, subst}
+use Rattle.std.proofs.Common.{◌∙◌, ◌-◌, None, true, ap, sym, subst}
 use Rattle.std.specs.Prelude.{IfOk}
 use Rattle.std.proofs.lemmas.List.{get_or_default}
 use Rattle.sg_programs.specs.NodeTests.{ClosesNode, StopsNode, listed_plays}

@@ -1,4 +1,4 @@
-use Rattle.std.proofs.Common.{◌≡◌, ◌∙◌, ◌-◌, Some, None, ap, slice_set, sym, subst}
+use Rattle.std.proofs.Common.{◌∙◌, ◌-◌, Some, ap, slice_set, sym, subst}
 use Rattle.sg_bounds.specs.Regions.{IsNode}
 use Rattle.sg_desk.specs.declared.run.Run.{Run}
 use Rattle.sg_desk.specs.Desks.{DeskView}

@@ -1,4 +1,4 @@
-use Rattle.std.proofs.Common.{◌≡◌, ◌∙◌, ◌-◌, Some, None, false, ap, map, slice_set, sym, subst}
+use Rattle.std.proofs.Common.{◌∙◌, ◌-◌, Some, None, false, ap, map, slice_set, sym, subst}
 use Rattle.std.proofs.lemmas.List.{get_or_default}
 use Rattle.sg_work.specs.Works.{IsStep}
 use Rattle.sg_programs.specs.NodeTests.{EndsNode, listed_plays}
