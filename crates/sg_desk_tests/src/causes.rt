@@ -15,15 +15,15 @@ enum Stop {
     Looks(u64, u64),
 }
 
-/// Budgets of moves and looks, and what they stop the second action's node of rows against one type with: its run makes two moves, and at its end each
-/// of the two plays is tested.
+/// Budgets of moves and looks, and what they stop the second action's node of rows against one type with: its run makes two moves, by which the first play
+/// enters and then the second, and at its end both are tested.
 type Case = (u64, u64, Stop);
 
 static CASES: [Case; 5] = [
     (2, 2, Stop::Nothing),
     (1, 2, Stop::Moves(1)),
     (0, 2, Stop::Moves(0)),
-    (2, 1, Stop::Looks(1, 2)),
+    (2, 1, Stop::Looks(1, 1)),
     (2, 0, Stop::Looks(0, 0)),
 ];
 
