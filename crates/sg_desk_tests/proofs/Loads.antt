@@ -11,7 +11,7 @@ set-at loads (suc k) l low high =
     let e : suc k - 1 ≡ k = omega arith in
     ap (λ i. slice_index_or (slice_set loads i (Some l)) k None) e ∙ get_or-set_same loads k (Some l) None (omega (arith, high))
 
-loaded-set : (loads after : List (Option Load)) (lane : ℕ) (l : Load) (ended : Bool) → 1 ≤ lane → lane ≤ length loads → after ≡ with_load loads lane (Some l) → l.ended ≡ ended → IsLoaded after lane ended
+pub loaded-set : (loads after : List (Option Load)) (lane : ℕ) (l : Load) (ended : Bool) → 1 ≤ lane → lane ≤ length loads → after ≡ with_load loads lane (Some l) → l.ended ≡ ended → IsLoaded after lane ended
 loaded-set loads after lane l ended low high e s =
     subst (λ xs. IsLoaded xs lane ended) (sym e)
     (record { load = l; from_one = low; in_range = let long = length-set loads (lane - 1) (Some l) in omega (arith, high, long); held = set-at loads lane l low high; state = s })
