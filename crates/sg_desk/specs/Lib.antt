@@ -1,0 +1,4 @@
+pub mod Runs
+pub mod Desks
+pub mod Bounding
+pub mod Ending
