@@ -7,10 +7,14 @@ use sg_tree::Mark;
 use std::alloc::{AllocError, Global};
 use std::test::Fail;
 
-/// How many blocks there are, and how many targets in each.
+/// How many blocks there are.
 const BLOCKS: u16 = 8;
 
+/// How many targets a block has.
 const WIDTH: u16 = 5;
+
+/// How many targets stand before each block.
+const BEFORE: [u16; 8] = [0, 5, 10, 15, 20, 25, 30, 35];
 
 /// The names of the targets, as a list.
 fn targets(alloc: Global) -> Result<String, AllocError> {
@@ -22,19 +26,18 @@ fn targets(alloc: Global) -> Result<String, AllocError> {
     Ok(text)
 }
 
-/// The schedules of a block: each of its targets, then each pair of them.
-fn schedules(alloc: Global, block: u16) -> Result<String, AllocError> {
+/// The schedules of a block, whose targets stand behind so many others: each of its targets, then each pair of them.
+fn schedules(alloc: Global, before: u16) -> Result<String, AllocError> {
     let mut text = String::new(alloc);
-    let first = block * WIDTH;
     for i in 1..WIDTH + 1 {
-        let t = first + i;
+        let t = before.saturating_add(i);
         text.push_str(format!(in alloc;
             "[[schedule]]\nname = \"s{t}\"\ntargets = [\"t{t}\"]\n"
         )?.as_str())?;
     }
     for i in 1..WIDTH + 1 {
         for j in i + 1..WIDTH + 1 {
-            let (t, u) = (first + i, first + j);
+            let (t, u) = (before.saturating_add(i), before.saturating_add(j));
             text.push_str(format!(in alloc;
                 "[[schedule]]\nname = \"s{t}-{u}\"\ntargets = [\"t{t}\", \"t{u}\"]\n"
             )?.as_str())?;
@@ -44,15 +47,19 @@ fn schedules(alloc: Global, block: u16) -> Result<String, AllocError> {
 }
 
 /// The resource of a block.
-fn resource(alloc: Global, block: u16) -> Result<String, AllocError> {
-    let first = block * WIDTH;
-    let mut text = format!(in alloc; "[[resource]]\nname = \"r{}\"\nschedules = [", block + 1)?;
+fn resource(alloc: Global, before: u16) -> Result<String, AllocError> {
+    let mut text = format!(in alloc; "[[resource]]\nname = \"r{before}\"\nschedules = [")?;
     for i in 1..WIDTH + 1 {
-        text.push_str(format!(in alloc; "\"s{}\", ", first + i)?.as_str())?;
+        text.push_str(format!(in alloc; "\"s{}\", ", before.saturating_add(i))?.as_str())?;
     }
     for i in 1..WIDTH + 1 {
         for j in i + 1..WIDTH + 1 {
-            text.push_str(format!(in alloc; "\"s{}-{}\", ", first + i, first + j)?.as_str())?;
+            text.push_str(format!(in alloc;
+                "\"s{}-{}\", ",
+                before.saturating_add(i),
+                before.saturating_add(j)
+            )?
+            .as_str())?;
         }
     }
     text.push_str("]\n")?;
@@ -62,11 +69,11 @@ fn resource(alloc: Global, block: u16) -> Result<String, AllocError> {
 /// The text of the game, against one type that loses nothing where it is caught.
 fn blocks_text(alloc: Global) -> Result<String, AllocError> {
     let mut text = targets(alloc)?;
-    for block in 0..BLOCKS {
-        text.push_str(schedules(alloc, block)?.as_str())?;
+    for before in BEFORE {
+        text.push_str(schedules(alloc, before)?.as_str())?;
     }
-    for block in 0..BLOCKS {
-        text.push_str(resource(alloc, block)?.as_str())?;
+    for before in BEFORE {
+        text.push_str(resource(alloc, before)?.as_str())?;
     }
     text.push_str("[[type]]\nname = \"a1\"\nprior = 1\npayoffs = [")?;
     for _ in 0..BLOCKS * WIDTH {
