@@ -33,8 +33,16 @@ impl FixedTypes {
         requires { length acts.now ≤ 8 }
         ensures { result ≡ prefix acts.now }
     {
+        FixedTypes::row(1, acts)
+    }
+
+    /// The types from `first` on, fixed to these actions, of which there are at most 8.
+    pub fn row(first: u8, acts: &[u16]) -> FixedTypes
+        requires { length acts.now ≤ 8 }
+        ensures { result ≡ record { first = first; acts = acts.now } }
+    {
         FixedTypes {
-            first: 1,
+            first,
             count: acts.len(),
             room: filled(acts),
         }
