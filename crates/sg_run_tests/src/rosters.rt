@@ -331,3 +331,66 @@ fn writes_as_many_days_as_there_may_be(rt: HostRuntime) -> Result<(), AllocError
     assert!(rt; writes_a_million_days(rt.alloc())?);
     Ok(())
 }
+
+/// A report on eight blocks of five targets alike, each with a resource that covers one or two of them.
+fn blocks_report(alloc: Global) -> Result<String, AllocError> {
+    let mut text = String::from_str(alloc, "patrol-report 1\ntickets 5 5\n")?;
+    for c in [6u8, 9, 10, 13, 15] {
+        let line = format!(in alloc; "t 1 {c} {c} {c} {c} {c} {c} {c} {c}\n")?;
+        text.push_str(&line)?;
+    }
+    text.push_str("value -3 5\nsplit 1 40\nopen\n")?;
+    for a in 0..40u8 {
+        text.push_str("plays 5 7 4\n")?;
+        push_marks(alloc, &mut text, a)?;
+    }
+    text.push_str("upper -3 5\nverdict optimal\nend\n")?;
+    Ok(text)
+}
+
+/// The marks of the other targets of a target's block; targets count from 0.
+fn push_marks(alloc: Global, text: &mut String, a: u8) -> Result<(), AllocError> {
+    for b in 0..40u8 {
+        if b / 5 == a / 5 && b != a {
+            let line = format!(in alloc; "m 1 {} 1\n", b.saturating_add(1))?;
+            text.push_str(&line)?;
+        }
+    }
+    Ok(())
+}
+
+/// The days of its five tickets by seed 3.
+const BLOCK_DAYS: &str =
+    "day,r1,r2,r3,r4,r5,r6,r7,r8\n1,s9,s24,s39,s54,s69,s84,s99,s114\n2,s6,s21,s36,s51,s66,s81,s96,s111\n3,s10,s25,s40,s55,s70,s85,s100,s115\n4,s15,s30,s45,s60,s75,s90,s105,s120\n5,s13,s28,s43,s58,s73,s88,s103,s118\n";
+
+/// Whether a game with 16^8 plays, made by the program, gets the roster of the report.
+fn rosters_blocks(alloc: Global) -> Result<bool, AllocError> {
+    let words = words_of(alloc, &["make", "blocks-8-5-1", "7"])?;
+    let mut shelf = shelf_of(alloc, b"".as_slice(), None, &[])?;
+    let mut made = sink_of(alloc, &[], 0)?;
+    let mut err = sink_of(alloc, &[], 0)?;
+    let status = run(alloc, &words, &mut shelf, &mut made, &mut err);
+    let report = blocks_report(alloc)?;
+    let words = ["roster", "game.toml", "report", "--seed", "3"];
+    let expected = Answer {
+        status: 0,
+        out: BLOCK_DAYS,
+        err: "",
+    };
+    Ok(
+        status == 0
+            && answers(
+                alloc,
+                &words,
+                made.bytes(),
+                Some(report.as_str()),
+                &expected,
+            )?,
+    )
+}
+
+#[test]
+fn writes_days_of_a_game_with_many_plays(rt: HostRuntime) -> Result<(), AllocError> {
+    assert!(rt; rosters_blocks(rt.alloc())?);
+    Ok(())
+}
