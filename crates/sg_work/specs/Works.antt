@@ -1,5 +1,5 @@
 -- The work on nodes: what each lane holds, and what its calls leave and answer.
-use Rattle.std.specs.Prelude.{◌≡◌, ◌↔◌, ℕ, ◌+◌, ◌-◌, ◌≤◌, Bool, true, false, List, length, set, Option, Some, None}
+use Rattle.std.specs.Prelude.{◌≡◌, ◌↔◌, ℕ, ◌+◌, ◌-◌, ◌<◌, ◌≤◌, Bool, true, false, List, length, set, Option, Some, None}
 use Rattle.sg_model.specs.Sums.{nth}
 use Rattle.sg_model.specs.Games.{Game}
 use Rattle.sg_commit.specs.Committed.{Committed}
@@ -56,10 +56,11 @@ pub record AreSameTests (ends : Fix → ℕ → Type 0) (closes : Fix → Fact �
   pub close_alike : (node : Fix) (fact : Fact) (point : Option Committed) → closes node fact point ↔ closes_after node fact point
   pub stop_alike : (node : Fix) (cause : Cause) → stops node cause ↔ stops_after node cause
 
--- a step of a lane's program: it ends exactly where the test of ends says so, and else makes one more move
-abbrev pub IsStep : (Fix → ℕ → Type 0) → List (Option Load) → List (Option Load) → ℕ → Step → Type 0
-IsStep ends loads after lane Step.Moved = (l : Load) × (load_at loads lane ≡ Some l) × ¬ (ends l.node l.moves) × (after ≡ with_load loads lane (Some (record { node = l.node; moves = l.moves + 1; ended = l.ended })))
-IsStep ends loads after lane Step.Ended = (l : Load) × (load_at loads lane ≡ Some l) × ends l.node l.moves × (after ≡ with_load loads lane (Some (record { node = l.node; moves = l.moves; ended = true })))
+-- a step of a lane's program: it ends exactly where the test of ends says so, and else makes one more move, which it does only so many times
+abbrev pub IsStep : (Fix → ℕ → Type 0) → ℕ → List (Option Load) → List (Option Load) → ℕ → Step → Type 0
+IsStep ends most loads after lane Step.Moved =
+    (l : Load) × (load_at loads lane ≡ Some l) × ¬ (ends l.node l.moves) × (after ≡ with_load loads lane (Some (record { node = l.node; moves = l.moves + 1; ended = l.ended }))) × (l.moves < most)
+IsStep ends most loads after lane Step.Ended = (l : Load) × (load_at loads lane ≡ Some l) × ends l.node l.moves × (after ≡ with_load loads lane (Some (record { node = l.node; moves = l.moves; ended = true })))
 
 -- what the work on a lane's node came to: a result that passes the test of closes, or a cause that passes the test of stops
 abbrev pub IsFinding : Game → (Fix → Fact → Option Committed → Type 0) → (Fix → Cause → Type 0) → List (Option Load) → ℕ → Ended → Type 0

@@ -32,8 +32,8 @@ pub enum Ended {
 
 /// Programs of nodes, one in each lane. Lanes count from 1.
 ///
-/// Its meaning is its game, what each lane holds, and three tests that no call changes: after how many moves a node's
-/// program ends, which results close a node, and which causes stop one.
+/// Its meaning is its game, what each lane holds, three tests that no call changes (after how many moves a node's
+/// program ends, which results close a node, and which causes stop one), and how many moves a program makes at most.
 pub trait Work {
     /// The game.
     ghost game: { Self → Game };
@@ -52,6 +52,9 @@ pub trait Work {
     /// Whether a cause stops a node.
     ghost stops: { Self → Fix → Cause → Type 0 };
 
+    /// How many moves a node's program makes at most.
+    ghost most_moves: { Self → ℕ };
+
     /// A lane takes a node. After want of memory the work is as before.
     fn start(&mut self, alloc: Global, lane: u8, fix: &Fix) -> Result<(), AllocError>
         requires node { IsNode (game self.old) fix.now }
@@ -59,14 +62,16 @@ pub trait Work {
         ensures started { OnOk result (loads self.new ≡ with_load (loads self.old) lane (begun_load fix.now)) }
         ensures kept { OnErr result (self.new ≡ self.old) }
         ensures same { game self.new ≡ game self.old }
-        ensures tests { AreSameTests (ends self.old) (closes self.old) (stops self.old) (ends self.new) (closes self.new) (stops self.new) };
+        ensures tests { AreSameTests (ends self.old) (closes self.old) (stops self.old) (ends self.new) (closes self.new) (stops self.new) }
+        ensures most { most_moves self.new ≡ most_moves self.old };
 
     /// A lane's program makes a step, which takes no memory.
     fn step(&mut self, lane: u8) -> Step
         requires { IsLoaded (loads self.old) lane false }
-        ensures step { IsStep (ends self.old) (loads self.old) (loads self.new) lane result }
+        ensures step { IsStep (ends self.old) (most_moves self.old) (loads self.old) (loads self.new) lane result }
         ensures same { game self.new ≡ game self.old }
-        ensures tests { AreSameTests (ends self.old) (closes self.old) (stops self.old) (ends self.new) (closes self.new) (stops self.new) };
+        ensures tests { AreSameTests (ends self.old) (closes self.old) (stops self.old) (ends self.new) (closes self.new) (stops self.new) }
+        ensures most { most_moves self.new ≡ most_moves self.old };
 
     /// What the work on a lane's node came to.
     fn finish(&self, alloc: Global, lane: u8) -> Result<Ended, AllocError>
@@ -78,5 +83,6 @@ pub trait Work {
         requires { IsLoaded (loads self.old) lane true }
         ensures cleared { loads self.new ≡ with_load (loads self.old) lane None }
         ensures same { game self.new ≡ game self.old }
-        ensures tests { AreSameTests (ends self.old) (closes self.old) (stops self.old) (ends self.new) (closes self.new) (stops self.new) };
+        ensures tests { AreSameTests (ends self.old) (closes self.old) (stops self.old) (ends self.new) (closes self.new) (stops self.new) }
+        ensures most { most_moves self.new ≡ most_moves self.old };
 }

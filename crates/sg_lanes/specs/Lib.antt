@@ -1,0 +1,6 @@
+pub mod Machines
+pub mod Bounds
+pub mod Frontiers
+pub mod Choices
+pub mod Rises
+pub mod Ripenings

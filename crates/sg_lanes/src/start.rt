@@ -1,0 +1,115 @@
+//! A search at its start.
+
+ghost use Rattle.std.specs.Prelude.{◌≡◌, ◌≤◌, IfOk, pos, replicate, None};
+ghost use Rattle.sg_search.specs.Searches.{first_search};
+ghost use Rattle.sg_lanes.specs.Machines.{task_on};
+
+use crate::bound::root_bound;
+use crate::cap::plain_cap;
+use crate::lanes::Lanes;
+use crate::nodes::part_of;
+use sg_commit::{Commitment, value as value_of};
+use sg_game::{Game, least_play, shift};
+use sg_model::Ticket;
+use sg_search::Held;
+use sg_tree::{Cap, Fix};
+use sqlite_items::Items;
+use std::alloc::{AllocError, Global};
+
+/// So many free lanes.
+fn free_lanes(alloc: Global, count: u8) -> Result<Vec<Option<Held>>, AllocError>
+    ensures { IfOk result (λ lanes. lanes.items ≡ replicate count None) }
+{
+    let mut lanes = Vec::new(alloc);
+    for i in 0..count {
+        let _lane = i;
+        lanes.push(None)?;
+    }
+    Ok(lanes)
+}
+
+/// The parts of the root.
+fn root_parts(alloc: Global, game: &Game) -> Result<Vec<Fix>, AllocError> {
+    let _types = game.types();
+    let count = game.actions(1);
+    let mut parts = Vec::new(alloc);
+    for i in 0..count {
+        parts.push(part_of(alloc, [].as_slice(), i + 1)?)?;
+    }
+    Ok(parts)
+}
+
+/// The nodes that serve the caps, by type and action.
+fn cap_nodes(alloc: Global, game: &Game) -> Result<Vec<Fix>, AllocError> {
+    let mut nodes = Vec::new(alloc);
+    for l in 1..game.types() {
+        for i in 0..game.actions(l + 1) {
+            let mut acts = Items::new(alloc);
+            acts.push(i + 1)?;
+            let first = l + 1;
+            nodes.push(Fix { first, acts })?;
+        }
+    }
+    Ok(nodes)
+}
+
+/// The plain caps of types 2 and up.
+fn plain_caps(alloc: Global, game: &Game) -> Result<Vec<Cap>, AllocError> {
+    let mut caps = Vec::new(alloc);
+    for l in 1..game.types() {
+        caps.push(plain_cap(alloc, game, l + 1))?;
+    }
+    Ok(caps)
+}
+
+/// The first commitment: all idle, or row 1, with one ticket.
+fn first_commitment(alloc: Global, game: &Game) -> Result<Commitment, AllocError> {
+    let mut tickets = Items::new(alloc);
+    tickets.push(Ticket { play: least_play(alloc, game)?, weight: 1 })?;
+    match Commitment::of_rising(tickets, 1) {
+        Some(commitment) => Ok(commitment),
+        None => unreachable!(),
+    }
+}
+
+impl<'a> Lanes<'a> {
+    /// A search on a game without a scale, with so many lanes and so many nodes that may be worked.
+    pub fn new(alloc: Global, game: &'a Game, lanes: u8, nodes: u64) -> Result<Lanes<'a>, AllocError>
+        requires some { 1 ≤ lanes }
+        requires few { lanes ≤ 8 }
+        requires nodes { nodes ≤ 1000000 }
+        requires plain { game.now.scale ≡ pos 0 }
+        ensures task { IfOk result (λ m. m.task ≡ task_on game.now lanes nodes) }
+        ensures search { IfOk result (λ m. m.search ≡ first_search (task_on game.now lanes nodes)) }
+    {
+        let free = free_lanes(alloc, lanes)?;
+        let mut splits = Vec::new(alloc);
+        splits.push(Items::new(alloc))?;
+        let best = first_commitment(alloc, game)?;
+        let value = match value_of(game, &best) {
+            Ok(value) => value,
+            Err(_) => unreachable!(),
+        };
+        let root = root_bound(game);
+        Ok(Lanes {
+            game,
+            count: lanes,
+            nodes,
+            root,
+            shift: shift(game),
+            lanes: free,
+            splits,
+            worked: Vec::new(alloc),
+            stuck: Vec::new(alloc),
+            best,
+            value,
+            caps: plain_caps(alloc, game)?,
+            parts: root_parts(alloc, game)?,
+            group: Some(root),
+            lone: cap_nodes(alloc, game)?,
+            tops: root_parts(alloc, game)?,
+            undone: cap_nodes(alloc, game)?,
+            ripe: Vec::new(alloc),
+        })
+    }
+}
