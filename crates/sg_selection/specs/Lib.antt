@@ -1,0 +1,4 @@
+pub mod Selections
+pub mod SelectedRuns
+pub mod Handing
+pub mod SelectionLaws

@@ -1,0 +1,27 @@
+-- Searches whose events are those that an order names.
+use Rattle.std.specs.Prelude.{◌≡◌, List, [], ◌∷◌, map}
+use Rattle.sg_search.specs.declared.event.Event.{Event}
+use Rattle.sg_search.specs.Searches.{Task, Search}
+use Rattle.sg_search.specs.Changes.{Change, Goes}
+use Rattle.sg_search.specs.Events.{IsOf}
+use Rattle.sg_selection.specs.Selections.{SelectionState, Selects, after_event}
+
+-- an event that was made, and the change that it came to
+pub record MadeEvent : Type 0 where
+  pub event : Event
+  pub change : Change
+
+-- from a selection and a state the order names these events, one after the other, each comes to its change, and they lead to
+-- a selection and a state
+abbrev pub SelectedRuns : Task → SelectionState → Search → List MadeEvent → SelectionState → Search → Type 0
+SelectedRuns p c s [] d t = (c ≡ d) × (s ≡ t)
+SelectedRuns p c s (m ∷ ms) d t =
+    (b : SelectionState) × (u : Search) × Selects p s c m.event b × IsOf p s m.event m.change × Goes p s m.change u × SelectedRuns p b u ms d t
+
+abbrev pub changes_of : List MadeEvent → List Change
+changes_of ms = map (λ (m : MadeEvent). m.change) ms
+
+-- the selection that events lead to
+abbrev pub after_events : SelectionState → List MadeEvent → SelectionState
+after_events c [] = c
+after_events c (m ∷ ms) = after_events (after_event c m.event) ms

@@ -1,0 +1,40 @@
+-- At each state at which an event is enabled an order names one, and lists of named events are runs of a search.
+use Rattle.std.specs.Prelude.{◌≡◌, List, [], ◌∷◌, ◌++◌}
+use Rattle.sg_model.specs.Payoffs.{IsPeopled}
+use Rattle.sg_search.specs.declared.event.Event.{Event}
+use Rattle.sg_search.specs.Searches.{Task, Search}
+use Rattle.sg_search.specs.Changes.{Change, Goes, Runs}
+use Rattle.sg_search.specs.Events.{IsEnabled, IsEnd, IsOf}
+use Rattle.sg_search.specs.TreeLaws.{AreFacts}
+use Rattle.sg_selection.specs.Selections.{SelectionState, Selects}
+use Rattle.sg_selection.specs.SelectedRuns.{MadeEvent, SelectedRuns, after_events, changes_of}
+
+-- where some event is enabled, the order names one
+abbrev pub EventIsNamed : Type 0
+EventIsNamed = (p : Task) → IsPeopled p.game → (s : Search) → AreFacts p.game s → (c : SelectionState) (e : Event) → IsEnabled p s e
+    → (f : Event) × (d : SelectionState) × Selects p s c f d
+
+-- and no other
+abbrev pub NamedOnce : Type 0
+NamedOnce = (p : Task) (s : Search) (c : SelectionState) (e f : Event) (b d : SelectionState) → Selects p s c e b → Selects p s c f d → (e ≡ f) × (b ≡ d)
+
+-- it is enabled
+abbrev pub NamedIsEnabled : Type 0
+NamedIsEnabled = (p : Task) (s : Search) (c : SelectionState) (e : Event) (d : SelectionState) → Selects p s c e d → IsEnabled p s e
+
+-- so where none is enabled, none is named
+abbrev pub NoneAtTheEnd : Type 0
+NoneAtTheEnd = (p : Task) (s : Search) → IsEnd p s → (c : SelectionState) (e : Event) (d : SelectionState) → ¬ (Selects p s c e d)
+
+-- the changes of named events are a run of the search
+abbrev pub SelectedAreRuns : Type 0
+SelectedAreRuns = (p : Task) (c : SelectionState) (s : Search) (ms : List MadeEvent) (d : SelectionState) (t : Search) → SelectedRuns p c s ms d t → Runs p s (changes_of ms) t
+
+-- one named event more
+abbrev pub SelectedGoOn : Type 0
+SelectedGoOn = (p : Task) (c : SelectionState) (s : Search) (ms : List MadeEvent) (b : SelectionState) (t : Search) → SelectedRuns p c s ms b t
+    → (m : MadeEvent) (d : SelectionState) (u : Search) → Selects p t b m.event d → IsOf p t m.event m.change → Goes p t m.change u → SelectedRuns p c s (ms ++ m ∷ []) d u
+
+-- what a selection keeps is fixed by the events before
+abbrev pub SelectionIsOfEvents : Type 0
+SelectionIsOfEvents = (p : Task) (c : SelectionState) (s : Search) (ms : List MadeEvent) (d : SelectionState) (t : Search) → SelectedRuns p c s ms d t → d ≡ after_events c ms
