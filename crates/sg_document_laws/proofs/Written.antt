@@ -45,22 +45,22 @@ small_mag : (z : ℤ) → IsWithin (pos 0 -ℤ pos (2 ^ 32)) (pos (2 ^ 32)) z �
 small_mag (pos n) h = omega (arith, ints, h.at_most)
 small_mag (negsuc n) h = omega (arith, ints, h.at_least)
 
-number_plain : (z : ℤ) → IsWithin (pos 0 -ℤ pos (2 ^ 32)) (pos (2 ^ 32)) z → IsPlain (integer z)
+pub number_plain : (z : ℤ) → IsWithin (pos 0 -ℤ pos (2 ^ 32)) (pos (2 ^ 32)) z → IsPlain (integer z)
 number_plain z h = (fits_signed_from_abs w64 z (small_abs z h), IsAscii-signed z (small_mag z h))
 
-pay_plain : (z : ℤ) → IsPay z → IsPlain (integer z)
+pub pay_plain : (z : ℤ) → IsPay z → IsPlain (integer z)
 pay_plain z h = number_plain z (record { at_least = omega (arith, ints, h.at_least); at_most = omega (arith, ints, h.at_most) })
 
-prior_plain : (z : ℤ) → IsWithin (pos 1) (pos (2 ^ 20)) z → IsPlain (integer z)
+pub prior_plain : (z : ℤ) → IsWithin (pos 1) (pos (2 ^ 20)) z → IsPlain (integer z)
 prior_plain z h = number_plain z (record { at_least = omega (arith, ints, h.at_least); at_most = omega (arith, ints, h.at_most) })
 
 -- names
 
 -- bytes of a name
-abbrev AreNameBytes : List ℕ → Type 0
+abbrev pub AreNameBytes : List ℕ → Type 0
 AreNameBytes s = All (λ b. is_name_byte b ≡ true) s
 
-unescaped : (multi : Bool) (quotes c : ℕ) → is_name_byte c ≡ true → needs_escape multi quotes c ≡ false
+pub unescaped : (multi : Bool) (quotes c : ℕ) → is_name_byte c ≡ true → needs_escape multi quotes c ≡ false
 unfolding needs_escape
 unescaped multi quotes c h =
     let a : (c == 34) ≡ false = grind (arith, nat_tests) in
@@ -71,7 +71,7 @@ unescaped multi quotes c h =
     let g : (c == 127) ≡ false = grind (arith, nat_tests) in
     rw (a, b, d, e, f, g) refl
 
-bytes_ascii : (s : List ℕ) → AreNameBytes s → IsAscii s
+pub bytes_ascii : (s : List ℕ) → AreNameBytes s → IsAscii s
 bytes_ascii s h = IsAscii-from_all s (All-weaker (λ b. is_name_byte b ≡ true) (λ b. b < 128) (λ b e. grind (arith, nat_tests)) s h)
 
 escaped_ascii : (multi : Bool) (quotes : ℕ) (s : List ℕ) → AreNameBytes s → IsAscii (escaped multi quotes s)
@@ -105,11 +105,11 @@ unfolding is_name string_text
 name_plain name h =
     encoded_ascii (encoding_of name) name (AllPass-from_list_all is_name_byte name (and_both (nat_le 1 (length name) && nat_le (length name) 64) (list_all is_name_byte name) h).1)
 
-security_word : IsPlain (string (codes "security"))
+pub security_word : IsPlain (string (codes "security"))
 unfolding is_name
 security_word = name_plain (codes "security") refl
 
-matrix_word : IsPlain (string (codes "matrix"))
+pub matrix_word : IsPlain (string (codes "matrix"))
 unfolding is_name
 matrix_word = name_plain (codes "matrix") refl
 
@@ -136,7 +136,7 @@ fours_plain payoffs h = rows_plain (map four payoffs) (All-fours payoffs h)
     All-fours [] i = All-nil (λ row. All IsPay row)
     All-fours (p ∷ ps) i = All-cons (λ row. All IsPay row) (four p) (map four ps) (four_pays p (All-head IsPayoff p ps i)) (All-fours ps (All-tail IsPayoff p ps i))
 
-member_plain : (names : List (List ℕ)) → AreNames names → (count : ℕ) → length names ≡ count → (m : ℕ) → IsCount 1 count m → IsPlain (string (nth names m []))
+pub member_plain : (names : List (List ℕ)) → AreNames names → (count : ℕ) → length names ≡ count → (m : ℕ) → IsCount 1 count m → IsPlain (string (nth names m []))
 member_plain names h count many zero i = absurd (omega (arith, i.at_least))
 member_plain names h count many (suc k) i = name_plain (get_or names k []) (h.spelled k [] (omega (arith, many, i.at_most)))
 
@@ -148,11 +148,11 @@ members_plain names h count many (m ∷ ms) i =
 -- tables
 
 -- a schedule or a resource with a name and known members
-record IsListed (count limit : ℕ) (x : Named) : Type 0 where
-  name : is_name x.name ≡ true
-  members : AreMembers count limit x.members
+pub record IsListed (count limit : ℕ) (x : Named) : Type 0 where
+  pub name : is_name x.name ≡ true
+  pub members : AreMembers count limit x.members
 
-all_listed : (count few limit : ℕ) (lists : List Named) → AreLists count few limit lists → All (IsListed count limit) lists
+pub all_listed : (count few limit : ℕ) (lists : List Named) → AreLists count few limit lists → All (IsListed count limit) lists
 all_listed count few limit lists h =
     let names = All-unmap (λ (name : List ℕ). is_name name ≡ true) (λ (x : Named). x.name) lists h.names.spelled in
     (λ i d lt. record { name = names i d lt; members = h.members i d lt })
@@ -172,11 +172,11 @@ resources_plain names own count few limit many lists h =
     lists (all_listed count few limit lists h)
 
 -- a type with a name
-record IsNamed (P : Attacker → Type 0) (x : Attacker) : Type 0 where
-  name : is_name x.name ≡ true
-  own : P x
+pub record IsNamed (P : Attacker → Type 0) (x : Attacker) : Type 0 where
+  pub name : is_name x.name ≡ true
+  pub own : P x
 
-all_named : (P : Attacker → Type 0) (types : List Attacker) → AreNames (map (λ (x : Attacker). x.name) types) → All P types → All (IsNamed P) types
+pub all_named : (P : Attacker → Type 0) (types : List Attacker) → AreNames (map (λ (x : Attacker). x.name) types) → All P types → All (IsNamed P) types
 all_named P types h each =
     let names = All-unmap (λ (name : List ℕ). is_name name ≡ true) (λ (x : Attacker). x.name) types h.spelled in
     (λ i d lt. record { name = names i d lt; own = each i d lt })
@@ -235,15 +235,15 @@ matrix_plain goals types h each =
 
 -- documents
 
-one_plain : IsPlain (integer (pos 1))
+pub one_plain : IsPlain (integer (pos 1))
 one_plain = number_plain (pos 1) (record { at_least = omega (arith, ints); at_most = omega (arith, ints) })
 
 -- a scale, where there is one, is plain
-abbrev IsPlainScale : Option ℤ → Type 0
+abbrev pub IsPlainScale : Option ℤ → Type 0
 IsPlainScale (Some z) = IsPlain (integer z)
 IsPlainScale None = Unit {0}
 
-scale_plain : (scaled : Bool) (z : ℤ) → IsWithin (pos 0) (pos (2 ^ 32)) z → IsPlainScale (cond scaled (Some z) None)
+pub scale_plain : (scaled : Bool) (z : ℤ) → IsWithin (pos 0) (pos (2 ^ 32)) z → IsPlainScale (cond scaled (Some z) None)
 scale_plain true z h = number_plain z (record { at_least = omega (arith, ints, h.at_least); at_most = h.at_most })
 scale_plain false z h = tt
 
@@ -276,7 +276,7 @@ matrix_file : (rows types : Data) → IsPlain rows → IsPlain types → HasPlai
 matrix_file rows types a b =
     (bare_key (codes "form") refl refl, matrix_word, refl, (bare_key (codes "rows") refl refl, a, refl, (bare_key (codes "type") refl refl, b, refl, (bare_key (codes "version") refl refl, one_plain, refl, tt))))
 
-patrols_few : (scaled : Bool) (n : ℕ) → n ≤ cond scaled 200 32 → IsPlain (integer (pos n))
+pub patrols_few : (scaled : Bool) (n : ℕ) → n ≤ cond scaled 200 32 → IsPlain (integer (pos n))
 patrols_few true n h = number_plain (pos n) (record { at_least = omega (arith, ints); at_most = omega (arith, ints, h) })
 patrols_few false n h = number_plain (pos n) (record { at_least = omega (arith, ints); at_most = omega (arith, ints, h) })
 

@@ -1,0 +1,4 @@
+use Rattle.sg_game_text_laws.proofs.text_reads_back.Goals as goal
+
+pub returns : goal.returns
+returns c = ?

@@ -1,0 +1,25 @@
+//! The canonical text of a game reads back: it is a game file of just that game.
+//!
+//! `sg_format` says which bytes are a game file, and of which game, by what `toml` states for its reading; it also says what
+//! the canonical text of a game is. The laws of this crate join the two, for every game that keeps the promises of a game
+//! file. `ReadBack` of `specs/` states them.
+//!
+//! The functions have empty bodies: the contract of each is a statement of a module of `specs/`.
+#![tactic(auto)]
+
+ghost use Rattle.sg_game_text_laws.specs.ReadBack.{TextIsDocument, TextReadsBack, TextTellsGame};
+
+/// TOML reads the text of a game as the document that spells the game.
+pub fn text_is_document()
+    ensures { TextIsDocument }
+{}
+
+/// The text of a game is a file of that game.
+pub fn text_reads_back()
+    ensures { TextReadsBack }
+{}
+
+/// Games with the same text are the same.
+pub fn text_tells_game()
+    ensures { TextTellsGame }
+{}
