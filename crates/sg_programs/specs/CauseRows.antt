@@ -13,7 +13,7 @@ use Rattle.sg_tree.specs.declared.worked.Worked.{Worked}
 use Rattle.sg_bounds.specs.Caps.{cap_of}
 use Rattle.sg_bounds.specs.Facts.{HoldsFor}
 use Rattle.sg_bounds.specs.Leaves.{base_bound, fact_bound, root_bound}
-use Rattle.sg_bounds.specs.Regions.{alone, prefix}
+use Rattle.sg_bounds.specs.Regions.{IsNode, alone, prefix}
 use Rattle.sg_bounds.specs.Trees.{Node, Parts, closed, end, node_of, part, split, unproved}
 use Rattle.sg_search.specs.Bounding.{exceeds}
 use Rattle.sg_search.specs.CountLaws.{enough_nodes}
@@ -176,14 +176,14 @@ abbrev mutual
   IsOpenIn (part t rest) (suc zero) acts = IsOpenAt t acts
   IsOpenIn (part t rest) (suc (suc a)) acts = IsOpenIn rest (suc a) acts
 
--- a node stays unproved: its part is open, or its type's cap plain
-abbrev pub StaysUnproved : Report → Fix → Type 0
-StaysUnproved r fix =
-    ((acts : List ℕ) × ((fix ≡ prefix acts) × IsOpenAt (node_of r.tree) acts))
-    ⊎ ((l : ℕ) × ((a : ℕ) × ((2 ≤ l) × (fix ≡ alone l a) × ((cap_of r.caps l).proof ≡ []))))
+-- a node of the game stays unproved: its part is open, or its type's cap plain
+abbrev pub StaysUnproved : Game → Report → Fix → Type 0
+StaysUnproved g r fix = IsNode g fix
+    × (((acts : List ℕ) × ((fix ≡ prefix acts) × IsOpenAt (node_of r.tree) acts))
+    ⊎ ((l : ℕ) × ((a : ℕ) × ((2 ≤ l) × (fix ≡ alone l a) × ((cap_of r.caps l).proof ≡ [])))))
 
 -- the cause of a gap of a search that gave this report and worked these nodes, with a node budget and a method: nodes are spent; or a node says why it
 -- is stuck, it stays unproved, and either nodes are spent besides or all that is open is stuck
 abbrev pub IsGapCause : Game → Method → ℕ → Report → List Worked → Cause → Type 0
 IsGapCause g m nodes r worked (cause.Nodes n) = (n ≡ node_budget g nodes) × AreNodesSpent g nodes r worked
-IsGapCause g m nodes r worked why = (fix : Fix) × (NodeCause g m fix why × StaysUnproved r fix × (SpendsNodes g nodes r worked ⊎ IsReportBarred g m r))
+IsGapCause g m nodes r worked why = (fix : Fix) × (NodeCause g m fix why × StaysUnproved g r fix × (SpendsNodes g nodes r worked ⊎ IsReportBarred g m r))

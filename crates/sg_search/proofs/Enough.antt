@@ -23,17 +23,17 @@ use Rattle.sg_search.proofs.Grown.{AreSplits, are_splits, last-of, worked-parent
 
 -- ---- all nodes there can be
 
-abbrev lists_of : Game → ℕ → List (List ℕ)
+abbrev pub lists_of : Game → ℕ → List (List ℕ)
 lists_of g zero = [] ∷ []
 lists_of g (suc k) = flat_map (λ acts. map (λ a. acts ++ (a ∷ [])) (numbers (action_count g (k + 1)))) (lists_of g k)
 
-abbrev prefixes : Game → List Fix
+abbrev pub prefixes : Game → List Fix
 prefixes g = flat_map (λ k. map prefix (lists_of g k)) (numbers (length g.types))
 
 abbrev pub cap_nodes_of : Game → ℕ → List Fix
 cap_nodes_of g l = map (alone l) (numbers (action_count g l))
 
-abbrev all_nodes : Game → List Fix
+abbrev pub all_nodes : Game → List Fix
 all_nodes g = prefixes g ++ flat_map (cap_nodes_of g) (numbers_from 2 (length g.types - 1))
 
 -- ---- how many they are
@@ -60,7 +60,7 @@ length-lists g (suc k) =
     (λ acts. length-map (numbers (action_count g (k + 1))) (λ a. acts ++ (a ∷ [])) ∙ length-numbers_from 1 (action_count g (k + 1)))
     ∙ ap (λ (n : ℕ). n * action_count g (k + 1)) (length-lists g k)
 
-length-all : (g : Game) → length (all_nodes g) ≡ sum_by (prefix_count g) (numbers (length g.types)) + sum_by (action_count g) (numbers_from 2 (length g.types - 1))
+pub length-all : (g : Game) → length (all_nodes g) ≡ sum_by (prefix_count g) (numbers (length g.types)) + sum_by (action_count g) (numbers_from 2 (length g.types - 1))
 length-all g =
     let a = length-flat_map (λ k. map prefix (lists_of g k)) (numbers (length g.types)) in
     let b = sum-equal (λ (k : ℕ). length (map prefix (lists_of g k))) (prefix_count g) (numbers (length g.types)) (λ k. length-map (lists_of g k) prefix ∙ length-lists g k) in
@@ -105,7 +105,7 @@ in-lists p s placed ok (suc n) (y ∷ ys) e (inr w) =
     (Contains-flat_map (λ acts. map (λ a. acts ++ (a ∷ [])) (numbers (action_count p.game (n + 1)))) (lists_of p.game n) r.0 (r.0 ++ (r.1 ∷ [])) above
     (Contains-map (λ a. r.0 ++ (a ∷ [])) (numbers (action_count p.game (n + 1))) r.1 (Contains-numbers (action_count p.game (n + 1)) r.1 up.1 (subst (λ (m : ℕ). r.1 ≤ action_count p.game (m + 1)) long up.2))))
 
-in-all : (p : Task) (s : Search) → ArePlaced p.game s → AreSplits p s → (x : Fix) → IsKnown p.game s x → Contains (all_nodes p.game) x
+pub in-all : (p : Task) (s : Search) → ArePlaced p.game s → AreSplits p s → (x : Fix) → IsKnown p.game s x → Contains (all_nodes p.game) x
 in-all p s placed ok x (inl below) =
     let g = p.game in
     let acts = below.0 in

@@ -89,7 +89,7 @@ part-in g caps k above t x a b (suc c) low high at = ⊎_elim
     equal-or-more (suc i) (suc j) h = ⊎_elim (λ e. inl (ap suc e)) (λ m. inr (omega (arith, m))) (equal-or-more i j (omega (arith, h)))
 
 -- the bound above the parts of a split is the one that they inherit
-base-is : (p : Task) (s : Search) → ArePlaced p.game s → AreSplits p s → (x : List ℕ) → Contains s.splits x → (above : Option Fraction) → (x ≡ [] → above ≡ Some (root_bound p.game))
+pub base-is : (p : Task) (s : Search) → ArePlaced p.game s → AreSplits p s → (x : List ℕ) → Contains s.splits x → (above : Option Fraction) → (x ≡ [] → above ≡ Some (root_bound p.game))
     → base_bound p.game (caps_of p.game s) (length x) above (fact_of s.worked (prefix x)) ≡ inherited p.game s x
 base-is p s placed ok [] at above top = ap (λ (o : Option Fact). base_bound p.game (caps_of p.game s) 0 above o) (root-no_fact p s placed) ∙ top refl
 base-is p s placed ok (y ∷ ys) at above top = ⊎_elim
