@@ -15,6 +15,8 @@
 
 mod laws;
 mod ranked;
+mod ranking;
+mod readiness;
 mod selection;
 
 pub use laws::{order_names_one, selected_are_runs};
