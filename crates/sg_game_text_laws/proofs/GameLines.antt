@@ -1,8 +1,9 @@
 -- The lines of a game's canonical text, and that TOML writes them so.
-use Rattle.std.proofs.Common.{◌≡◌, ◌∙◌, ℕ, ◌≤◌, ◌^◌, Bool, true, false, cond, List, [], ◌∷◌, ◌++◌, length, map, ℤ, pos, Option, Some, None, refl, sym, ap, arith}
+use Rattle.std.proofs.Common.{◌≡◌, ◌∙◌, ℕ, ◌≤◌, ◌^◌, Bool, true, false, cond, List, [], ◌∷◌, ◌++◌, length, map, ℤ, pos, Option, Some, None, refl, sym, ap, subst, arith}
 use Rattle.std.specs.Prelude.{codes, decimal, flat_map, if◌then◌else◌}
 use Rattle.std.specs.Fmt.{signed_decimal}
 use Rattle.std.specs.List.{All}
+use Rattle.std.proofs.lemmas.Fmt.{decimal_digit}
 use Rattle.std.proofs.lemmas.Int.{ints}
 use Rattle.std.proofs.lemmas.List.{length-map}
 use Rattle.std.proofs.lemmas.List.Elements.{All-map, All-nil, All-weaker}
@@ -63,23 +64,23 @@ abbrev pub type_pairs : Kind → Attacker → Pairs
 type_pairs kind x = (codes "name", string x.name) ∷ (codes "prior", integer x.prior) ∷ pay_pairs kind x
 
 -- the tables
-abbrev pub schedule_lines : Game → List Expression
-schedule_lines g = flat_map (λ x. table_lines (codes "schedule") (named_pairs (codes "targets") g.goals x)) g.schedules
+abbrev pub schedule_lines : List (List ℕ) → List Named → List Expression
+schedule_lines targets schedules = flat_map (λ x. table_lines (codes "schedule") (named_pairs (codes "targets") targets x)) schedules
 
-abbrev pub resource_lines : Game → List Expression
-resource_lines g = flat_map (λ x. table_lines (codes "resource") (named_pairs (codes "schedules") (map (λ (x : Named). x.name) g.schedules) x)) g.resources
+abbrev pub resource_lines : List (List ℕ) → List Named → List Expression
+resource_lines schedules resources = flat_map (λ x. table_lines (codes "resource") (named_pairs (codes "schedules") schedules x)) resources
 
-abbrev pub type_lines : Kind → Game → List Expression
-type_lines kind g = flat_map (λ x. table_lines (codes "type") (type_pairs kind x)) g.types
+abbrev pub type_lines : Kind → List Attacker → List Expression
+type_lines kind types = flat_map (λ x. table_lines (codes "type") (type_pairs kind x)) types
 
 -- all lines
 abbrev pub game_lines : Game → List Expression
 game_lines g =
     first_lines g.kind (is_scaled g) g.scale g.patrols g.goals
     ++ (no_lists_lines (is_listed g) g.schedules g.resources
-    ++ (schedule_lines g
-    ++ (resource_lines g
-    ++ type_lines g.kind g)))
+    ++ (schedule_lines g.goals g.schedules
+    ++ (resource_lines (map (λ (x : Named). x.name) g.schedules) g.resources
+    ++ type_lines g.kind g.types)))
 
 -- ---- lines of a key
 
@@ -91,6 +92,11 @@ name_line key name own h = pair_writes key 0 (string name) (quoted name) own (om
 
 names_line : (key : List ℕ) (names : List (List ℕ)) → IsBare key → All (λ name. is_name name ≡ true) names → Writes (pair key (names_data names) ∷ []) (key_line key (names_array names))
 names_line key names own h = pair_writes key 1 (names_data names) (names_array names) own (omega arith) (names_spell names h)
+
+version_line : Writes (pair (codes "version") (integer (pos 1)) ∷ []) (key_line (codes "version") (codes "1"))
+version_line =
+    let one : signed_decimal (pos 1) ≡ codes "1" = decimal_digit 1 (omega arith) in
+    subst (λ text. Writes (pair (codes "version") (integer (pos 1)) ∷ []) (key_line (codes "version") text)) one (number_line (codes "version") (pos 1) (bare (codes "version") refl refl) one_plain)
 
 form_line : (kind : Kind) → Writes (pair (codes "form") (string (form_name kind)) ∷ []) (key_line (codes "form") (quoted (form_name kind)))
 unfolding is_name
@@ -118,7 +124,7 @@ goals_line Matrix goals h = names_line (codes "rows") goals (bare (codes "rows")
 pub first_write : (g : Game) → IsPlainScale (cond (is_scaled g) (Some g.scale) None) → ArePlainPatrols g.patrols → AreNames g.goals
     → Writes (first_lines g.kind (is_scaled g) g.scale g.patrols g.goals) (top_lines g)
 first_write g scale patrols goals =
-    both_write _ _ _ _ (number_line (codes "version") (pos 1) (bare (codes "version") refl refl) one_plain)
+    both_write _ _ _ _ version_line
     (both_write _ _ _ _ (form_line g.kind)
     (both_write _ _ _ _ (scale_writes (is_scaled g) g.scale scale)
     (both_write _ _ _ _ (patrols_write g.patrols patrols) (goals_line g.kind g.goals goals))))
@@ -146,14 +152,14 @@ named_write key members_key names own members_own are count limit many x h =
     both_write _ _ _ _ (head_writes key own)
     (both_write _ _ _ _ (name_line (codes "name") x.name (bare (codes "name") refl refl) h.name) (names_line members_key (member_names names x.members) members_own members))
 
-pub schedules_write : (g : Game) (count few limit : ℕ) → AreNames g.goals → length g.goals ≡ count → AreLists count few limit g.schedules → Writes (schedule_lines g) (schedule_tables g)
+pub schedules_write : (g : Game) (count few limit : ℕ) → AreNames g.goals → length g.goals ≡ count → AreLists count few limit g.schedules → Writes (schedule_lines g.goals g.schedules) (schedule_tables g)
 schedules_write g count few limit names many h =
     each_writes (λ x. table_lines (codes "schedule") (named_pairs (codes "targets") g.goals x)) (named_table (codes "schedule") (codes "targets") g.goals) (IsListed count limit)
     (named_write (codes "schedule") (codes "targets") g.goals (bare (codes "schedule") refl refl) (bare (codes "targets") refl refl) names count limit many)
     g.schedules (all_listed count few limit g.schedules h)
 
 pub resources_write : (g : Game) (count few limit : ℕ) → AreNames (map (λ (x : Named). x.name) g.schedules) → length (map (λ (x : Named). x.name) g.schedules) ≡ count → AreLists count few limit g.resources
-    → Writes (resource_lines g) (resource_tables g)
+    → Writes (resource_lines (map (λ (x : Named). x.name) g.schedules) g.resources) (resource_tables g)
 resources_write g count few limit names many h =
     let known = map (λ (x : Named). x.name) g.schedules in
     each_writes (λ x. table_lines (codes "resource") (named_pairs (codes "schedules") known x)) (named_table (codes "resource") (codes "schedules") known) (IsListed count limit)
@@ -181,12 +187,12 @@ matrix_write rows x h =
     (pair_writes (codes "follower") 2 (table_data x.follower) (table_array x.follower) (bare (codes "follower") refl refl) (omega arith) (rows_spell x.follower h.own.follower.pays)))))
 
 pub security_types_write : (targets : ℕ) (types : List Attacker) → AreNames (map (λ (x : Attacker). x.name) types) → All (IsSecurityType targets) types
-    → Writes (flat_map (λ x. table_lines (codes "type") (type_pairs Security x)) types) (flat_map (type_table Security) types)
+    → Writes (type_lines Security types) (flat_map (type_table Security) types)
 security_types_write targets types h each =
     each_writes (λ x. table_lines (codes "type") (type_pairs Security x)) (type_table Security) (IsNamed (IsSecurityType targets)) (security_write targets) types (all_named (IsSecurityType targets) types h each)
 
 pub matrix_types_write : (rows : ℕ) (types : List Attacker) → AreNames (map (λ (x : Attacker). x.name) types) → All (IsMatrixType rows) types
-    → Writes (flat_map (λ x. table_lines (codes "type") (type_pairs Matrix x)) types) (flat_map (type_table Matrix) types)
+    → Writes (type_lines Matrix types) (flat_map (type_table Matrix) types)
 matrix_types_write rows types h each =
     each_writes (λ x. table_lines (codes "type") (type_pairs Matrix x)) (type_table Matrix) (IsNamed (IsMatrixType rows)) (matrix_write rows) types (all_named (IsMatrixType rows) types h each)
 
@@ -195,10 +201,10 @@ matrix_types_write rows types h each =
 each_none : {X : Type 0} (lines : X → List Expression) (write : X → List ℕ) (xs : List X) → xs ≡ [] → Writes (flat_map lines xs) (flat_map write xs)
 each_none lines write xs e = rw e none_write
 
-no_schedules_write : (g : Game) → g.schedules ≡ [] → Writes (schedule_lines g) (schedule_tables g)
+no_schedules_write : (g : Game) → g.schedules ≡ [] → Writes (schedule_lines g.goals g.schedules) (schedule_tables g)
 no_schedules_write g e = each_none (λ x. table_lines (codes "schedule") (named_pairs (codes "targets") g.goals x)) (named_table (codes "schedule") (codes "targets") g.goals) g.schedules e
 
-no_resources_write : (g : Game) → g.resources ≡ [] → Writes (resource_lines g) (resource_tables g)
+no_resources_write : (g : Game) → g.resources ≡ [] → Writes (resource_lines (map (λ (x : Named). x.name) g.schedules) g.resources) (resource_tables g)
 no_resources_write g e =
     let known = map (λ (x : Named). x.name) g.schedules in
     each_none (λ x. table_lines (codes "resource") (named_pairs (codes "schedules") known x)) (named_table (codes "resource") (codes "schedules") known) g.resources e
