@@ -14,6 +14,7 @@ use Rattle.toml.proofs.ReadLines.{read_lines, run}
 use Rattle.toml.proofs.Turns.{document_some}
 use Rattle.sg_model.specs.declared.kind.Kind.{Kind}
 use Rattle.sg_model.specs.declared.kind.Kind.TheVariants.{Security, Matrix}
+use Rattle.sg_model.specs.declared.fault.GameFault.{GameFault}
 use Rattle.sg_model.specs.Games.{Attacker, Game, Named}
 use Rattle.sg_model.specs.Limits.{IsGame, IsMatrixGame, IsSecurityGame, is_scaled}
 use Rattle.sg_format.specs.Documents.{document_of}
@@ -284,5 +285,8 @@ pub text_reads_back : TextReadsBack
 unfolding game_of_bytes
 text_reads_back g h = rw (text_is_document g h) (document_of_game g h)
 
+same_game : (r : Result Game GameFault) (g h : Game) → r ≡ Ok g → r ≡ Ok h → g ≡ h
+same_game r g h e f = cc
+
 pub text_tells_game : TextTellsGame
-text_tells_game g h own other same = same_Ok (sym (text_reads_back g own) ∙ ap game_of_bytes same ∙ text_reads_back h other)
+text_tells_game g h own other same = same_game (game_of_bytes (game_text g)) g h (text_reads_back g own) (ap game_of_bytes same ∙ text_reads_back h other)
