@@ -36,7 +36,7 @@ module _ (p : Task) (s : Search) (placed : ArePlaced p.game s) (ok : AreSplits p
   split-acts : (acts : List ℕ) → Contains s.splits acts → (x : List ℕ) (a : ℕ) (ys : List ℕ) → acts ≡ x ++ (a ∷ ys) → IsActionOf g (length x + 1, a)
   split-acts acts at x a ys e = ⊎_elim
       (λ none. absurd (let l : length (x ++ (a ∷ ys)) ≡ 0 = ap length (sym e ∙ none) in let k = length-append x (a ∷ ys) in omega (arith, l, k)))
-      (λ worked. (ancestors p s placed ok (length ys) x a ys refl (subst (λ (z : List ℕ). 1 ≤ worked_count s (prefix z)) e worked)).1)
+      (λ worked. let up = ancestors p s placed ok (length ys) x a ys refl (subst (λ (z : List ℕ). 1 ≤ worked_count s (prefix z)) e worked) in (up.1, up.2))
       (ok.worked acts at)
 
   -- so too in a part of one

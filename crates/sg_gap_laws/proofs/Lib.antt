@@ -1,1 +1,3 @@
 pub mod Known
+pub mod Compared
+pub mod Reached
