@@ -19,6 +19,17 @@ fn is_above(one: Frac, other: Frac) -> bool
     !same && one.compare(other) == Ordering::Greater
 }
 
+/// The rank of a choice.
+fn rank_of<R: Ranked>(ranks: &R, n: u32) -> Frac
+    requires { R.is_choice ranks.now n }
+    ensures ranked { R.is_rank ranks.now n result }
+    ensures positive { pos 1 ≤ℤ result.den }
+{
+    let rank = ranks.bound(n);
+    let _ = rank.den();
+    rank
+}
+
 /// The first of so many choices that has the greatest rank.
 pub(crate) fn best_choice<R: Ranked>(count: u32, ranks: &R) -> u32
     requires some { 1 ≤ count }
@@ -26,9 +37,9 @@ pub(crate) fn best_choice<R: Ranked>(count: u32, ranks: &R) -> u32
     ensures { (rank : Fraction) × IsLeader (R.is_rank ranks.now) count result rank }
 {
     let mut best = 0;
-    let mut greatest = ranks.bound(0);
+    let mut greatest = rank_of(ranks, 0);
     'choices: for n in 1..count {
-        let rank = ranks.bound(n);
+        let rank = rank_of(ranks, n);
         if is_above(rank, greatest) {
             best = n;
             greatest = rank;

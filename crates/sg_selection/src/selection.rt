@@ -47,6 +47,7 @@ impl Selection {
     }
 
     /// The next word of the seed.
+    #[tactic(auto, unfolding(crate::specs::Selections::word_drawn, crate::specs::Selections::words_behind))]
     fn draw(&mut self) -> u32
         ensures word { result ≡ word_drawn self.old.words }
         ensures left { self.new ≡ record self.old { words = words_behind self.old.words } }
@@ -99,7 +100,7 @@ impl Selection {
         let place = self.place(ready)?;
         self.lane = place as u8 + 1;
         let e = match ready[place] {
-            Ready::Nothing => return None,
+            Ready::Nothing => unreachable!(),
             Ready::Begin(count) => Event::Begin(self.lane, self.choice(count, ranks)),
             Ready::Turn => Event::Turn(self.lane),
             Ready::Finish => Event::Finish(self.lane),
