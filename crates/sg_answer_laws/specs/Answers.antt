@@ -1,8 +1,10 @@
 -- What a search is and comes to: a game without a scale, a budget of nodes, a method by which nodes are worked, and the report of a state that its
 -- changes lead to.
-use Rattle.std.specs.Prelude.{◌≡◌, ℕ, ◌^◌, List, length, pos, All, Contains}
+use Rattle.std.specs.Prelude.{◌≡◌, List, length, pos, All, Contains}
 use Rattle.sg_num.specs.Exact.{Fits}
-use Rattle.sg_model.specs.Limits.{IsCount, IsGame}
+use Rattle.sg_options.specs.declared.budget.Budget.{Budget}
+use Rattle.sg_options.specs.Options.{IsBudget}
+use Rattle.sg_model.specs.Limits.{IsGame}
 use Rattle.sg_tree.specs.declared.fix.Fix.{Fix}
 use Rattle.sg_tree.specs.declared.report.Cause.{Cause}
 use Rattle.sg_tree.specs.declared.report.Cause.TheVariants as cause
@@ -43,20 +45,19 @@ HasOperandsAt (Gap why) = HasOperands why
 
 -- ---- the search
 
--- a task: a game without a scale, a budget of nodes that was asked for and is cut to what may be worked of the game, and one play as first commitment
-pub record IsTaskFor (p : Task) (nodes : ℕ) : Type 0 where
+-- a task under a budget: a game without a scale, as many nodes as are asked for and may be worked of the game, and one play as first commitment
+pub record IsTaskFor (b : Budget) (p : Task) : Type 0 where
   pub game : IsGame p.game
   pub unscaled : p.game.scale ≡ pos 0
-  pub asked : IsCount 1 1000000 nodes
-  pub budget : p.nodes ≡ node_budget p.game nodes
+  pub nodes : p.nodes ≡ node_budget p.game b.nodes
   pub first : IsFirst p.game p.first
   pub one : length p.first ≡ 1
 
--- a method that is kept at each node of the game, within the budgets of moves and looks that may be asked for
-pub record IsMethodFor (p : Task) (m : Method) : Type 0 where
+-- a method with the budget's moves and looks, kept at each node of the game
+pub record IsMethodFor (b : Budget) (p : Task) (m : Method) : Type 0 where
+  pub pivots : m.pivots ≡ b.pivots
+  pub looks : m.looks ≡ b.looks
   pub kept : (fix : Fix) → IsNode p.game fix → IsMethodAt p.game m fix
-  pub pivots : IsCount 1 (10 ^ 9) m.pivots
-  pub looks : IsCount 1 (10 ^ 18) m.looks
 
 -- a state that changes lead to from the start, whose worked nodes are closed and whose stuck nodes are stopped by the method
 pub record IsReached (p : Task) (m : Method) (s : Search) : Type 0 where
@@ -65,10 +66,11 @@ pub record IsReached (p : Task) (m : Method) (s : Search) : Type 0 where
   pub worked : All (λ (w : Worked). ClosesNode p.game m w.fix w.fact w.point) s.worked
   pub stuck : All (λ (x : Stuck). StopsNode p.game m x.node x.cause) s.stuck
 
--- the report is that of a state to which the search comes
-pub record IsAnswerOf (p : Task) (nodes : ℕ) (m : Method) (s : Search) (r : Report) : Type 0 where
-  pub task : IsTaskFor p nodes
-  pub method : IsMethodFor p m
+-- the report is that of a state to which a search within a budget comes
+pub record IsAnswerOf (b : Budget) (p : Task) (m : Method) (s : Search) (r : Report) : Type 0 where
+  pub budget : IsBudget b
+  pub task : IsTaskFor b p
+  pub method : IsMethodFor b p m
   pub reached : IsReached p m s
   pub report : IsReportOf p s r
   pub ending : IsEndingOf p s r.ending

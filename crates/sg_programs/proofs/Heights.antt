@@ -75,7 +75,7 @@ numbers-split a (suc m) n =
     rw e (ap (λ (xs : List ℕ). a ∷ xs) (numbers-split (a + 1) m n ∙ ap (λ (b : ℕ). numbers_from (a + 1) m ++ numbers_from b n) f))
 
 -- some of the numbers from 1 to n, in a row, have no greater sum than all
-part-le : (f : ℕ → ℕ) (a m n : ℕ) → 1 ≤ a → a + m ≤ n + 1 → sum_by f (numbers_from a m) ≤ sum_by f (numbers n)
+pub part-le : (f : ℕ → ℕ) (a m n : ℕ) → 1 ≤ a → a + m ≤ n + 1 → sum_by f (numbers_from a m) ≤ sum_by f (numbers n)
 part-le f a m n low high =
     let front : List ℕ = numbers_from 1 (a - 1) in
     let rest : ℕ = n - (a - 1) - m in
@@ -116,7 +116,7 @@ by-number f (x ∷ xs) =
     at zero low = absurd (omega arith)
     at (suc k) low = refl
 
-types-sum : (g : Game) → IsGame g → 1 + sum_by (extra g) (numbers (length g.types)) ≤ program_rows g
+pub types-sum : (g : Game) → IsGame g → 1 + sum_by (extra g) (numbers (length g.types)) ≤ program_rows g
 types-sum g h = elim (game_cases g h) [
   | inl s ↦ (
       let k : ℕ = length g.goals - 1 in

@@ -206,12 +206,12 @@ module _ (g : Game) (h : IsGame g) (unscaled : g.scale ≡ pos 0) (fix : Fix) (i
 
   -- ---- causes
 
-  not_final : (t : Tableau) → IsTableau p t → (s : Enter) → IsEntering p t s → IsFinal p t → ⊥
+  pub not_final : (t : Tableau) → IsTableau p t → (s : Enter) → IsEntering p t s → IsFinal p t → ⊥
   not_final t st (Slack i) e f = let up = f.above i (let l = st.shaped.y_long in let w = e.0 in omega (arith, l, w)) in omega (arith, ints, up, e.1)
   not_final t st (Col c) e f = let at = first-listed p t.y t.rho p.columns c e.1 in All-contains (λ (d : Column). ¬ (Enters p t.y t.rho d)) p.columns c f.none at.0 at.1
 
   -- the state before, and that it moves
-  earlier : (k j : ℕ) (t : Tableau) → Runs p k t → j < k → (s : Tableau) × (Runs p j s × ((u : Tableau) × IsNext p s u))
+  pub earlier : (k j : ℕ) (t : Tableau) → Runs p k t → j < k → (s : Tableau) × (Runs p j s × ((u : Tableau) × IsNext p s u))
   earlier zero j t run lt = absurd (omega arith)
   earlier (suc k) j t run lt = go (λ less. earlier k j run.0 run.1 less) (three j k)
     where
@@ -222,7 +222,7 @@ module _ (g : Game) (h : IsGame g) (unscaled : g.scale ≡ pos 0) (fix : Fix) (i
 
   module _ (is : IsMethodAt g m fix) where
     -- a run that goes on where the moves are spent has ended there
-    ends_spent : (j : ℕ) (s u : Tableau) → Runs p j s → IsNext p s u → m.pivots ≤ j → EndsNode g m fix j
+    pub ends_spent : (j : ℕ) (s u : Tableau) → Runs p j s → IsNext p s u → m.pivots ≤ j → EndsNode g m fix j
     ends_spent j s u run next spent_all = by next.entering next.enters
       where
         st : IsTableau p s

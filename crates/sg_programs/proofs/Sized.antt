@@ -42,11 +42,11 @@ least-from : (a : ℤ) (xs : List ℤ) → IsPay a → All IsPay xs → IsPay (f
 least-from a [] h all = h
 least-from a (x ∷ xs) h all = least-from (int_min a x) xs (least-step a x h (All-head IsPay x xs all)) (All-tail IsPay x xs all)
 
-least-pay : (xs : List ℤ) → All IsPay xs → IsPay (least xs)
+pub least-pay : (xs : List ℤ) → All IsPay xs → IsPay (least xs)
 least-pay [] all = record { at_least = omega (arith, ints); at_most = omega (arith, ints) }
 least-pay (x ∷ xs) all = least-from x xs (All-head IsPay x xs all) (All-tail IsPay x xs all)
 
-pays-at : (g : Game) → IsGame g → (l a : ℕ) → All IsPay (payoffs_at g l a)
+pub pays-at : (g : Game) → IsGame g → (l a : ℕ) → All IsPay (payoffs_at g l a)
 pays-at g h l a = elim (game_cases g h) [
   | inl s ↦ (let p = payoff-in_range g h l a in rw (no_matrix g s.kind) (All-cons IsPay (payoff g l a).dc ((payoff g l a).du ∷ []) p.dc (All-cons IsPay (payoff g l a).du [] p.du (All-nil IsPay))))
   | inr m ↦ (
@@ -55,7 +55,7 @@ pays-at g h l a = elim (game_cases g h) [
       (λ i d lt. let r : ℕ = slice_index_or (numbers (length g.goals)) i d in rw (yes_matrix g m.kind) at (pay_d-in_range g h l (r ∷ []) a))))
 ]
 
-pays-all : (g : Game) → IsGame g → All IsPay (flat_map (payoffs_of g) (numbers (length g.types)))
+pub pays-all : (g : Game) → IsGame g → All IsPay (flat_map (payoffs_of g) (numbers (length g.types)))
 pays-all g h =
     All-flat_map IsPay (payoffs_of g) (numbers (length g.types))
     (λ i d lt.
