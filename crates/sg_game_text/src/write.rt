@@ -1,14 +1,16 @@
 //! The canonical text of a game.
 
-ghost use Rattle.std.specs.Prelude.{◌≡◌, ◌++◌, [], IfOk, OnOk, codes, flat_map, length};
+ghost use Rattle.std.specs.Prelude.{◌≡◌, ◌++◌, [], IfOk, Ok, OnOk, codes, flat_map, length};
 ghost use Rattle.sg_model.specs.Sums.{nth};
 ghost use Rattle.sg_game.specs.Counts.{IsGoalOf};
+ghost use Rattle.sg_format.specs.GameFiles.{game_of_bytes};
 ghost use Rattle.sg_format.specs.GameText.{form_name, game_text, goals_key, key_line, names_array, patrols_line, scale_line, top_lines, type_table};
 
 use crate::listed::put_listed;
 use crate::tables::put_type;
 use crate::text::{put_comma, put_key, put_name_line, put_number_line, put_quoted};
 use sg_game::{Game, Kind};
+use sg_game_text_laws::text_reads_back;
 use std::alloc::{AllocError, Global};
 
 /// The number of targets or rows.
@@ -118,18 +120,29 @@ fn put_types(text: &mut Vec<u8>, game: &Game) -> Result<(), AllocError>
     Ok(())
 }
 
-/// The canonical text of a game, which is the same for equal games.
-///
-/// # Errors
-///
-/// An error only where memory ran out.
+/// The lines and the tables of a game.
 #[tactic(auto, unfolding(sg_format::specs::GameText::game_text))]
-pub fn write_game(alloc: Global, game: &Game) -> Result<Vec<u8>, AllocError>
+fn canonical_text(alloc: Global, game: &Game) -> Result<Vec<u8>, AllocError>
     ensures { IfOk result (λ text. text.items ≡ game_text game.now) }
 {
     let mut text: Vec<u8> = Vec::new(alloc);
     put_top_lines(&mut text, game)?;
     put_listed(&mut text, game)?;
     put_types(&mut text, game)?;
+    Ok(text)
+}
+
+/// The canonical text of a game, which is the same for equal games and is a file of that game.
+///
+/// # Errors
+///
+/// An error only where memory ran out.
+pub fn write_game(alloc: Global, game: &Game) -> Result<Vec<u8>, AllocError>
+    ensures canonical { IfOk result (λ text. text.items ≡ game_text game.now) }
+    ensures reads_back { IfOk result (λ text. game_of_bytes text.items ≡ Ok game.now) }
+{
+    game.promises();
+    text_reads_back();
+    let text = canonical_text(alloc, game)?;
     Ok(text)
 }

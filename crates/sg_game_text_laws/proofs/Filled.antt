@@ -1,12 +1,12 @@
 -- What the lines of tables, one after another, do to the document that is read.
 use Rattle.std.proofs.Common.{◌≡◌, ◌∙◌, ℕ, List, [], ◌∷◌, ◌++◌, map, Option, Some, None, option_and_then, refl, sym, ap}
 use Rattle.std.specs.Prelude.{flat_map}
-use Rattle.toml.specs.Data.{Data, Items, array, no_items, push_item, table}
-use Rattle.toml.specs.Tables.{Document, Expression, Node, Nodes, along_dots, along_header, at_key, close, close_node, define, get_node, insert, no_nodes, open_array, put, replace}
+use Rattle.toml.specs.Data.{Data, Items, no_items, push_item, table}
+use Rattle.toml.specs.Tables.{Document, Expression, Node, Nodes, along_header, at_key, close, define, get_node, insert, no_nodes, open_array, put, replace}
 use Rattle.toml.proofs.Fill.{run-append}
 use Rattle.toml.proofs.ReadLines.{run}
 use Rattle.toml.proofs.ReadValues.{item_join, item_join-none, item_join-push}
-use Rattle.sg_format.specs.FaultExamples.{items_of, listed}
+use Rattle.sg_format.specs.FaultExamples.{items_of}
 use Rattle.sg_game_text_laws.proofs.Lines.{pair, table_head}
 
 -- keys and their values, in the order in which they are written

@@ -1,27 +1,27 @@
 -- The lines of a game's canonical text, and that TOML writes them so.
-use Rattle.std.proofs.Common.{◌≡◌, ◌∙◌, ℕ, ◌≤◌, ◌^◌, Bool, true, false, cond, List, [], ◌∷◌, ◌++◌, length, map, ℤ, pos, Option, Some, None, refl, sym, ap, subst, arith}
-use Rattle.std.specs.Prelude.{codes, decimal, flat_map, if◌then◌else◌}
+use Rattle.std.proofs.Common.{◌≡◌, ℕ, ◌^◌, Bool, true, false, cond, List, [], ◌∷◌, ◌++◌, length, map, ℤ, pos, Option, Some, None, refl, subst, arith}
+use Rattle.std.specs.Prelude.{codes, flat_map}
 use Rattle.std.specs.Fmt.{signed_decimal}
 use Rattle.std.specs.List.{All}
 use Rattle.std.proofs.lemmas.Fmt.{decimal_digit}
 use Rattle.std.proofs.lemmas.Int.{ints}
 use Rattle.std.proofs.lemmas.List.{length-map}
-use Rattle.std.proofs.lemmas.List.Elements.{All-map, All-nil, All-weaker}
-use Rattle.toml.specs.Data.{Data, array, integer, no_items, string}
+use Rattle.std.proofs.lemmas.List.Elements.{All-map, All-nil}
+use Rattle.toml.specs.Data.{array, integer, no_items, string}
 use Rattle.toml.specs.Tables.{Expression}
 use Rattle.sg_model.specs.declared.kind.Kind.{Kind}
 use Rattle.sg_model.specs.declared.kind.Kind.TheVariants.{Security, Matrix}
 use Rattle.sg_model.specs.Games.{Attacker, Game, Named}
-use Rattle.sg_model.specs.Limits.{AreLists, AreMembers, IsCount, IsGame, IsMatrixGame, IsMatrixType, IsSecurityGame, IsSecurityType, IsWithin, is_scaled}
+use Rattle.sg_model.specs.Limits.{AreLists, IsCount, IsGame, IsMatrixType, IsSecurityType, IsWithin, is_scaled}
 use Rattle.sg_model.specs.Names.{AreNames, is_name}
 use Rattle.sg_model.specs.Sums.{nth}
 use Rattle.sg_model.proofs.Promises.{nth-all}
 use Rattle.sg_game.specs.Counts.{four}
-use Rattle.sg_format.specs.GameText.{empty_line, empty_lines, form_name, four_pays, game_text, goals_key, head, is_listed, key_line, named_table, names_array, pay_lines, patrols_line, quoted, resource_tables, scale_line, schedule_tables, table_array, top_lines, type_table}
+use Rattle.sg_format.specs.GameText.{empty_line, form_name, four_pays, game_text, goals_key, is_listed, key_line, named_table, names_array, pay_lines, patrols_line, quoted, resource_tables, schedule_tables, table_array, top_lines, type_table}
 use Rattle.sg_document_laws.specs.Tables.{member_names, names_data, table_data}
 use Rattle.sg_document_laws.proofs.Texts.{IsPlain}
-use Rattle.sg_document_laws.proofs.Written.{IsListed, IsNamed, IsPlainScale, all_listed, all_named, member_plain, one_plain, patrols_few, prior_plain, scale_plain}
-use Rattle.sg_game_text_laws.proofs.Values.{Spells, fours_spell, name_spells, names_spell, number_spells, rows_spell}
+use Rattle.sg_document_laws.proofs.Written.{IsListed, IsNamed, IsPlainScale, all_listed, all_named, one_plain, patrols_few, prior_plain, scale_plain}
+use Rattle.sg_game_text_laws.proofs.Values.{fours_spell, name_spells, names_spell, number_spells, rows_spell}
 use Rattle.sg_game_text_laws.proofs.Lines.{IsBare, Writes, bare, both_write, each_writes, head_writes, none_write, pair, pair_writes}
 use Rattle.sg_game_text_laws.proofs.Filled.{Pairs, table_lines}
 

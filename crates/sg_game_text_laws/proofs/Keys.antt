@@ -1,17 +1,17 @@
 -- What the lines of a game's canonical text leave at each key of the document that is read.
-use Rattle.std.proofs.Common.{◌≡◌, ◌∙◌, ℕ, ◌≤◌, Bool, true, false, cond, List, [], ◌∷◌, ◌++◌, length, map, ℤ, pos, Option, Some, None, refl, sym, ap, arith}
+use Rattle.std.proofs.Common.{◌≡◌, ℕ, ◌≤◌, List, [], ◌∷◌, length, map, Some, None, refl, ap, arith}
 use Rattle.std.specs.Prelude.{codes, flat_map}
 use Rattle.toml.specs.Data.{Data, Items, array, integer, no_items, string}
-use Rattle.toml.specs.Tables.{Document, Expression, Node, Nodes, along_dots, along_header, at_key, close_node, define, get_node, insert, no_nodes, node, open_array, replace, value}
+use Rattle.toml.specs.Tables.{Document, Expression, Node, Nodes, along_dots, at_key, close_node, get_node, insert, no_nodes, node, open_array, replace, value}
 use Rattle.toml.proofs.ReadLines.{run}
 use Rattle.sg_model.specs.declared.kind.Kind.{Kind}
 use Rattle.sg_model.specs.declared.kind.Kind.TheVariants.{Security, Matrix}
-use Rattle.sg_model.specs.Games.{Attacker, Game, Named}
+use Rattle.sg_model.specs.Games.{Attacker, Named}
 use Rattle.sg_game.specs.Counts.{four}
 use Rattle.sg_format.specs.FaultExamples.{listed}
 use Rattle.sg_document_laws.specs.Tables.{member_names, names_data, table_data}
 use Rattle.sg_document_laws.specs.Documents.{named_entry, type_entry}
-use Rattle.sg_game_text_laws.proofs.Filled.{Fills, Pairs, all_tables, puts, table_lines}
+use Rattle.sg_game_text_laws.proofs.Filled.{Fills, all_tables, puts, table_lines}
 use Rattle.sg_game_text_laws.proofs.GameLines.{named_pairs, type_pairs}
 
 -- ---- tables

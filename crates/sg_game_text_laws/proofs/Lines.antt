@@ -1,12 +1,12 @@
 -- Lines of a key and heads of tables of the canonical text are as TOML writes them.
-use Rattle.std.proofs.Common.{◌≡◌, ◌∙◌, ℕ, ◌≤◌, ◌<◌, Bool, true, false, ◌&&◌, cond, List, [], ◌∷◌, ◌++◌, length, map, refl, sym, ap, arith, append_assoc, append-nil}
+use Rattle.std.proofs.Common.{◌≡◌, ℕ, ◌≤◌, true, false, ◌&&◌, List, [], ◌∷◌, ◌++◌, length, refl, sym, ap, arith, append-nil}
 use Rattle.std.specs.Prelude.{codes, flat_map, nat_lt}
 use Rattle.std.specs.List.{All, list_all}
 use Rattle.std.specs.Str.{IsAscii}
 use Rattle.std.proofs.lemmas.List.Elements.{All-head, All-tail}
 use Rattle.std.proofs.lemmas.Str.{IsAscii-append}
 use Rattle.toml_parser.specs.Lexical.{is_bare}
-use Rattle.toml_writer.specs.Text.{dotted_text, key_text}
+use Rattle.toml_writer.specs.Text.{key_text}
 use Rattle.toml.specs.Data.{Data}
 use Rattle.toml.specs.Tables.{Expression, array_table, key_value}
 use Rattle.toml.specs.Text.{IsLinesText}

@@ -1,5 +1,5 @@
 -- Names, numbers and arrays of the canonical text are as TOML writes them.
-use Rattle.std.proofs.Common.{◌≡◌, ◌∙◌, ℕ, zero, suc, ◌≤◌, Bool, true, false, not, ◌&&◌, ◌||◌, ◌==◌, cond, List, [], ◌∷◌, ◌++◌, length, map, ℤ, pos, refl, sym, ap, arith, append_assoc}
+use Rattle.std.proofs.Common.{◌≡◌, ℕ, suc, ◌≤◌, Bool, true, false, ◌&&◌, ◌==◌, List, [], ◌∷◌, ◌++◌, length, map, ℤ, refl, ap, arith, append_assoc}
 use Rattle.std.specs.Prelude.{codes, flat_map, nat_le}
 use Rattle.std.specs.Fmt.{signed_decimal}
 use Rattle.std.specs.List.{All, list_all, list_any}
@@ -9,8 +9,8 @@ use Rattle.std.proofs.lemmas.Bool.Decides.{nat_tests}
 use Rattle.std.proofs.lemmas.List.Elements.{All-head, All-tail, All-map}
 use Rattle.std.proofs.lemmas.List.Sums.{AllPass-from_list_all}
 use Rattle.std.proofs.lemmas.Str.{IsAscii-append}
-use Rattle.toml_writer.specs.Text.{Encoding, basic, encoded, encoding_of, escaped, has, is_control, needs_escape, quotes_after, string_text}
-use Rattle.toml.specs.Data.{Data, Items, array as array_data, depth, has_valid_dates, integer, item, items_depth, items_have_valid_dates, no_items, string}
+use Rattle.toml_writer.specs.Text.{basic, encoding_of, escaped, is_control, quotes_after, string_text}
+use Rattle.toml.specs.Data.{Data, depth, has_valid_dates, integer, items_depth, items_have_valid_dates, string}
 use Rattle.toml.specs.Text.{IsItemsText, IsValueText, breaks_lines}
 use Rattle.sg_model.specs.Games.{Payoff}
 use Rattle.sg_model.specs.Limits.{IsPay, IsPayoff}

@@ -1,6 +1,6 @@
 -- The canonical text of a game is read as the document that spells the game, and so is a file of that game.
-use Rattle.std.proofs.Common.{◌≡◌, ◌∙◌, ℕ, suc, ◌≤◌, Bool, true, false, ◌==◌, cond, List, [], ◌∷◌, ◌++◌, length, map, ℤ, pos, ◌≤ℤ◌, Option, Some, None, Result, Ok, Err, refl, sym, ap, arith, inl, inr}
-use Rattle.std.specs.Prelude.{codes, flat_map, int_lt}
+use Rattle.std.proofs.Common.{◌≡◌, ◌∙◌, ℕ, suc, ◌≤◌, Bool, true, false, ◌==◌, cond, List, [], ◌∷◌, ◌++◌, length, map, ℤ, pos, Option, Some, None, Result, Ok, refl, sym, ap, arith, inl, inr}
+use Rattle.std.specs.Prelude.{codes, int_lt}
 use Rattle.std.specs.Str.{is_utf8}
 use Rattle.std.proofs.lemmas.Bool.{cases_Bool, false≢true}
 use Rattle.std.proofs.lemmas.Int.{ints}
@@ -20,7 +20,7 @@ use Rattle.sg_model.specs.Limits.{IsGame, IsMatrixGame, IsSecurityGame, is_scale
 use Rattle.sg_format.specs.Documents.{document_of}
 use Rattle.sg_format.specs.GameFiles.{game_of_bytes}
 use Rattle.sg_format.specs.FaultExamples.{listed}
-use Rattle.sg_format.specs.GameText.{form_name, game_text, goals_key}
+use Rattle.sg_format.specs.GameText.{game_text}
 use Rattle.sg_document_laws.specs.Tables.{matrix_table, names_data, patrols_table, resources_table}
 use Rattle.sg_document_laws.specs.Documents.{game_table, game_table_by, named_entry, resource_entries, schedule_entries, type_entries, type_entry}
 use Rattle.sg_document_laws.proofs.Spelled.{document_of_game}
