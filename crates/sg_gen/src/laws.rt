@@ -2,13 +2,13 @@
 
 ghost use Rattle.sg_gen.specs.GeneratedLaws.{MadeGamesAreAccepted, TextsAreApart};
 
-use sg_document_laws::accepted_files;
+use sg_game_text_laws::text_reads_back;
 
-/// Each generated game keeps every promise of a game file, and is the game of some bytes.
+/// Each generated game keeps every promise of a game file, and its canonical text is a file of that game.
 pub fn made_games_are_accepted()
     ensures { MadeGamesAreAccepted }
 {
-    accepted_files();
+    text_reads_back();
 }
 
 /// A text spells at most one shape.
