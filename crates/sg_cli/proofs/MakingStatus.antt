@@ -1,12 +1,13 @@
 -- What the steps of `make` come of in the whole run, and that one status is due for it.
-use Rattle.std.proofs.Common.{◌≡◌, ◌⊎◌, ℕ, zero, suc, ◌<◌, ◌≤◌, ◌*◌, List, [], ◌∷◌, ◌++◌, true, false, refl, sym, ◌∙◌, subst, arith, inl, inr}
-use Rattle.std.specs.Prelude.{bytes_eq}
+use Rattle.std.proofs.Common.{◌≡◌, ◌⊎◌, ℕ, zero, suc, ◌<◌, ◌≤◌, ◌*◌, List, [], ◌∷◌, ◌++◌, true, false, refl, sym, ap, ◌∙◌, subst, arith, inl, inr}
+use Rattle.std.specs.Prelude.{bytes_eq, Ok}
 use Rattle.std.proofs.lemmas.Bool.{cases_Bool, cases_lt, true≢false}
 use Rattle.std.proofs.lemmas.List.{append-nil}
 use Rattle.std.proofs.lemmas.Slice.Eq.{bytes_eq-Decides}
 use Rattle.sg_model.specs.Limits.{IsCount}
 use Rattle.sg_gen.specs.declared.shape.Shape.{Shape}
 use Rattle.sg_gen.specs.declared.shape.Shape.TheVariants.{Free, Blocks, Table}
+use Rattle.sg_format.specs.GameFiles.{game_of_bytes}
 use Rattle.sg_format.specs.GameText.{game_text}
 use Rattle.sg_gen.specs.Generated.{made_game}
 use Rattle.sg_gen.specs.Shapes.{IsShape, shape_text}
@@ -27,8 +28,9 @@ use Rattle.sg_cli.proofs.Progress.{none_read}
 
 -- ---- what is done
 
-pub made_of : (text : List ℕ) (seed : ℕ) (shape : Shape) (written : List ℕ) → IsShape shape → text ≡ shape_text shape → written ≡ game_text (made_game shape seed) → IsMadeText text seed written
-made_of text seed shape written in_range spells is = record { of = record { shape = shape; in_range = in_range; spelled = spells }; is_text = is }
+pub made_of : (text : List ℕ) (seed : ℕ) (shape : Shape) (items written : List ℕ) → IsShape shape → text ≡ shape_text shape → written ≡ items → items ≡ game_text (made_game shape seed)
+    → game_of_bytes items ≡ Ok (made_game shape seed) → IsMadeText text seed written
+made_of text seed shape items written in_range spells same is reads = record { of = record { shape = shape; in_range = in_range; spelled = spells }; is_text = same ∙ is; is_file = ap game_of_bytes same ∙ reads }
 
 module _ (hands : HandsOver) (shelf : ShelfState) (text : List ℕ) (seed : ℕ) (before after : SinkState) where
   pub done_making : (status : ℕ) → WritesMade text seed before after status → IsDone hands (making text seed) (surroundings shelf before) (surroundings shelf after) status

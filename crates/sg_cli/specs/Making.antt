@@ -1,5 +1,6 @@
 -- The command `make SHAPE SEED`.
-use Rattle.std.specs.Prelude.{◌≡◌, ℕ, false, List, []}
+use Rattle.std.specs.Prelude.{◌≡◌, ℕ, false, List, [], Ok}
+use Rattle.sg_format.specs.GameFiles.{game_of_bytes}
 use Rattle.sg_format.specs.GameText.{game_text}
 use Rattle.sg_gen.specs.declared.shape.Shape.{Shape}
 use Rattle.sg_gen.specs.Generated.{made_game}
@@ -30,10 +31,11 @@ abbrev pub ends_made : List Content → ℕ → Type 0
 ends_made [] status = status ≡ 0
 ends_made _ status = ⊥
 
--- the canonical text of the game of the shape and the seed
+-- the canonical text of the game of the shape and the seed, which is a file of that game
 pub record IsMadeText (text : List ℕ) (seed : ℕ) (written : List ℕ) : Type 0 where
   pub of : SpellsShape text
   pub is_text : written ≡ game_text (made_game of.shape seed)
+  pub is_file : game_of_bytes written ≡ Ok (made_game of.shape seed)
 
 -- is written
 abbrev pub writes_made : List ℕ → ℕ → List Content → ℕ → List ℕ → Type 0

@@ -1,6 +1,7 @@
 //! What `make` does: makes the game of a shape and a seed, and writes its canonical text.
 
-ghost use Rattle.std.specs.Prelude.{◌≡◌, ◌≢◌, ◌≤◌, IfOk, IfErr};
+ghost use Rattle.std.specs.Prelude.{◌≡◌, ◌≢◌, ◌≤◌, IfOk, IfErr, Ok};
+ghost use Rattle.sg_format.specs.GameFiles.{game_of_bytes};
 ghost use Rattle.sg_format.specs.GameText.{game_text};
 ghost use Rattle.sg_gen.specs.Generated.{made_game};
 ghost use Rattle.sg_gen.specs.Shapes.{IsShape};
@@ -15,7 +16,8 @@ use std::alloc::{AllocError, Global};
 /// The text of the game of a shape and a seed.
 fn made_text(alloc: Global, shape: Shape, seed: u64) -> Result<Vec<u8>, AllocError>
     requires { IsShape shape }
-    ensures { IfOk result (λ text. text.items ≡ game_text (made_game shape seed)) }
+    ensures canonical { IfOk result (λ text. text.items ≡ game_text (made_game shape seed)) }
+    ensures file { IfOk result (λ text. game_of_bytes text.items ≡ Ok (made_game shape seed)) }
 {
     let game = make_game(alloc, shape, seed)?;
     write_game(alloc, &game)

@@ -10,7 +10,7 @@ use crate::listed::put_listed;
 use crate::tables::put_type;
 use crate::text::{put_comma, put_key, put_name_line, put_number_line, put_quoted};
 use sg_game::{Game, Kind};
-use sg_game_text_laws::text_reads_back;
+use sg_game_text_laws::game_text_is_file;
 use std::alloc::{AllocError, Global};
 
 /// The number of targets or rows.
@@ -142,7 +142,7 @@ pub fn write_game(alloc: Global, game: &Game) -> Result<Vec<u8>, AllocError>
     ensures reads_back { IfOk result (λ text. game_of_bytes text.items ≡ Ok game.now) }
 {
     game.promises();
-    text_reads_back();
+    game_text_is_file();
     let text = canonical_text(alloc, game)?;
     Ok(text)
 }

@@ -17,7 +17,7 @@ use Rattle.sg_document_laws.proofs.Texts.{seen}
 use Rattle.sg_game_text_laws.proofs.Values.{Spells}
 
 -- the text is what TOML writes for these lines, behind others
-pub record Writes (es : List Expression) (text : List ℕ) : Type 0 where
+pub record SpellsLines (es : List Expression) (text : List ℕ) : Type 0 where
   pub lines : IsLinesText false true es text
   pub ascii : IsAscii text
   pub printed : AllPrinted es
@@ -41,7 +41,7 @@ table_head key = (([], key), array_table)
 
 -- ---- one line
 
-pub pair_writes : (key : List ℕ) (n : ℕ) (d : Data) (text : List ℕ) → IsBare key → n ≤ 80 → Spells n d text → Writes (pair key d ∷ []) (key_line key text)
+pub pair_writes : (key : List ℕ) (n : ℕ) (d : Data) (text : List ℕ) → IsBare key → n ≤ 80 → Spells n d text → SpellsLines (pair key d ∷ []) (key_line key text)
 pair_writes key n d text bare few h = record {
   lines = (key_line key text, [], sym (append-nil (key_line key text)), (text, ap (λ k. k ++ (codes " = " ++ (text ++ codes "\n"))) (sym bare.own), h.is), refl);
   ascii = IsAscii-append key (codes " = " ++ (text ++ codes "\n")) bare.ascii
@@ -49,7 +49,7 @@ pair_writes key n d text bare few h = record {
   printed = ((refl, omega (arith, few, h.deep), h.dates), tt);
 }
 
-pub head_writes : (key : List ℕ) → IsBare key → Writes (table_head key ∷ []) (head key)
+pub head_writes : (key : List ℕ) → IsBare key → SpellsLines (table_head key ∷ []) (head key)
 head_writes key bare = record {
   lines = (head key, [], sym (append-nil (head key)), ap (λ k. codes "\n[[" ++ (k ++ codes "]]\n")) (sym bare.own), refl);
   ascii = IsAscii-append (codes "\n[[") (key ++ codes "]]\n") (seen (codes "\n[[") refl) (IsAscii-append key (codes "]]\n") bare.ascii (seen (codes "]]\n") refl));
@@ -58,7 +58,7 @@ head_writes key bare = record {
 
 -- ---- several lines
 
-pub none_write : Writes [] []
+pub none_write : SpellsLines [] []
 none_write = record { lines = refl; ascii = seen [] refl; printed = tt }
 
 all_printed : (es fs : List Expression) → AllPrinted es → AllPrinted fs → AllPrinted (es ++ fs)
@@ -66,7 +66,7 @@ all_printed [] fs h i = i
 all_printed (e ∷ es) fs h i = (h.0, all_printed es fs h.1 i)
 
 -- some lines behind others
-pub both_write : (es fs : List Expression) (text rest : List ℕ) → Writes es text → Writes fs rest → Writes (es ++ fs) (text ++ rest)
+pub both_write : (es fs : List Expression) (text rest : List ℕ) → SpellsLines es text → SpellsLines fs rest → SpellsLines (es ++ fs) (text ++ rest)
 both_write es fs text rest h i = record {
   lines = IsLinesText-append false true es fs text rest h.lines i.lines;
   ascii = IsAscii-append text rest h.ascii i.ascii;
@@ -74,8 +74,8 @@ both_write es fs text rest h i = record {
 }
 
 -- the lines of each of these
-pub each_writes : {X : Type 0} (lines : X → List Expression) (write : X → List ℕ) (P : X → Type 0) → ((x : X) → P x → Writes (lines x) (write x))
-    → (xs : List X) → All P xs → Writes (flat_map lines xs) (flat_map write xs)
+pub each_writes : {X : Type 0} (lines : X → List Expression) (write : X → List ℕ) (P : X → Type 0) → ((x : X) → P x → SpellsLines (lines x) (write x))
+    → (xs : List X) → All P xs → SpellsLines (flat_map lines xs) (flat_map write xs)
 each_writes lines write P each [] h = none_write
 each_writes lines write P each (x ∷ xs) h =
     both_write (lines x) (flat_map lines xs) (write x) (flat_map write xs) (each x (All-head P x xs h)) (each_writes lines write P each xs (All-tail P x xs h))

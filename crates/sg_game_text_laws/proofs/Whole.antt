@@ -24,8 +24,8 @@ use Rattle.sg_format.specs.GameText.{game_text}
 use Rattle.sg_document_laws.specs.Tables.{matrix_table, names_data, patrols_table, resources_table}
 use Rattle.sg_document_laws.specs.Documents.{game_table, game_table_by, named_entry, resource_entries, schedule_entries, type_entries, type_entry}
 use Rattle.sg_document_laws.proofs.Spelled.{document_of_game}
-use Rattle.sg_game_text_laws.specs.ReadBack.{TextIsDocument, TextReadsBack, TextTellsGame}
-use Rattle.sg_game_text_laws.proofs.Lines.{Writes}
+use Rattle.sg_game_text_laws.specs.GameTextFiles.{GameTextIsDocument, GameTextIsFile, GameTextTellsGame}
+use Rattle.sg_game_text_laws.proofs.Lines.{SpellsLines}
 use Rattle.sg_game_text_laws.proofs.Filled.{then_run}
 use Rattle.sg_game_text_laws.proofs.GameLines.{first_lines, game_lines, game_writes, no_lists_lines, resource_lines, schedule_lines, type_lines}
 use Rattle.sg_game_text_laws.proofs.Keys.{Leaves, resources_leave, schedules_leave, types_leave}
@@ -265,7 +265,7 @@ game_makes g Matrix patrols h = matrix_makes g patrols h
 -- ---- reading
 
 -- a text that writes lines that make a table is read as that table
-text_read : (es : List Expression) (text : List ℕ) (table : Members) → Writes es text → (first text == 239) ≡ false → Makes es table → document_of text ≡ Ok table
+text_read : (es : List Expression) (text : List ℕ) (table : Members) → SpellsLines es text → (first text == 239) ≡ false → Makes es table → document_of text ≡ Ok table
 unfolding document_of skip_bom
 text_read es text table h no_mark made =
     let skipped : skip_bom text ≡ text = rw no_mark in
@@ -278,15 +278,15 @@ no_mark : (g : Game) → (first (game_text g) == 239) ≡ false
 unfolding game_text
 no_mark g = refl
 
-pub text_is_document : TextIsDocument
-text_is_document g h = text_read (game_lines g) (game_text g) (game_table g) (game_writes g g.kind g.patrols h) (no_mark g) (game_makes g g.kind g.patrols h)
+pub game_text_is_document : GameTextIsDocument
+game_text_is_document g h = text_read (game_lines g) (game_text g) (game_table g) (game_writes g g.kind g.patrols h) (no_mark g) (game_makes g g.kind g.patrols h)
 
-pub text_reads_back : TextReadsBack
+pub game_text_is_file : GameTextIsFile
 unfolding game_of_bytes
-text_reads_back g h = rw (text_is_document g h) (document_of_game g h)
+game_text_is_file g h = rw (game_text_is_document g h) (document_of_game g h)
 
 same_game : (r : Result Game GameFault) (g h : Game) → r ≡ Ok g → r ≡ Ok h → g ≡ h
 same_game r g h e f = cc
 
-pub text_tells_game : TextTellsGame
-text_tells_game g h own other same = same_game (game_of_bytes (game_text g)) g h (text_reads_back g own) (ap game_of_bytes same ∙ text_reads_back h other)
+pub game_text_tells_game : GameTextTellsGame
+game_text_tells_game g h own other same = same_game (game_of_bytes (game_text g)) g h (game_text_is_file g own) (ap game_of_bytes same ∙ game_text_is_file h other)

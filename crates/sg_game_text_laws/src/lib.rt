@@ -2,24 +2,24 @@
 //!
 //! `sg_format` says which bytes are a game file, and of which game, by what `toml` states for its reading; it also says what
 //! the canonical text of a game is. The laws of this crate join the two, for every game that keeps the promises of a game
-//! file. `ReadBack` of `specs/` states them.
+//! file. `GameTextFiles` of `specs/` states them.
 //!
 //! The functions have empty bodies: the contract of each is a statement of a module of `specs/`.
 #![tactic(auto)]
 
-ghost use Rattle.sg_game_text_laws.specs.ReadBack.{TextIsDocument, TextReadsBack, TextTellsGame};
+ghost use Rattle.sg_game_text_laws.specs.GameTextFiles.{GameTextIsDocument, GameTextIsFile, GameTextTellsGame};
 
 /// TOML reads the text of a game as the document that spells the game.
-pub fn text_is_document()
-    ensures { TextIsDocument }
+pub fn game_text_is_document()
+    ensures { GameTextIsDocument }
 {}
 
 /// The text of a game is a file of that game.
-pub fn text_reads_back()
-    ensures { TextReadsBack }
+pub fn game_text_is_file()
+    ensures { GameTextIsFile }
 {}
 
 /// Games with the same text are the same.
-pub fn text_tells_game()
-    ensures { TextTellsGame }
+pub fn game_text_tells_game()
+    ensures { GameTextTellsGame }
 {}

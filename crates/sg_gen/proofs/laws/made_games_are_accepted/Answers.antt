@@ -5,4 +5,4 @@ use Rattle.sg_gen.proofs.laws.made_games_are_accepted.Goals as goal
 pub returns : goal.returns
 returns c = λ shape is seed.
     let kept = made-is-game shape seed is in
-    record { promises = kept; file = c.text_reads_back.ensures (made_game shape seed) kept }
+    record { promises = kept; file = c.game_text_is_file.ensures (made_game shape seed) kept }

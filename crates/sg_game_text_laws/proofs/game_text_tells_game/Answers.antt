@@ -1,0 +1,5 @@
+use Rattle.sg_game_text_laws.proofs.Whole.{game_text_tells_game}
+use Rattle.sg_game_text_laws.proofs.game_text_tells_game.Goals as goal
+
+pub returns : goal.returns
+returns c = game_text_tells_game
