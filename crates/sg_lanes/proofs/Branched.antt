@@ -34,7 +34,7 @@ use Rattle.sg_lanes.proofs.Kept.{runs-more}
 use Rattle.sg_lanes.proofs.Sifted.{all-kept, part-first}
 use Rattle.sg_lanes.proofs.Glued.{seen}
 
-number-in : (a m t : ℕ) → Contains (numbers_from a m) t → (a ≤ t) × (t < a + m)
+pub number-in : (a m t : ℕ) → Contains (numbers_from a m) t → (a ≤ t) × (t < a + m)
 number-in a m t at = All-contains (λ k. (a ≤ k) × (k < a + m)) (numbers_from a m) t (All-numbers_from (λ k. (a ≤ k) × (k < a + m)) a m (λ k low high. (low, high))) at
 
 abbrev pub part_by : List ℕ → ℕ → Fix
@@ -214,18 +214,18 @@ module _ (p : Task) (s : Search) (f : Frontier) (h : IsFrontier p s f) (lane : �
 
 -- ---- the parts formed one after another
 
-numbers-next : (f : ℕ → Fix) (b k : ℕ) → 1 ≤ k → map f (numbers_from b k) ≡ f b ∷ map f (numbers_from (b + 1) (k - 1))
+numbers-next : {X : Type 0} (f : ℕ → X) (b k : ℕ) → 1 ≤ k → map f (numbers_from b k) ≡ f b ∷ map f (numbers_from (b + 1) (k - 1))
 numbers-next f b zero some = absurd (omega (arith, some))
 numbers-next f b (suc k) some = ap (λ (n : ℕ). f b ∷ map f (numbers_from (b + 1) n)) (let e : k ≡ suc k - 1 = omega arith in e)
 
-pub later-step : (f : ℕ → Fix) (xs all : List Fix) (a count : ℕ) → a < count → xs ++ map f (numbers_from (a + 1) (count - a)) ≡ all → (xs ++ (f (a + 1) ∷ [])) ++ map f (numbers_from (a + 1 + 1) (count - (a + 1))) ≡ all
-later-step f xs all a count lt e =
+pub later-step : {X : Type 0} (f : ℕ → X) (xs all : List X) (a count : ℕ) → a < count → xs ++ map f (numbers_from (a + 1) (count - a)) ≡ all → (xs ++ (f (a + 1) ∷ [])) ++ map f (numbers_from (a + 1 + 1) (count - (a + 1))) ≡ all
+later-step {X} f xs all a count lt e =
     append_assoc xs (f (a + 1) ∷ []) (map f (numbers_from (a + 1 + 1) (count - (a + 1))))
     ∙ ap (λ (n : ℕ). xs ++ (f (a + 1) ∷ map f (numbers_from (a + 1 + 1) n))) (let q : count - (a + 1) ≡ count - a - 1 = omega arith in q)
-    ∙ ap (λ (ys : List Fix). xs ++ ys) (sym (numbers-next f (a + 1) (count - a) (omega (arith, lt))))
+    ∙ ap (λ (ys : List X). xs ++ ys) (sym (numbers-next f (a + 1) (count - a) (omega (arith, lt))))
     ∙ e
 
-pub later-end : (f : ℕ → Fix) (xs all : List Fix) (a count : ℕ) → count ≤ a → xs ++ map f (numbers_from (a + 1) (count - a)) ≡ all → xs ≡ all
+pub later-end : {X : Type 0} (f : ℕ → X) (xs all : List X) (a count : ℕ) → count ≤ a → xs ++ map f (numbers_from (a + 1) (count - a)) ≡ all → xs ≡ all
 later-end f xs all a count le e =
     sym (append-nil xs) ∙ ap (λ (n : ℕ). xs ++ map f (numbers_from (a + 1) n)) (let q : 0 ≡ count - a = omega (arith, le) in q) ∙ e
 

@@ -20,3 +20,4 @@ pub mod Entered
 pub mod Prefixed
 pub mod Glued
 pub mod Joined
+pub mod Started

@@ -73,7 +73,7 @@ cmp-self x o =
 pub cmp-less : (a b : ℕ) → a < b → (o : Ordering) → is_lt (ordering_then (nat_cmp a b) o) ≡ true
 cmp-less a b lt o = ap (λ (c : Bool). is_lt (ordering_then (cond c Less (cond (a == b) Equal Greater)) o)) ((Decides-ltb a b).1 lt)
 
-cmp-last : (xs : List ℕ) (a b : ℕ) → a < b → is_lt (slice_cmp nat_cmp (xs ++ (a ∷ [])) (xs ++ (b ∷ []))) ≡ true
+pub cmp-last : (xs : List ℕ) (a b : ℕ) → a < b → is_lt (slice_cmp nat_cmp (xs ++ (a ∷ [])) (xs ++ (b ∷ []))) ≡ true
 cmp-last [] a b lt = cmp-less a b lt Equal
 cmp-last (x ∷ xs) a b lt = ap is_lt (cmp-self x (slice_cmp nat_cmp (xs ++ (a ∷ [])) (xs ++ (b ∷ [])))) ∙ cmp-last xs a b lt
 

@@ -1,6 +1,7 @@
 //! The caps of types.
 
-ghost use Rattle.std.specs.Prelude.{◌≡◌, ◌≤◌, ◌+◌, length};
+ghost use Rattle.std.specs.Prelude.{◌≡◌, ◌≤◌, ◌+◌, [], length};
+ghost use Rattle.sg_model.specs.Payoffs.{greatest_of};
 ghost use Rattle.sg_game.specs.Counts.{IsTypeOf};
 
 use crate::bound::{mu, rho};
@@ -37,6 +38,7 @@ pub(crate) fn are_worked(game: &Game, worked: &[Worked], l: u8) -> bool
 /// The plain cap of a type: the greatest payoff against it.
 pub(crate) fn plain_cap(alloc: Global, game: &Game, l: u8) -> Cap
     requires { IsTypeOf game.now l }
+    ensures { result ≡ record { l = l; v = greatest_of game.now l; proof = [] } }
 {
     Cap {
         l,
