@@ -1,0 +1,2 @@
+-- What a selection is handed, as what may happen in a search.
+use Rattle.std.proofs.Common.{◌≡◌, ℕ}
