@@ -1,3 +1,5 @@
 pub mod Known
 pub mod Compared
 pub mod Reached
+pub mod Full
+pub mod Barred
