@@ -55,6 +55,10 @@ took-answer p s t lane n node held choice e goes = inl (takes lane node, (refl, 
 pub branch-answer : (p : Task) (s t : Search) (lane n : ℕ) (acts : List ℕ) (node : Fix) → IsChoice p s n (prefix acts) → node ≡ first_part acts → Goes p s (branches lane acts) t → IsAnsweredBy p s (Event.Begin lane n) (Outcome.Took node) t
 branch-answer p s t lane n acts node choice e goes = inl (branches lane acts, (refl, choice), goes, ap (λ (x : Fix). Outcome.Took x) e)
 
+-- the lane of a split holds its first part
+pub branch-loads : (loads after : List (Option Load)) (lane : ℕ) (acts : List ℕ) (node : Fix) → after ≡ with_load loads lane (begun_load (first_part acts)) → node ≡ first_part acts → after ≡ with_load loads lane (begun_load node)
+branch-loads loads after lane acts node e same = e ∙ ap (λ (x : Fix). with_load loads lane (begun_load x)) (sym same)
+
 module _ (g g2 : Game) (loads after : List (Option Load)) (stop1 stop2 : Fix → ℕ → Type 0) (closes closes2 : Fix → Fact → Option Committed → Type 0) (stops stops2 : Fix → Cause → Type 0) (m t : Machine) (lane : ℕ)
   (h : IsTogether g loads closes stops m) (same_game : g2 ≡ g) (tests : AreSameTests stop1 closes stops stop2 closes2 stops2) (task : t.task ≡ m.task) where
   pub took-together : (node held : Fix) → held ≡ node → Goes m.task m.search (takes lane held) t.search → after ≡ with_load loads lane (begun_load node) → IsTogether g2 after closes2 stops2 t

@@ -1,5 +1,5 @@
 use Rattle.std.proofs.Common.{◌≡◌, ◌∙◌, sym}
-use Rattle.sg_lanes.proofs.Begun.{begin-idle, begin-may, begin-number, branch-answer, branch-together, chosen-branch, chosen-take, took-answer, took-together}
+use Rattle.sg_lanes.proofs.Begun.{begin-idle, begin-may, begin-number, branch-answer, branch-loads, branch-together, chosen-branch, chosen-take, took-answer, took-together}
 use Rattle.sg_lanes.proofs.Joined.{unloaded}
 use Rattle.sg_lanes.proofs.Known.{same-node}
 use Rattle.sg_lanes.proofs.lanes.Lanes.begin.Goals as goal
@@ -45,3 +45,9 @@ pub returns-in_ok-node-in-Branch-clause-answers : goal.returns-in_ok-node-in-Bra
 returns-in_ok-node-in-Branch-clause-answers g c =
     let k = chosen-branch c.args.self.now.task c.args.self.now.search c.args.n c.in_ok-node.field-0 c.in-Branch.acts c.in-Branch.bound c.in_ok-node.ensures c.in-Branch.is in
     branch-answer c.args.self.now.task c.args.self.now.search c.branch-self.new.self.search c.args.lane c.args.n c.in-Branch.acts c.in_ok-node-in-Branch.node k.0 c.in_ok-node-in-Branch.ensures.node c.in_ok-node-in-Branch.ensures.goes
+
+pub returns-in_ok-start-in-Take-clause-loads : goal.returns-in_ok-start-in-Take-clause-loads
+returns-in_ok-start-in-Take-clause-loads g c = c.in_ok-start-in-Take.ensures.started
+
+pub returns-in_ok-node-in-Branch-clause-loads : goal.returns-in_ok-node-in-Branch-clause-loads
+returns-in_ok-node-in-Branch-clause-loads g c = branch-loads _ _ c.args.lane c.in-Branch.acts c.in_ok-node-in-Branch.node c.in_ok-node-in-Branch.ensures.started c.in_ok-node-in-Branch.ensures.node
