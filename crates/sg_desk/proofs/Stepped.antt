@@ -115,10 +115,10 @@ module _ (g : Game) (h : IsGame g) (unscaled : g.scale ≡ pos 0) (pivots looks 
 
   -- and what the work on nodes says of it
   pub step-told : (next : Run) (s : Step) → StepsBy r next s → (loads after : List (Option Load)) (lane : ℕ) → load_at loads lane ≡ Some (record { node = r.fix; moves = r.node.steps; ended = has_ended r.answer })
-      → after ≡ with_load loads lane (load_of (Some next)) → IsStep (EndsNode g (listed_plays g pivots looks)) loads after lane s
+      → after ≡ with_load loads lane (load_of (Some next)) → IsStep (EndsNode g (listed_plays g pivots looks)) pivots loads after lane s
   step-told next step.Moved by loads after lane at is_after =
       let e = moved-is next by.1 by.0.1 in
-      (record { node = r.fix; moves = r.node.steps; ended = has_ended r.answer }, at, not-ended next.node.tableau by.0.0, is_after ∙ ap (λ (x : Run). with_load loads lane (load_of (Some x))) e)
+      (record { node = r.fix; moves = r.node.steps; ended = has_ended r.answer }, at, not-ended next.node.tableau by.0.0, is_after ∙ ap (λ (x : Run). with_load loads lane (load_of (Some x))) e, subst (λ k. r.node.steps < k) is.pivots_are by.0.0.room)
   step-told next step.Ended by loads after lane at is_after =
       let c = turned r.node next.node by.0 by.1.0 by.1.1 in
       let e = ended-is next by.0 by.1.2 c.1 in

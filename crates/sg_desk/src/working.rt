@@ -19,6 +19,8 @@ impl<'a> Work for Desk<'a> {
 
     ghost stops = { λ d. StopsNode d.game (listed_plays d.game d.pivots d.looks) };
 
+    ghost most_moves = { λ d. d.pivots };
+
     fn start(&mut self, alloc: Global, lane: u8, fix: &Fix) -> Result<(), AllocError> {
         self.game.promises();
         let pool = &mut self.pool;

@@ -7,6 +7,6 @@ mod leaf;
 mod leaves;
 mod rest;
 
-pub use budget::{Budget, node_budget};
+pub use budget::node_budget;
 pub use examples::worked_uppers;
 pub use leaves::upper;

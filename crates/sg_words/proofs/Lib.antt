@@ -17,3 +17,6 @@ pub mod Worked
 pub mod WorkedRosters
 pub mod Numbered
 pub mod WorkedMakes
+pub mod WorkedSolves
+pub mod Searched
+pub mod Ranged

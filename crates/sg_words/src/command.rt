@@ -1,10 +1,16 @@
+use sg_options::{Budget, Order};
+
 /// What the words of a call ask for. The texts are the words themselves, and any text is one, also an empty one.
 #[derive(Clone, Copy, Debug, PartialEq, Eq)]
 pub enum Command<'a> {
-    /// `solve GAME`: find a best commitment for a game.
+    /// `solve GAME [--nodes N] [--pivots N] [--looks N] [--family F] [--order O] [--lanes K] [--seed S]`: find a best commitment for a game.
     Solve {
         /// The name of the game's file.
         game: &'a str,
+        /// How much work the search may do.
+        budget: Budget,
+        /// In which order, in how many lanes, and by which programs.
+        order: Order,
     },
     /// `check GAME REPORT`: judge a report on a game.
     Check {

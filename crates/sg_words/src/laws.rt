@@ -1,7 +1,7 @@
 //! Laws about the definitions, each as the contract of a function that does nothing.
 
-ghost use Rattle.sg_words.specs.Commands.{WordsGive};
-ghost use Rattle.sg_words.specs.WorkedCommands.{WorkedMakes, WorkedRosters};
+ghost use Rattle.sg_words.specs.Commands.{WordsAreInRange, WordsGive};
+ghost use Rattle.sg_words.specs.WorkedCommands.{WorkedMakes, WorkedRosters, WorkedSolves};
 ghost use Rattle.sg_words.specs.WorkedWords.{RefusedWords, WorkedWords};
 
 /// The command of a list of words is the one that the rules of writing give, and there is at most one.
@@ -28,4 +28,14 @@ pub fn worked_rosters()
 /// What words behind `make` give by the program's own table, as worked out by hand.
 pub fn worked_makes()
     ensures { WorkedMakes }
+{}
+
+/// The budget and the order of a search that words ask for are in their ranges.
+pub fn words_are_in_range()
+    ensures { WordsAreInRange }
+{}
+
+/// What words behind `solve` give by the program's own table, as worked out by hand.
+pub fn worked_solves()
+    ensures { WorkedSolves }
 {}

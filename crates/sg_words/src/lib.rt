@@ -24,6 +24,9 @@ mod usage;
 pub use command::Command;
 pub use commands::command_of;
 pub use kind::{Kind, number};
-pub use laws::{refused_words, words_give, worked_makes, worked_rosters, worked_words};
+pub use laws::{
+    refused_words, words_are_in_range, words_give, worked_makes, worked_rosters, worked_solves,
+    worked_words,
+};
 pub use reading::read_words;
 pub use usage::{Given, Setting, Usage};

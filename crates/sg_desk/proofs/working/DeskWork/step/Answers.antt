@@ -44,6 +44,6 @@ returns-clause-step c =
     let at = sym (get_or_default runs i c.index_mut.result.now None lt) ∙ (sym c.index_mut.ensures.value ∙ c.in-Some.is) in
     let is = run-is x.game.now x.pivots x.looks x.pool runs d i lt c.in-Some.run' at in
     let going = ap (λ (r : Run). has_ended r.answer) (same-run c.in-Some.run' held.0 (sym at ∙ held.1.0)) ∙ held.1.2 in
-    subst (λ (v : DeskView). IsStep (EndsNode v.game (listed_plays v.game v.pivots v.looks)) v.loads (map load_of (slice_set c.self.inside.runs.items (c.args.lane - 1) (Some c.step.new.self))) c.args.lane c.step.result) c.self.view_is
+    subst (λ (v : DeskView). IsStep (EndsNode v.game (listed_plays v.game v.pivots v.looks)) v.pivots v.loads (map load_of (slice_set c.self.inside.runs.items (c.args.lane - 1) (Some c.step.new.self))) c.args.lane c.step.result) c.self.view_is
     (step-told x.game.now c.promises.ensures d.unscaled x.pivots x.looks x.pool.width c.in-Some.run' is going c.step.ensures.kept c.step.new.self c.step.result c.step.ensures.steps _ _ c.args.lane
     (load-is runs c.args.lane c.requires.from_one ∙ ap load_of at) (loads-set runs i (Some c.step.new.self)))
