@@ -69,7 +69,7 @@ length-all g =
     let e = length-append (prefixes g) (flat_map (cap_nodes_of g) (numbers_from 2 (length g.types - 1))) in
     omega (arith, a, b, c, d, e)
 
-all-enough : (g : Game) → 1 ≤ length g.types → length (all_nodes g) ≤ enough_nodes g
+pub all-enough : (g : Game) → 1 ≤ length g.types → length (all_nodes g) ≤ enough_nodes g
 all-enough g some = by (length g.types) some (length-all g)
   where
     by : (n : ℕ) → 1 ≤ n → length (all_nodes g) ≡ sum_by (prefix_count g) (numbers n) + sum_by (action_count g) (numbers_from 2 (n - 1))

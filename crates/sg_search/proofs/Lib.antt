@@ -15,3 +15,4 @@ pub mod Listing
 pub mod Opened
 pub mod Sorted
 pub mod Told
+pub mod Taken

@@ -3,7 +3,7 @@ use Rattle.std.specs.Prelude.{ℕ, zero, suc, ◌+◌, ◌*◌, ◌≤◌, nat_e
 use Rattle.sg_model.specs.Sums.{numbers}
 use Rattle.sg_model.specs.Games.{Game, action_count}
 use Rattle.sg_model.specs.Payoffs.{IsPeopled}
-use Rattle.sg_search.specs.Searches.{Task, Search, first_search}
+use Rattle.sg_search.specs.Searches.{Task, Search, busy_count, first_search}
 use Rattle.sg_search.specs.Changes.{Change, Runs}
 
 -- how many prefixes fix types 1 to k: the product of their numbers of actions
@@ -21,3 +21,7 @@ enough_nodes g =
 -- no search works more nodes than these
 abbrev pub WorkedAtMost : Type 0
 WorkedAtMost = (p : Task) → IsPeopled p.game → (cs : List Change) (t : Search) → Runs p (first_search p) cs t → length t.worked ≤ enough_nodes p.game
+
+-- and no more are ever taken: in work, worked or stuck
+abbrev pub TakenAtMost : Type 0
+TakenAtMost = (p : Task) → IsPeopled p.game → (cs : List Change) (t : Search) → Runs p (first_search p) cs t → busy_count t + length t.worked + length t.stuck ≤ enough_nodes p.game

@@ -17,7 +17,7 @@ mod ready_laws;
 mod tree_laws;
 
 pub use choice_laws::{choices_are_one, incumbent_is_best, open_where_prefix_waits};
-pub use count_laws::worked_at_most;
+pub use count_laws::{taken_at_most, worked_at_most};
 pub use end_laws::{end_means, runs_are_sound};
 pub use event::{Event, Outcome, Ready};
 pub use examples::worked_searches;
