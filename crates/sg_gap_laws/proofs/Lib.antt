@@ -3,3 +3,4 @@ pub mod Compared
 pub mod Reached
 pub mod Full
 pub mod Barred
+pub mod Open
