@@ -1,12 +1,87 @@
 //! The words of a call, and the commands that they give.
+use sg_options::{Budget, Choice, Order, Walk};
 use sg_words::{
-    Command, Kind, Setting, Usage, command_of, number, read_words, refused_words, words_give,
-    worked_makes, worked_rosters, worked_words,
+    Command, Kind, Setting, Usage, command_of, number, read_words, refused_words,
+    words_are_in_range, words_give, worked_makes, worked_rosters, worked_solves, worked_words,
 };
 use std::alloc::{AllocError, Global};
 
+/// The budget and the order where no option is given.
+const USUAL_BUDGET: Budget = Budget {
+    nodes: 100_000,
+    pivots: 100_000,
+    looks: 100_000_000,
+};
+
+const USUAL_ORDER: Order = Order {
+    walk: Walk::File,
+    lanes: 1,
+    seed: 0,
+    family: Choice::Auto,
+};
+
+/// The words after `solve g`, and the nodes, moves, looks, walk, lanes and seed that they ask for, by hand.
+static SEARCHES: [(&[&str], Option<(u64, u64, u64, Walk, u8, u64)>); 22] = [
+    (&[], Some((100_000, 100_000, 100_000_000, Walk::File, 1, 0))),
+    (
+        &["--nodes", "5"],
+        Some((5, 100_000, 100_000_000, Walk::File, 1, 0)),
+    ),
+    (
+        &["--nodes=1000000"],
+        Some((1_000_000, 100_000, 100_000_000, Walk::File, 1, 0)),
+    ),
+    (&["--nodes=1000001"], None),
+    (&["--nodes=0"], None),
+    (
+        &["--pivots=1"],
+        Some((100_000, 1, 100_000_000, Walk::File, 1, 0)),
+    ),
+    (
+        &["--pivots", "1000000000"],
+        Some((100_000, 1_000_000_000, 100_000_000, Walk::File, 1, 0)),
+    ),
+    (&["--pivots=1000000001"], None),
+    (
+        &["--looks=1000000000000000000"],
+        Some((
+            100_000,
+            100_000,
+            1_000_000_000_000_000_000,
+            Walk::File,
+            1,
+            0,
+        )),
+    ),
+    (&["--looks=1000000000000000001"], None),
+    (&["--looks=01"], None),
+    (
+        &["--order=best", "--lanes=8"],
+        Some((100_000, 100_000, 100_000_000, Walk::Best, 8, 0)),
+    ),
+    (
+        &["--seed", "18446744073709551615", "--order", "seeded"],
+        Some((100_000, 100_000, 100_000_000, Walk::Seeded, 1, u64::MAX)),
+    ),
+    (
+        &["--lanes=2", "--looks=3", "--pivots=4", "--nodes=6"],
+        Some((6, 4, 3, Walk::File, 2, 0)),
+    ),
+    (&["--lanes=9"], None),
+    (&["--lanes=0"], None),
+    (&["--lanes=256"], None),
+    (&["--order=bes"], None),
+    (&["--order", "--lanes=2"], None),
+    (&["--family=dense"], None),
+    (
+        &["--family=auto"],
+        Some((100_000, 100_000, 100_000_000, Walk::File, 1, 0)),
+    ),
+    (&["--lanes=1", "--lanes=1"], None),
+];
+
 /// Words and the game that they ask to solve, if any, by hand.
-static WORDS: [(&[&str], Option<&str>); 69] = [
+static WORDS: [(&[&str], Option<&str>); 67] = [
     // One name, and one positional word after it.
     (&[], None),
     (&["solve"], None),
@@ -45,8 +120,6 @@ static WORDS: [(&[&str], Option<&str>); 69] = [
     (&["-"], None),
     (&["--="], None),
     (&["--nodes", "5", "solve", "g"], None),
-    (&["solve", "--nodes", "5", "g"], None),
-    (&["solve", "--nodes=5", "g"], None),
     (&["solve", "--seed", "3", "g", "--seed=3"], None),
     (&["solve", "-x", "g"], None),
     (&["solve", "g", "-x"], None),
@@ -167,7 +240,11 @@ fn give(
 
 fn solve<'a>(game: Option<&'a str>) -> Option<Command<'a>> {
     match game {
-        Some(game) => Some(Command::Solve { game }),
+        Some(game) => Some(Command::Solve {
+            game,
+            budget: USUAL_BUDGET,
+            order: USUAL_ORDER,
+        }),
         None => None,
     }
 }
@@ -198,6 +275,65 @@ fn first_wrong_game(
         }
     }
     Ok(None)
+}
+
+/// The search of the game `g` by these numbers, with the family that is chosen where none is given.
+fn search(wanted: Option<(u64, u64, u64, Walk, u8, u64)>) -> Option<Command<'static>> {
+    match wanted {
+        Some((nodes, pivots, looks, walk, lanes, seed)) => Some(Command::Solve {
+            game: "g",
+            budget: Budget {
+                nodes,
+                pivots,
+                looks,
+            },
+            order: Order {
+                walk,
+                lanes,
+                seed,
+                family: Choice::Auto,
+            },
+        }),
+        None => None,
+    }
+}
+
+/// The first words, counted from 0, that ask for another search.
+fn first_wrong_search(
+    alloc: Global,
+    rows: &[(&[&str], Option<(u64, u64, u64, Walk, u8, u64)>)],
+) -> Result<Option<usize>, AllocError> {
+    for k in 0..rows.len() {
+        let (texts, want) = rows[k];
+        if !give(alloc, &["solve", "g"], texts, search(want))? {
+            return Ok(Some(k));
+        }
+    }
+    Ok(None)
+}
+
+#[test]
+fn searches_have_options(rt: HostRuntime) -> Result<(), AllocError> {
+    words_are_in_range();
+    worked_solves();
+    assert_eq!(rt; first_wrong_search(rt.alloc(), &SEARCHES)?, None);
+    let listed = Command::Solve {
+        game: "g",
+        budget: USUAL_BUDGET,
+        order: Order {
+            family: Choice::Listed,
+            ..USUAL_ORDER
+        },
+    };
+    assert!(rt;
+        give(
+            rt.alloc(),
+            &["solve", "g"],
+            &["--family", "listed"],
+            Some(listed)
+        )?
+    );
+    Ok(())
 }
 
 /// The first words, counted from 0, that name another pair behind `check` or behind `show`.
