@@ -1,3 +1,5 @@
 pub mod Nodes
 pub mod Fitting
 pub mod Facts
+pub mod Tickets
+pub mod Values
