@@ -1,4 +1,6 @@
 pub mod Totals
+pub mod Rounded
+pub mod Capping
 pub mod Bounded
 pub mod Sifted
 pub mod Lanewise

@@ -4,3 +4,4 @@ pub mod Frontiers
 pub mod Choices
 pub mod Rises
 pub mod Ripenings
+pub mod ProvedCaps

@@ -148,7 +148,7 @@ fn added(left: i128, right: i128) -> Option<i128>
 }
 
 /// The product, which fits.
-fn times(left: i128, right: i128) -> i128
+pub(crate) fn times(left: i128, right: i128) -> i128
     requires { Fits (left *ℤ right) }
     ensures { result ≡ left *ℤ right }
 {

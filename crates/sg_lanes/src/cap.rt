@@ -47,46 +47,79 @@ pub(crate) fn plain_cap(alloc: Global, game: &Game, l: u8) -> Cap
     }
 }
 
-/// The facts of a type's cap nodes, copied.
-pub(crate) fn facts_of(alloc: Global, game: &Game, worked: &[Worked], l: u8) -> Result<Items<Fact>, AllocError>
+/// The facts of a type's cap nodes, copied, where all are worked.
+fn all_facts(alloc: Global, game: &Game, worked: &[Worked], l: u8) -> Result<Option<Items<Fact>>, AllocError>
     requires { IsTypeOf game.now l }
+    ensures { IfOk result (λ facts. AreAllFacts game.now (only_worked worked.now) l facts) }
 {
     let count = game.actions(l);
     let mut facts = Items::new(alloc);
     for i in 0..count {
         match fact_at(worked, l, i + 1) {
             Some(fact) => facts.push(fact.copy(alloc)?)?,
-            None => {}
+            None => return Ok(None),
         }
     }
-    Ok(facts)
+    Ok(Some(facts))
+}
+
+/// A quotient rounded up: the least whole number whose product with the divisor reaches the number.
+fn rounded_up(num: i128, den: i128) -> i128
+    requires num { pos 1 ≤ℤ num }
+    requires den { pos 1 ≤ℤ den }
+    ensures value { result ≡ int_div (num +ℤ (den -ℤ pos 1)) den }
+    ensures some { pos 1 ≤ℤ result }
+    ensures least { (q : ℤ) → num ≤ℤ (q *ℤ den) → result ≤ℤ q }
+{
+    (num - 1).div_euclid(den) + 1
+}
+
+/// A payoff with the shift, less the shift.
+fn unshifted(pay: i128, shift: i64) -> i64
+    requires some { pos 1 ≤ℤ pay }
+    requires within { pay ≤ℤ (PAYOFF_LIMIT +ℤ shift) }
+    ensures { result ≡ pay -ℤ shift }
+{
+    (pay - i128::from(shift)) as i64
 }
 
 /// The least whole number that the bound of a cap node's fact, `mu / (rho * prior)` less the shift, does not exceed; none
 /// where the region is empty.
-pub(crate) fn least_of(game: &Game, shift: i64, l: u8, fact: &Fact) -> Option<i64>
-    requires { IsTypeOf game.now l }
+fn least_of(game: &Game, shift: i64, l: u8, fact: &Fact) -> Option<i64>
+    requires known { IsTypeOf game.now l }
+    requires shift { shift ≡ shift_of game.now }
+    requires fact { IsCapFact game.now l fact.now }
+    ensures { result ≡ least_cap game.now l fact.now }
 {
     let mu = mu(fact);
     if mu <= 0 {
         return None;
     }
-    let den = rho(fact) * i128::from(game.prior(l));
-    let least = (mu - 1).div_euclid(den) + 1 - i128::from(shift);
-    Some(least as i64)
+    let den = times(rho(fact), i128::from(game.prior(l)));
+    Some(unshifted(rounded_up(mu, den), shift))
 }
 
-/// The greatest of these numbers: 0 where there is none.
+/// The greater of two numbers that may be missing.
+fn greater(left: Option<i64>, right: Option<i64>) -> Option<i64>
+    ensures { result ≡ greater_of left right }
+{
+    match (left, right) {
+        (None, right) => right,
+        (Some(left), None) => Some(left),
+        (Some(left), Some(right)) => Some(if right < left { left } else { right }),
+    }
+}
+
+/// The greatest of the least numbers of facts: 0 where there is none.
 fn greatest_least(game: &Game, shift: i64, l: u8, facts: &[Fact]) -> i64
-    requires { IsTypeOf game.now l }
+    requires known { IsTypeOf game.now l }
+    requires shift { shift ≡ shift_of game.now }
+    requires facts { All (IsCapFact game.now l) facts.now }
+    ensures { result ≡ greatest (filter_map (least_cap game.now l) facts.now) }
 {
     let mut top = None;
     for fact in facts {
-        top = match (top, least_of(game, shift, l, fact)) {
-            (None, least) => least,
-            (Some(top), None) => Some(top),
-            (Some(top), Some(least)) => Some(if least > top { least } else { top }),
-        };
+        top = greater(top, least_of(game, shift, l, fact));
     }
     match top {
         Some(top) => top,
@@ -94,18 +127,22 @@ fn greatest_least(game: &Game, shift: i64, l: u8, facts: &[Fact]) -> i64
     }
 }
 
-/// The cap of a type, by what is worked: plain until all its nodes are, and then the least whole number that none of their
-/// facts exceeds.
-pub(crate) fn cap_of(alloc: Global, game: &Game, shift: i64, worked: &[Worked], l: u8) -> Result<Cap, AllocError>
-    requires { IsTypeOf game.now l }
+/// The cap of a type, once all its nodes are worked: the least whole number that none of their facts exceeds.
+pub(crate) fn proved_cap(alloc: Global, game: &Game, shift: i64, worked: &[Worked], l: u8) -> Result<Option<Cap>, AllocError>
+    requires known { IsTypeOf game.now l }
+    requires later { 2 ≤ l }
+    requires shift { shift ≡ shift_of game.now }
+    requires peopled { IsPeopled game.now }
+    requires results { All (IsResult game.now) worked.now }
+    requires first { (k : List Ticket) × IsCommitment game.now k }
+    ensures { IfOk result (λ cap. IsProvedCap game.now (only_worked worked.now) l cap) }
 {
-    if !are_worked(game, worked, l) {
-        return Ok(plain_cap(alloc, game, l));
+    let _most = greatest(game, l);
+    match all_facts(alloc, game, worked, l)? {
+        None => Ok(None),
+        Some(proof) => {
+            let v = greatest_least(game, shift, l, proof.as_slice());
+            Ok(Some(Cap { l, v, proof }))
+        }
     }
-    let proof = facts_of(alloc, game, worked, l)?;
-    Ok(Cap {
-        l,
-        v: greatest_least(game, shift, l, proof.as_slice()),
-        proof,
-    })
 }

@@ -15,6 +15,7 @@ mod ripe;
 mod start;
 mod stick;
 mod take;
+mod tops;
 
 pub use lanes::Lanes;
 pub use ripe::Ripe;

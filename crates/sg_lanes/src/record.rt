@@ -1,33 +1,26 @@
 //! A node that was worked.
 
-ghost use Rattle.std.specs.Prelude.{◌≡◌, ◌≤◌, ◌+◌, length, All, Contains, OnOk, OnErr, true, Some};
-ghost use Rattle.sg_model.specs.Payoffs.{shift_of};
-ghost use Rattle.sg_num.specs.Exact.{Fits};
-ghost use Rattle.sg_bounds.specs.Sizes.{bound_sums};
-ghost use Rattle.sg_tree.specs.declared.worked.Worked.{Worked};
-ghost use Rattle.std.specs.Prelude.{◌≢◌, IfOk, Option, None};
+ghost use Rattle.std.specs.Prelude.{◌≡◌, ◌≢◌, ◌≤◌, Contains, IfOk, None, OnErr, OnOk, Option, Some, length, true};
 ghost use Rattle.sg_model.specs.Sums.{nth};
-ghost use Rattle.sg_search.specs.declared.held.Held.{Held};
 ghost use Rattle.sg_commit.specs.Committed.{Committed};
-ghost use Rattle.sg_lanes.specs.Ripenings.{IsEntry};
-ghost use Rattle.sg_lanes.specs.Rises.{IsRise};
 ghost use Rattle.sg_tree.specs.declared.fix.Fix.{Fix};
+ghost use Rattle.sg_search.specs.declared.held.Held.{Held};
 ghost use Rattle.sg_search.specs.Changes.{Change, Goes, Holds};
 ghost use Rattle.sg_search.specs.Results.{IsResult};
+ghost use Rattle.sg_lanes.specs.Ripenings.{IsEntry};
+ghost use Rattle.sg_lanes.specs.Rises.{IsRise};
 
 use crate::best::{Best, put_best, value_with};
 use crate::bound::{bound_of, is_above};
-use crate::cap::{cap_of, fact_at};
 use crate::lanes::Lanes;
-use crate::nodes::take_out;
+use crate::nodes::{is_same, take_out};
 use crate::ripe::{Ripe, put_in, sift};
 use crate::take::let_go;
+use crate::tops::renew;
 use sg_commit::Commitment;
 use sg_frac::Frac;
-use sg_game::Game;
 use sg_search::Held;
-use sg_tree::{Cap, Fact, Fix, Worked};
-use sqlite_items::Items;
+use sg_tree::{Fact, Fix, Worked};
 use std::alloc::{AllocError, Global};
 
 /// The node that a lane holds, copied.
@@ -43,37 +36,16 @@ fn node_of(alloc: Global, lanes: &[Option<Held>], lane: u8) -> Result<Fix, Alloc
     }
 }
 
-/// The fact of a prefix of length 1, where it is worked.
-fn top_fact<'b>(worked: &'b [Worked], act: u16) -> Option<&'b Fact> {
-    fact_at(worked, 1, act)
-}
-
-/// The prefixes of length 1 that may be split under new caps, in order.
-fn ripe_tops(alloc: Global, game: &Game, shift: i64, caps: &[Cap], worked: &[Worked], value: Frac) -> Result<Vec<Ripe>, AllocError>
-    requires shift { shift ≡ shift_of game.now }
-    requires caps { length caps.now + 1 ≡ length game.now.types }
-    requires results { All (IsResult game.now) worked.now }
-    requires fits { (w : Worked) → Contains worked.now w → w.fix.first ≡ 1 → All Fits (bound_sums game.now caps.now (length w.fix.acts) w.fact) }
+/// Whether another cap node of a node's type is among these.
+fn has_other(undone: &[Fix], node: &Fix) -> bool
+    ensures { result ≡ true → (other : Fix) × Contains undone.now other × (other.first ≡ node.now.first) × (other ≢ node.now) }
 {
-    let mut ripe = Vec::new(alloc);
-    let count = game.actions(1);
-    for i in 0..count {
-        match top_fact(worked, i + 1) {
-            None => {}
-            Some(fact) => match bound_of(game, shift, caps, 1, fact) {
-                None => {}
-                Some(bound) => {
-                    if is_above(bound, value) {
-                        let mut acts = Items::new(alloc);
-                        acts.push(i + 1)?;
-                        let node = Fix { first: 1, acts };
-                        ripe.push(Ripe { node, bound })?;
-                    }
-                }
-            },
+    for other in undone {
+        if other.first == node.first && !is_same(other, node) {
+            return true;
         }
     }
-    Ok(ripe)
+    false
 }
 
 impl<'a> Lanes<'a> {
@@ -134,10 +106,21 @@ impl<'a> Lanes<'a> {
     {
         let value = value_with(&best, self.value);
         let l = node.first;
+        let more = has_other(self.undone.as_slice(), &node);
         let out = node.copy(alloc)?;
         self.worked.reserve(1)?;
         self.worked.push_reserved(Worked { fix: node, fact, point });
-        match self.with_cap(alloc, l, value) {
+        match renew(
+            alloc,
+            self.game,
+            self.shift,
+            &mut self.caps,
+            &mut self.ripe,
+            self.worked.as_slice(),
+            l,
+            more,
+            value,
+        ) {
             Ok(()) => {}
             Err(error) => {
                 let _last = self.worked.pop();
@@ -148,26 +131,6 @@ impl<'a> Lanes<'a> {
         let _held = let_go(&mut self.lanes, lane);
         put_best(&mut self.best, &mut self.value, best);
         Ok(())
-    }
-
-    /// The cap of a type and the prefixes that may be split, formed anew by what is worked.
-    fn with_cap(&mut self, alloc: Global, l: u8, value: Frac) -> Result<(), AllocError> {
-        let cap = cap_of(alloc, self.game, self.shift, self.worked.as_slice(), l)?;
-        if cap.proof.is_empty() {
-            sift(&mut self.ripe, value);
-            return Ok(());
-        }
-        let old = std::mem::replace(&mut self.caps[l as usize - 2], cap);
-        match ripe_tops(alloc, self.game, self.shift, self.caps.as_slice(), self.worked.as_slice(), value) {
-            Ok(ripe) => {
-                self.ripe = ripe;
-                Ok(())
-            }
-            Err(error) => {
-                self.caps[l as usize - 2] = old;
-                Err(error)
-            }
-        }
     }
 
     /// A lane's node was worked, with this result. After want of memory nothing is changed.
