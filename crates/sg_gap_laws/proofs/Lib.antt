@@ -4,3 +4,4 @@ pub mod Reached
 pub mod Full
 pub mod Barred
 pub mod Open
+pub mod Facts
