@@ -1,6 +1,7 @@
 pub mod Totals
 pub mod Rounded
 pub mod Capping
+pub mod Toplevel
 pub mod Bounded
 pub mod Sifted
 pub mod Lanewise
