@@ -1,13 +1,17 @@
 -- The nodes of a search are nodes of its game, and its worked nodes have results.
-use Rattle.std.proofs.Common.{◌≡◌, ◌≢◌, ◌⊎◌, ℕ, zero, suc, ◌+◌, ◌-◌, ◌≤◌, ◌<◌, Bool, true, false, List, [], ◌∷◌, ◌++◌, length, sym, ◌∙◌, ap, subst, refl, arith, inl, inr, ⊎_elim, Contains}
+use Rattle.std.proofs.Common.{◌≡◌, ◌≢◌, ◌⊎◌, ℕ, zero, suc, ◌+◌, ◌-◌, ◌≤◌, ◌<◌, Bool, true, false, List, [], ◌∷◌, ◌++◌, length, sym, ◌∙◌, ap, subst, refl, arith, inl, inr, ⊎_elim, Contains, cond, count_by, slice_index_or}
 use Rattle.std.specs.List.{All, zip}
 use Rattle.std.proofs.lemmas.List.{length_push}
+use Rattle.std.proofs.lemmas.List.Sums.{get_or-le-sum_by}
 use Rattle.std.proofs.lemmas.List.Elements.{All-cons, All-nil, All-weaker}
 use Rattle.sg_model.specs.Sums.{numbers_from}
 use Rattle.sg_model.specs.Games.{Game, action_count}
 use Rattle.sg_tree.specs.declared.fix.Fix.{Fix}
+use Rattle.sg_tree.specs.declared.worked.Worked.{Worked}
 use Rattle.sg_bounds.specs.Regions.{IsFix, IsNode, alone, prefix}
-use Rattle.sg_search.specs.Searches.{Task, Search, ArePlaced, IsCapNode, IsKnown, IsPartOf, worked_count}
+use Rattle.sg_search.specs.Searches.{Task, Search, ArePlaced, IsCapNode, IsKnown, IsPartOf, same, stuck_count, worked_count}
+use Rattle.sg_search.specs.declared.held.Stuck.{Stuck}
+use Rattle.sg_search.proofs.Placed.{one_if, same-self}
 use Rattle.sg_search.proofs.Grown.{AreSplits, last-of, worked-parent}
 
 -- ---- actions of types in a row
@@ -70,3 +74,24 @@ known-node p s placed ok x (inr lone) =
       is_fix = record { some = (λ e. cc); from_one = omega (arith, low); in_range = omega (arith, high); acts = actions-all g lone.l (lone.act ∷ []) ((lone.from_one, lone.in_range), tt) };
       form = inr (low, refl);
     })
+
+-- ---- worked and stuck nodes
+
+-- what is counted where it stands in a list
+counted-at : {X : Type 0} (q : X → Bool) (xs : List X) (i : ℕ) (d : X) → i < length xs → q (slice_index_or xs i d) ≡ true → 1 ≤ count_by q xs
+counted-at q xs i d lt e =
+    let le = get_or-le-sum_by (λ x. cond (q x) 1 0) xs i d lt in
+    let one : one_if (q (slice_index_or xs i d)) ≡ 1 = ap one_if e in
+    omega (arith, le, one)
+
+pub worked-nodes : (p : Task) (s : Search) → ArePlaced p.game s → AreSplits p s → All (λ (w : Worked). IsNode p.game w.fix) s.worked
+worked-nodes p s placed ok i d lt =
+    let w : Worked = slice_index_or s.worked i d in
+    let some = counted-at (λ (v : Worked). same w.fix v.fix) s.worked i d lt (same-self w.fix) in
+    known-node p s placed ok w.fix (placed.known w.fix (omega (arith, some)))
+
+pub stuck-nodes : (p : Task) (s : Search) → ArePlaced p.game s → AreSplits p s → All (λ (x : Stuck). IsNode p.game x.node) s.stuck
+stuck-nodes p s placed ok i d lt =
+    let x : Stuck = slice_index_or s.stuck i d in
+    let some = counted-at (λ (y : Stuck). same x.node y.node) s.stuck i d lt (same-self x.node) in
+    known-node p s placed ok x.node (placed.known x.node (omega (arith, some)))
