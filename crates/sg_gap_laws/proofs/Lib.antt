@@ -5,3 +5,4 @@ pub mod Full
 pub mod Barred
 pub mod Open
 pub mod Facts
+pub mod Tallied
