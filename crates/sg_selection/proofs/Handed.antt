@@ -15,7 +15,7 @@ use Rattle.sg_search.specs.Searches.{Task, Search}
 use Rattle.sg_search.specs.Events.{Allows, AreChoices, IsChoice, IsEnabled, IsEnd, IsRank, MayChoose, Tells, lane_of}
 use Rattle.sg_search.proofs.Chosen.{choice-at}
 use Rattle.sg_search.proofs.Told.{at-in, choices_are_there, enabled_means, told-begin, told_once}
-use Rattle.sg_selection.specs.Selections.{AreReadyLanes, HasEvent, IsBestChoice, IsChoiceBy, IsChosenBy, IsDrawnLane, IsLaneBy, IsNextLane, lanes_on, word_drawn, words_behind}
+use Rattle.sg_selection.specs.Selections.{AreReadyLanes, HasEvent, IsBestChoice, IsChoiceBy, IsChosenBy, IsDrawnLane, IsLaneBy, IsNextLane, SelectionState, Selects, after_event, lanes_on, word_drawn, words_after, words_behind}
 use Rattle.sg_selection.specs.Handing.{IsHanded, IsRankOf}
 use Rattle.sg_selection.specs.Ranking.{IsLeader, IsNumberBy}
 use Rattle.sg_selection.specs.Readiness.{IsNextReady, IsPlaceBy, IsReadyOfNumber, NoneReady, is_ready, is_ready_at}
@@ -50,6 +50,23 @@ ready-allows Ready.Nothing lane some h = absurd (true≢false (sym h))
 ready-allows (Ready.Begin count) lane some h = let k = some count refl in (Begin lane 0, refl, omega (arith, k))
 ready-allows Ready.Turn lane some h = (Turn lane, refl, tt)
 ready-allows Ready.Finish lane some h = (Finish lane, refl, tt)
+
+-- a place that was named is there, and its lane is told this
+pub place-in : (ready : List Ready) (walk : Walk) (before : ℕ) (words left : ChaCha) (place : ℕ) → IsPlaceBy walk ready before words left (Some place) → place < length ready
+place-in ready File before words left place n = n.0.0
+place-in ready Best before words left place n = n.0.0
+place-in ready Seeded before words left place n = n.0.0
+
+pub place-told : (ready : List Ready) (walk : Walk) (before : ℕ) (words left : ChaCha) (place : ℕ) (r : Ready) → IsPlaceBy walk ready before words left (Some place) → slice_index_or ready place Ready.Nothing ≡ r → slice_get ready place ≡ Some r
+place-told ready walk before words left place r n e = at-place ready place Ready.Nothing (place-in ready walk before words left place n) ∙ ap (λ (x : Ready). Some x) e
+
+-- a selection is what it keeps
+keeps : (v w : Walk) (m n : ℕ) (x y : ChaCha) → v ≡ w → m ≡ n → x ≡ y
+    → (let a : SelectionState = record { walk = v; lane_before = m; words = x } in let b : SelectionState = record { walk = w; lane_before = n; words = y } in a ≡ b)
+keeps v w m n x y e f k = cc
+
+state-is : (c d : SelectionState) → d.walk ≡ c.walk → d.lane_before ≡ c.lane_before → d.words ≡ c.words → d ≡ c
+state-is c d e f k = keeps d.walk c.walk d.lane_before c.lane_before d.words c.words e f k
 
 module _ (is_rank : ℕ → Fraction → Type 0) (ready : List Ready) (p : Task) (s : Search) (h : IsHanded is_rank ready p s) where
   -- what the lane of a place is told
@@ -194,3 +211,54 @@ module _ (is_rank : ℕ → Fraction → Type 0) (ready : List Ready) (p : Task)
   begin-chosen walk lane count words left n t by =
       let q = choices_are_there p s in
       (q.0, q.1, choice-named walk count words left q.0 n q.1 (count-is lane count q.0 t q.1) by)
+
+  -- ---- events
+
+  left-is : (walk : Walk) (before : ℕ) (words left : ChaCha) (place : ℕ) → IsPlaceBy walk ready before words left (Some place) → left ≡ words_for walk words
+  left-is File before words left place n = n.1
+  left-is Best before words left place n = n.1
+  left-is Seeded before words left place n = n.1
+
+  one-word : (walk : Walk) (lane : ℕ) (words : ChaCha) → (words_for walk words ≡ words_after walk (Turn lane) words) × (words_for walk words ≡ words_after walk (Finish lane) words)
+  one-word File lane words = (refl, refl)
+  one-word Best lane words = (refl, refl)
+  one-word Seeded lane words = (refl, refl)
+
+  two-words : (walk : Walk) (lane count : ℕ) (words end : ChaCha) (n : ℕ) → IsNumberBy walk is_rank count (words_for walk words) end n → end ≡ words_after walk (Begin lane n) words
+  two-words File lane count words end n by = by.1
+  two-words Best lane count words end n by = by.1
+  two-words Seeded lane count words end n by = by.1
+
+  pub turn-selects : (c d : SelectionState) (left : ChaCha) (place : ℕ) → IsPlaceBy c.walk ready c.lane_before c.words left (Some place) → slice_index_or ready place Ready.Nothing ≡ Ready.Turn
+      → d.walk ≡ c.walk → d.lane_before ≡ place + 1 → d.words ≡ left → Selects p s c (Turn (place + 1)) d
+  turn-selects c d left place named is walk lane words =
+      let t = told-at place Ready.Turn (place-in ready c.walk c.lane_before c.words left place named) is in
+      record {
+        enabled = (t.each (Turn (place + 1)) refl).1 tt;
+        lane = lane-named c.walk c.lane_before c.words left place named;
+        choice = tt;
+        after = state-is (after_event c (Turn (place + 1))) d walk lane (words ∙ left-is c.walk c.lane_before c.words left place named ∙ (one-word c.walk (place + 1) c.words).0);
+      }
+
+  pub finish-selects : (c d : SelectionState) (left : ChaCha) (place : ℕ) → IsPlaceBy c.walk ready c.lane_before c.words left (Some place) → slice_index_or ready place Ready.Nothing ≡ Ready.Finish
+      → d.walk ≡ c.walk → d.lane_before ≡ place + 1 → d.words ≡ left → Selects p s c (Finish (place + 1)) d
+  finish-selects c d left place named is walk lane words =
+      let t = told-at place Ready.Finish (place-in ready c.walk c.lane_before c.words left place named) is in
+      record {
+        enabled = (t.each (Finish (place + 1)) refl).1 tt;
+        lane = lane-named c.walk c.lane_before c.words left place named;
+        choice = tt;
+        after = state-is (after_event c (Finish (place + 1))) d walk lane (words ∙ left-is c.walk c.lane_before c.words left place named ∙ (one-word c.walk (place + 1) c.words).1);
+      }
+
+  pub begin-selects : (c d : SelectionState) (left : ChaCha) (place count n : ℕ) → IsPlaceBy c.walk ready c.lane_before c.words left (Some place) → slice_index_or ready place Ready.Nothing ≡ Ready.Begin count
+      → IsNumberBy c.walk is_rank count left d.words n → d.walk ≡ c.walk → d.lane_before ≡ place + 1 → Selects p s c (Begin (place + 1) n) d
+  begin-selects c d left place count n named is number walk lane =
+      let t = told-at place (Ready.Begin count) (place-in ready c.walk c.lane_before c.words left place named) is in
+      let by = subst (λ (x : ChaCha). IsNumberBy c.walk is_rank count x d.words n) (left-is c.walk c.lane_before c.words left place named) number in
+      record {
+        enabled = begin-enabled c.walk (place + 1) count left d.words n t number;
+        lane = lane-named c.walk c.lane_before c.words left place named;
+        choice = begin-chosen c.walk (place + 1) count c.words d.words n t by;
+        after = state-is (after_event c (Begin (place + 1) n)) d walk lane (two-words c.walk (place + 1) count c.words d.words n by);
+      }
