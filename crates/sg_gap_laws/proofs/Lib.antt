@@ -6,3 +6,4 @@ pub mod Barred
 pub mod Open
 pub mod Facts
 pub mod Tallied
+pub mod Short
