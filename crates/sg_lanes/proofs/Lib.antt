@@ -24,3 +24,4 @@ pub mod Prefixed
 pub mod Glued
 pub mod Joined
 pub mod Started
+pub mod Indexed

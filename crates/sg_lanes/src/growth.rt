@@ -2,7 +2,7 @@
 //!
 //! Prefixes are found by their lists, so that forming the tree takes about the time of its nodes.
 
-ghost use Rattle.std.specs.Prelude.{◌≡◌, ◌+◌, ◌++◌, ◌∷◌, [], IfOk, length, map, List, Option};
+ghost use Rattle.std.specs.Prelude.{◌≡◌, ◌+◌, ◌++◌, ◌∷◌, [], IfOk, OnOk, length, map, List, Option};
 ghost use Rattle.sg_model.specs.Sums.{numbers};
 ghost use Rattle.sg_model.specs.Games.{action_count};
 ghost use Rattle.sg_tree.specs.declared.worked.Worked.{Worked};
@@ -21,6 +21,16 @@ use sqlite_items::Items;
 use std::alloc::{AllocError, Global};
 use std::collections::{BTreeMap, BTreeSet};
 
+/// Puts the fact of a worked prefix at its list, in place of one that is there.
+fn put_fact<'w>(facts: &mut BTreeMap<&'w [u16], &'w Fact>, w: &'w Worked) -> Result<(), AllocError>
+    ensures { (rest : List Worked) → HasFacts rest facts.old → OnOk result (HasFacts (w.now ∷ rest) facts.new) }
+{
+    if w.fix.first == 1 {
+        let _other = facts.insert(w.fix.acts.as_slice(), &w.fact)?;
+    }
+    Ok(())
+}
+
 /// The facts of the worked prefixes, by their lists.
 fn index_facts<'w>(alloc: Global, worked: &'w [Worked]) -> Result<BTreeMap<&'w [u16], &'w Fact>, AllocError>
     ensures { IfOk result (λ facts. HasFacts worked.now facts) }
@@ -29,10 +39,7 @@ fn index_facts<'w>(alloc: Global, worked: &'w [Worked]) -> Result<BTreeMap<&'w [
     let count = worked.len();
     for i in 0..count {
         // From the last to the first, which counts where two have one list.
-        let w = &worked[count - 1 - i];
-        if w.fix.first == 1 {
-            facts.insert(w.fix.acts.as_slice(), &w.fact)?;
-        }
+        put_fact(&mut facts, &worked[count - 1 - i])?;
     }
     Ok(facts)
 }
@@ -110,11 +117,15 @@ fn node(
     requires { length acts.now + left ≡ length game.now.types }
     ensures { (s : Search) → HasFacts s.worked facts.now → HasSplits s.splits splits.now → IfOk result (λ tree. node_of tree ≡ tree_at game.now s left acts.now) }
 {
+    let _types = game.types();
     let fact = match copy_fact(alloc, facts, acts) {
         Ok(fact) => fact,
         Err(error) => return Err(error),
     };
-    if left == 0 || !splits.contains(acts) {
+    if left == 0 {
+        return Ok(leaf(fact));
+    }
+    if !splits.contains(acts) {
         return Ok(leaf(fact));
     }
     match parts(alloc, game, facts, splits, acts, left - 1) {
