@@ -57,11 +57,11 @@ module _ (g : Game) (ws : List ℤ) (mu : ℤ) where
       let r : ℕ = length p + 1 in
       let each : (c : ℕ) → find (is_play_above g ws mu) (extensions g n (p ++ c ∷ [])) ≡ find above (map (λ q. p ++ q) (map (λ q. c ∷ q) (joint_plays g (r + 1) n))) =
       λ c.
-          let long : length (p ++ c ∷ []) ≡ r = length-append p (c ∷ []) in
-          find-extensions n (p ++ c ∷ []) (omega (arith, long)) ∙ ap (λ (k : ℕ). find above (map (λ q. (p ++ c ∷ []) ++ q) (joint_plays g (k + 1) n))) long ∙ ap (find above) (sym (map-begun p c (joint_plays g (r + 1) n))) in
+      let long : length (p ++ c ∷ []) ≡ r = length-append p (c ∷ []) in
+      find-extensions n (p ++ c ∷ []) (omega (arith, long)) ∙ ap (λ (k : ℕ). find above (map (λ q. (p ++ c ∷ []) ++ q) (joint_plays g (k + 1) n))) long ∙ ap (find above) (sym (map-begun p c (joint_plays g (r + 1) n))) in
       rw short (
-        find-flat (is_play_above g ws mu) above (λ c. extensions g n (p ++ c ∷ [])) (λ c. map (λ q. p ++ q) (map (λ q. c ∷ q) (joint_plays g (r + 1) n))) each (choices_of g r)
-        ∙ ap (find above) (sym (map-flat (λ q. p ++ q) (λ c. map (λ q. c ∷ q) (joint_plays g (r + 1) n)) (choices_of g r))))
+      find-flat (is_play_above g ws mu) above (λ c. extensions g n (p ++ c ∷ [])) (λ c. map (λ q. p ++ q) (map (λ q. c ∷ q) (joint_plays g (r + 1) n))) each (choices_of g r)
+      ∙ ap (find above) (sym (map-flat (λ q. p ++ q) (λ c. map (λ q. c ∷ q) (joint_plays g (r + 1) n)) (choices_of g r))))
 
   pub first-is : is_matrix g ≡ false → find (is_play_above g ws mu) (partials g) ≡ first_play g ws mu
   first-is security =

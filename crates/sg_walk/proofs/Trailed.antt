@@ -5,7 +5,7 @@ use Rattle.std.proofs.Math.Seq.{take-append_seam}
 use Rattle.sg_model.specs.Games.{Game}
 use Rattle.sg_model.specs.Plays.{covers}
 use Rattle.sg_walk.specs.declared.trail.Trail.{Trail}
-use Rattle.sg_walk.specs.Marks.{AddsMarks, IsEntered, IsMarkable, IsMarked, TakesMarks, has_mark, is_listed, mark_of, targets_by}
+use Rattle.sg_walk.specs.Marks.{AddsMarks, IsEntered, IsMarkable, IsMarked, TakesMarks, has_mark, is_among, mark_of, targets_by}
 use Rattle.sg_walk.specs.Sums.{IsWeighted}
 use Rattle.sg_walk.specs.Weights.{covered_sum, sum_where}
 use Rattle.sg_walk.proofs.Going.{get_or-last}
@@ -19,9 +19,9 @@ still-marked g old new c marked entered =
     let long : length new.play ≡ length old.play + 1 = ap length entered.play ∙ length-append old.play (c ∷ []) in
     record {
       covered = λ t there.
-          has-added (is_listed ts) (length old.play + 1) old.marks new.marks (omega arith) entered.marks t there ∙ ap (λ (b : Bool). b || is_listed ts t) (marked.covered t there)
+          has-added (is_among ts) (length old.play + 1) old.marks new.marks (omega arith) entered.marks t there ∙ ap (λ (b : Bool). b || is_among ts t) (marked.covered t there)
           ∙ sym (covers-more g old.play c t) ∙ ap (λ (p : List ℕ). covers g p t) (sym entered.play);
-      few = λ t there. few-added (is_listed ts) (length old.play + 1) (length new.play) old.marks new.marks (omega (arith, long)) entered.marks t there (omega (arith, long, marked.few t there));
+      few = λ t there. few-added (is_among ts) (length old.play + 1) (length new.play) old.marks new.marks (omega (arith, long)) entered.marks t there (omega (arith, long, marked.few t there));
     }
 
 -- the sum of the weights that are marked is that of what is covered
@@ -39,12 +39,12 @@ apart p q c x e =
     (same, last)
 
 pub left : (g : Game) (before now : Trail) (choice : ℕ) (play : List ℕ) (c r : ℕ) (marks : List ℕ) → IsEntered g before choice now → now.play ≡ play ++ c ∷ [] → r ≡ length now.play
-    → length marks ≡ 10000 → TakesMarks now.marks (is_listed (targets_by g r c)) r marks → record { play = play; marks = marks } ≡ before
+    → length marks ≡ 10000 → TakesMarks now.marks (is_among (targets_by g r c)) r marks → record { play = play; marks = marks } ≡ before
 left g before now choice play c r marks entered is at same takes =
     let parts = apart before.play play choice c (sym entered.play ∙ is) in
     let r_is : r ≡ length before.play + 1 = omega (arith, at, ap length entered.play, length-append before.play (choice ∷ [])) in
-    let adds = subst (λ (k : ℕ). AddsMarks before.marks (is_listed (targets_by g k choice)) k now.marks) (sym r_is) entered.marks in
-    let off = subst (λ (k : ℕ). TakesMarks now.marks (is_listed (targets_by g r k)) r marks) parts.1 takes in
+    let adds = subst (λ (k : ℕ). AddsMarks before.marks (is_among (targets_by g k choice)) k now.marks) (sym r_is) entered.marks in
+    let off = subst (λ (k : ℕ). TakesMarks now.marks (is_among (targets_by g r k)) r marks) parts.1 takes in
     let less : (t : ℕ) → IsMarkable t → mark_of before.marks t < r = λ t there. omega (arith, r_is, entered.few t there) in
-    let back = restored (is_listed (targets_by g r choice)) r before.marks now.marks marks entered.long same less adds off in
+    let back = restored (is_among (targets_by g r choice)) r before.marks now.marks marks entered.long same less adds off in
     λ i. record { play = parts.0 i; marks = back i }

@@ -5,12 +5,12 @@ use Rattle.std.proofs.lemmas.List.{length-append}
 use Rattle.sg_model.specs.Games.{Game, resource_count, resource_schedules}
 use Rattle.sg_model.specs.Plays.{covers}
 use Rattle.sg_game.specs.Counts.{IsScheduleOf}
-use Rattle.sg_walk.specs.declared.bounding.Top.{Top}
+use Rattle.sg_walk.specs.declared.bounding.BestSchedule.{BestSchedule}
 use Rattle.sg_walk.specs.declared.trail.Trail.{Trail}
 use Rattle.sg_walk.specs.Marks.{IsEntered, IsMarked}
 use Rattle.sg_walk.specs.Partials.{IsPartial, is_reached}
 use Rattle.sg_walk.specs.Stages.{IsLookedAt}
-use Rattle.sg_walk.specs.Tops.{AreTops, StaysCovered, no_top}
+use Rattle.sg_walk.specs.BestSchedules.{AreBestSchedules, StaysCovered, no_schedule}
 use Rattle.sg_walk.specs.Weights.{bound, covered_sum, rest_weight}
 use Rattle.sg_walk.proofs.Going.{partial-more}
 use Rattle.sg_walk.proofs.Looked.{reached-more}
@@ -20,12 +20,12 @@ use Rattle.sg_walk.proofs.Pruned.{stays-more}
 pub bound-test : (g : Game) (ws : List ℤ) (p : List ℕ) (k : ℕ) (mu covered : ℤ) (result : Bool) → k ≡ length p → covered ≡ covered_sum g ws p → result ≡ int_lt mu (covered +ℤ pos (rest_weight g ws (covers g p) k)) → int_lt mu (bound g ws p) ≡ result
 bound-test g ws p k mu covered result at sum e = sym (e ∙ ap (λ (z : ℤ). int_lt mu (z +ℤ pos (rest_weight g ws (covers g p) k))) sum ∙ ap (λ (j : ℕ). int_lt mu (covered_sum g ws p +ℤ pos (rest_weight g ws (covers g p) j))) at)
 
-module _ (g : Game) (ws : List ℤ) (covered : ℕ → Bool) (k : ℕ) (tops : List Top) (h : AreTops g ws covered k tops) where
-  pub tops-known : (i : ℕ) → k ≤ i → i < resource_count g → 1 ≤ (slice_index_or tops i no_top).weight → IsScheduleOf g (slice_index_or tops i no_top).schedule
-  tops-known i low high some = elim (h.each i low high).reached [ inl none ↦ absurd (omega (arith, none, some)) | inr r ↦ r.1 ]
+module _ (g : Game) (ws : List ℤ) (covered : ℕ → Bool) (k : ℕ) (best : List BestSchedule) (h : AreBestSchedules g ws covered k best) where
+  pub best-known : (i : ℕ) → k ≤ i → i < resource_count g → 1 ≤ (slice_index_or best i no_schedule).weight → IsScheduleOf g (slice_index_or best i no_schedule).schedule
+  best-known i low high some = elim (h.each i low high).reached [ inl none ↦ absurd (omega (arith, none, some)) | inr r ↦ r.1 ]
 
-  pub fewer-tops : (j : ℕ) → k ≤ j → AreTops g ws covered j tops
-  fewer-tops j le = record { each = λ i low high. h.each i (omega (arith, le, low)) high }
+  pub fewer-best : (j : ℕ) → k ≤ j → AreBestSchedules g ws covered j best
+  fewer-best j le = record { each = λ i low high. h.each i (omega (arith, le, low)) high }
 
 module _ (g : Game) (old new : Trail) (choice : ℕ) (entered : IsEntered g old choice new) where
   pub stays-entered : StaysCovered (covers g old.play) (covers g new.play)

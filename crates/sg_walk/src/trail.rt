@@ -76,6 +76,10 @@ impl Trail {
     {
         let r = self.play.len() as u16;
         let choice = self.play.pop();
-        uncover(choice_targets(weighted.game, r, choice), r as u8, &mut self.marks);
+        uncover(
+            choice_targets(weighted.game, r, choice),
+            r as u8,
+            &mut self.marks,
+        );
     }
 }

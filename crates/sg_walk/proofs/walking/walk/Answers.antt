@@ -17,6 +17,7 @@ returns-in-Entered c =
 pub returns-in-Past : goal.returns-in-Past
 returns-in-Past c =
     let fits : FitsSigned w128 c.args.mu = c.ranges.mu in
-    let stage = simp to_z-of_z at c.in-Past.ensures in
-    (walk-past c.args.game.now c.requires.security c.args.weights.now c.args.mu c.args.budget (c.in-Ok.field-0, sym c.absolute_sum.ensures ∙ c.in-Ok.is) c.new-trail.result.play c.new-trail.ensures.play c.in-Past.looks c.new-trail.result c.visit.new.trail stage,
-    refl)
+    let stage = simp to_z-of_z at c.in-Past.ensures in (
+      walk-past c.args.game.now c.requires.security c.args.weights.now c.args.mu c.args.budget (c.in-Ok.field-0, sym c.absolute_sum.ensures ∙ c.in-Ok.is) c.new-trail.result.play c.new-trail.ensures.play c.in-Past.looks c.new-trail.result c.visit.new.trail stage,
+      refl,
+    )

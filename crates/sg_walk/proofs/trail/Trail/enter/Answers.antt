@@ -1,7 +1,7 @@
 use Rattle.std.proofs.Common.{◌≡◌, ◌∙◌, ◌+◌, ℕ, List, arith, length, rules, subst, sym, to_z, of_z}
 use Rattle.std.specs.Int.{w128}
 use Rattle.std.proofs.lemmas.Int.{to_z-of_z}
-use Rattle.sg_walk.specs.Marks.{AddsMarks, IsEntered, is_listed, targets_by}
+use Rattle.sg_walk.specs.Marks.{AddsMarks, IsEntered, is_among, targets_by}
 use Rattle.sg_walk.proofs.Trailed.{marked-sum, still-marked}
 use Rattle.sg_walk.proofs.trail.Trail.enter.Goals as goal
 use Rattle.sg_walk.proofs.trail.Trail.enter.Goals.{After-cover}
@@ -12,10 +12,10 @@ entered c =
     let g = c.args.weighted.now.game.now in
     let k : ℕ = length c.args.self.now.play in
     let r : c.len.result + 1 ≡ k + 1 = omega (arith, c.len.ensures.count) in
-    let adds = subst (λ (ts : List ℕ). AddsMarks c.args.self.now.marks (is_listed ts) (c.len.result + 1) c.cover.new.marks) c.choice_targets-targets.ensures.list c.cover.ensures.marked in
+    let adds = subst (λ (ts : List ℕ). AddsMarks c.args.self.now.marks (is_among ts) (c.len.result + 1) c.cover.new.marks) c.choice_targets-targets.ensures.list c.cover.ensures.marked in
     record {
       play = c.push.ensures;
-      marks = subst (λ (n : ℕ). AddsMarks c.args.self.now.marks (is_listed (targets_by g n c.args.choice)) n c.cover.new.marks) r adds;
+      marks = subst (λ (n : ℕ). AddsMarks c.args.self.now.marks (is_among (targets_by g n c.args.choice)) n c.cover.new.marks) r adds;
       few = c.requires.marked.few;
       long = omega arith;
     }

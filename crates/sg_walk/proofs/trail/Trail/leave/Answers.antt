@@ -1,5 +1,5 @@
 use Rattle.std.proofs.Common.{ℕ, List, arith, subst}
-use Rattle.sg_walk.specs.Marks.{TakesMarks, is_listed}
+use Rattle.sg_walk.specs.Marks.{TakesMarks, is_among}
 use Rattle.sg_walk.proofs.Trailed.{left}
 use Rattle.sg_walk.proofs.trail.Trail.leave.Goals as goal
 
@@ -11,5 +11,5 @@ uncover-requires c =
 pub returns : goal.returns
 returns c before choice entered =
     let g = c.args.weighted.now.game.now in
-    let takes = subst (λ (ts : List ℕ). TakesMarks c.args.self.now.marks (is_listed ts) c.len-r.result c.uncover.new.marks) c.choice_targets.ensures.list c.uncover.ensures in
+    let takes = subst (λ (ts : List ℕ). TakesMarks c.args.self.now.marks (is_among ts) c.len-r.result c.uncover.new.marks) c.choice_targets.ensures.list c.uncover.ensures in
     left g before c.args.self.now choice c.pop-choice.new.self c.pop-choice.result c.len-r.result c.uncover.new.marks entered c.pop-choice.ensures c.len-r.ensures.count c.uncover.array_long takes
