@@ -7,3 +7,5 @@ pub mod Open
 pub mod Facts
 pub mod Tallied
 pub mod Short
+pub mod Caused
+pub mod Ample

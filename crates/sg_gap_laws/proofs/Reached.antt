@@ -79,7 +79,7 @@ module _ (m : Method) (p : Task) (t : Search) (h : HasEnded p.game m p t) where
     pub accepted : IsAccepted g r
     accepted = report_is_accepted p is_peopled plain h.first h.changes t h.runs results r of
 
-    value-positive : pos 1 ≤ℤ r.value.den
+    pub value-positive : pos 1 ≤ℤ r.value.den
     value-positive = of.value_reduced.positive
 
     -- its value is the incumbent's
