@@ -6,3 +6,4 @@ pub mod Places
 pub mod Handed
 pub mod Named
 pub mod Made
+pub mod Words

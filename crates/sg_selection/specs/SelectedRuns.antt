@@ -1,6 +1,9 @@
 -- Searches whose events are those that an order names.
-use Rattle.std.specs.Prelude.{◌≡◌, List, [], ◌∷◌, map}
+use Rattle.std.specs.Prelude.{◌≡◌, ℕ, ◌+◌, List, [], ◌∷◌, map}
+use Rattle.sg_options.specs.declared.order.Walk.{Walk}
+use Rattle.sg_options.specs.declared.order.Walk.TheVariants.{File, Best, Seeded}
 use Rattle.sg_search.specs.declared.event.Event.{Event}
+use Rattle.sg_search.specs.declared.event.Event.TheVariants.{Begin, Turn, Finish}
 use Rattle.sg_search.specs.Searches.{Task, Search}
 use Rattle.sg_search.specs.Changes.{Change, Goes}
 use Rattle.sg_search.specs.Events.{IsOf}
@@ -25,3 +28,15 @@ changes_of ms = map (λ (m : MadeEvent). m.change) ms
 abbrev pub after_events : SelectionState → List MadeEvent → SelectionState
 after_events c [] = c
 after_events c (m ∷ ms) = after_events (after_event c m.event) ms
+
+-- how many words are drawn for an event, and for all of these
+abbrev pub event_words : Walk → Event → ℕ
+event_words File e = 0
+event_words Best e = 0
+event_words Seeded (Begin lane n) = 2
+event_words Seeded (Turn lane) = 1
+event_words Seeded (Finish lane) = 1
+
+abbrev pub words_count : Walk → List MadeEvent → ℕ
+words_count walk [] = 0
+words_count walk (m ∷ ms) = event_words walk m.event + words_count walk ms

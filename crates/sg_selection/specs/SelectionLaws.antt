@@ -1,13 +1,16 @@
 -- At each state at which an event is enabled an order names one, and lists of named events are runs of a search.
-use Rattle.std.specs.Prelude.{◌≡◌, List, [], ◌∷◌, ◌++◌}
+use Rattle.std.specs.Prelude.{◌≡◌, ◌%◌, ◌^◌, List, [], ◌∷◌, ◌++◌}
+use Rattle.rand_chacha.specs.ChaCha.{key_of, word_at}
+use Rattle.sg_seed.specs.Seeds.{key_of_seed}
+use Rattle.sg_options.specs.declared.order.Order.{Order}
 use Rattle.sg_model.specs.Payoffs.{IsPeopled}
 use Rattle.sg_search.specs.declared.event.Event.{Event}
 use Rattle.sg_search.specs.Searches.{Task, Search}
 use Rattle.sg_search.specs.Changes.{Change, Goes, Runs}
 use Rattle.sg_search.specs.Events.{IsEnabled, IsEnd, IsOf}
 use Rattle.sg_search.specs.TreeLaws.{AreFacts}
-use Rattle.sg_selection.specs.Selections.{SelectionState, Selects}
-use Rattle.sg_selection.specs.SelectedRuns.{MadeEvent, SelectedRuns, after_events, changes_of}
+use Rattle.sg_selection.specs.Selections.{SelectionState, Selects, first_selection, word_drawn}
+use Rattle.sg_selection.specs.SelectedRuns.{MadeEvent, SelectedRuns, after_events, changes_of, words_count}
 
 -- where some event is enabled, the order names one
 abbrev pub EventIsNamed : Type 0
@@ -38,3 +41,7 @@ SelectedGoOn = (p : Task) (c : SelectionState) (s : Search) (ms : List MadeEvent
 -- what a selection keeps is fixed by the events before
 abbrev pub SelectionIsOfEvents : Type 0
 SelectionIsOfEvents = (p : Task) (c : SelectionState) (s : Search) (ms : List MadeEvent) (d : SelectionState) (t : Search) → SelectedRuns p c s ms d t → d ≡ after_events c ms
+
+-- the word that is drawn next is the one at the place of the seed's stream that tells how many were drawn; behind 2^68 of them the stream begins anew
+abbrev pub WordsAreInTurn : Type 0
+WordsAreInTurn = (o : Order) (ms : List MadeEvent) → word_drawn (after_events (first_selection o) ms).words ≡ word_at 10 (key_of (key_of_seed o.seed)) 0 (words_count o.walk ms % 2 ^ 68)

@@ -1,6 +1,6 @@
 //! Laws about named events, each as the contract of a function that does nothing.
 
-ghost use Rattle.sg_selection.specs.SelectionLaws.{EventIsNamed, NamedIsEnabled, NamedOnce, NoneAtTheEnd, SelectedAreRuns, SelectedGoOn, SelectionIsOfEvents};
+ghost use Rattle.sg_selection.specs.SelectionLaws.{EventIsNamed, NamedIsEnabled, NamedOnce, NoneAtTheEnd, SelectedAreRuns, SelectedGoOn, SelectionIsOfEvents, WordsAreInTurn};
 
 /// At each state at which an event is enabled an order names one, which is enabled.
 pub fn order_names_one()
@@ -16,4 +16,9 @@ pub fn selected_are_runs()
     ensures runs { SelectedAreRuns }
     ensures longer { SelectedGoOn }
     ensures fixed { SelectionIsOfEvents }
+{}
+
+/// A seeded walk draws the words of its seed one after the other.
+pub fn words_are_in_turn()
+    ensures { WordsAreInTurn }
 {}

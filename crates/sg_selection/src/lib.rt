@@ -19,6 +19,6 @@ mod ranking;
 mod readiness;
 mod selection;
 
-pub use laws::{order_names_one, selected_are_runs};
+pub use laws::{order_names_one, selected_are_runs, words_are_in_turn};
 pub use ranked::Ranked;
 pub use selection::Selection;
