@@ -17,6 +17,7 @@ pub mod Known
 pub mod Begun
 pub mod Finished
 pub mod Recorded
+pub mod Raising
 pub mod Ripened
 pub mod Risen
 pub mod Entered

@@ -36,18 +36,15 @@ use Rattle.sg_lanes.specs.Machines.{Machine}
 use Rattle.sg_lanes.proofs.Glued.{seen}
 use Rattle.sg_lanes.proofs.Fractions.{over-alike}
 use Rattle.sg_lanes.proofs.Sifted.{all-kept}
-use Rattle.sg_lanes.proofs.Recorded.{incumbent-after, kept-prefix, same-bound, same-caps, worked_search}
-use Rattle.sg_lanes.proofs.Ripened.{none-ripe, one-ripe, own-is, sift-are, unworked}
+use Rattle.sg_lanes.proofs.Recorded.{kept-prefix, same-caps, unworked, worked_search}
+use Rattle.sg_lanes.proofs.Raising.{Raised, lower-positive, raised, stands-after}
+use Rattle.sg_lanes.proofs.Ripened.{none-ripe, one-ripe, own-is, sift-are, sifted-bounds}
 use Rattle.sg_lanes.proofs.Entered.{put-after, put-before}
 
 all-insert : (P : Ripe → Type 0) (rs : List Ripe) (n : ℕ) (e : Ripe) → All P rs → P e → All P (insert rs n e)
 all-insert P rs zero e h k = All-cons P e rs k h
 all-insert P [] (suc n) e h k = All-cons P e [] k (All-nil P)
 all-insert P (r ∷ rs) (suc n) e h k = All-cons P r (insert rs n e) (All-head P r rs h) (all-insert P rs n e (All-tail P r rs h) k)
-
-all-from : (P : Ripe → Type 0) (rs : List Ripe) → ((r : Ripe) → Contains rs r → P r) → All P rs
-all-from P [] h = All-nil P
-all-from P (r ∷ rs) h = All-cons P r rs (h r (here-in r rs)) (all-from P rs (λ x at. h x (later-in r rs x at)))
 
 module _ (p : Task) (s : Search) (f : Frontier) (h : IsFrontier p s f) (lane : ℕ) (node : Fix) (fact : Fact) (point : Option Committed) (holds : Holds s lane node true)
   (result : IsResult p.game (record { fix = node; fact = fact; point = point })) (first : node.first ≡ 1) where
@@ -60,45 +57,33 @@ module _ (p : Task) (s : Search) (f : Frontier) (h : IsFrontier p s f) (lane : �
   node-is : node ≡ prefix node.acts
   node-is = ap (λ (n : ℕ). record { first = n; acts = node.acts }) first
 
-  pub record Raised (best : Committed) (value : Fraction) : Type 0 where
-    pub committed : IsCommitted best
-    pub tickets : best.tickets ≡ better p.game (incumbent p s) point
-    pub stands : Stands value (value_fraction p.game best.tickets)
+  unchanged : caps_of p.game t ≡ caps_of p.game s
+  unchanged = same-caps p s f h lane node fact point holds result first
 
-  pub raised : (b : Option Best) → IsRise p s point b → Raised (best_after b f.best) (value_after b f.value)
-  raised None r = record { committed = h.committed; tickets = h.best ∙ sym r; stands = subst (λ (k : List Ticket). Stands f.value (value_fraction p.game k)) (sym h.best) h.value }
-  raised (Some b) r = record { committed = r.0; tickets = r.1; stands = r.2 }
+  positive : pos 1 ≤ℤ (lower p t).den
+  positive = lower-positive p s f h lane node fact point holds result
 
-  lower-positive : pos 1 ≤ℤ (lower p t).den
-  lower-positive = positive-value p.game h.peopled (incumbent p t)
-      (incumbent-first p t h.first (All-append (IsResult p.game) s.worked (w ∷ []) h.results (All-cons (IsResult p.game) w [] result (All-nil (IsResult p.game))))).commitment
-
-  module _ (best : Committed) (value : Fraction) (up : Raised best value) where
-    stands-after : Stands value (lower p t)
-    stands-after = subst (λ (k : List Ticket). Stands value (value_fraction p.game k)) (up.tickets ∙ sym (incumbent-after p s f h lane node fact point holds result)) up.stands
+  module _ (best : Committed) (value : Fraction) (up : Raised p s f h lane node fact point holds result best value) where
+    stands : Stands value (lower p t)
+    stands = stands-after p s f h lane node fact point holds result best value up
 
     own : own_bound p.game t node.acts ≡ fact_bound p.game (caps_of p.game s) (length node.acts) fact
-    own = own-is p s f h lane node fact point holds result first value stands-after lower-positive
-        ∙ ap (λ (cs : List Cap). fact_bound p.game cs (length node.acts) fact) (same-caps p s f h lane node fact point holds result first)
+    own = own-is p s f h lane node fact point holds result unchanged value stands positive first
+        ∙ ap (λ (cs : List Cap). fact_bound p.game cs (length node.acts) fact) unchanged
 
     test-is : (o : Option Fraction) → StandsFor o (fact_bound p.game (caps_of p.game s) (length node.acts) fact) → is_over_by o value ≡ is_over p t (own_bound p.game t node.acts)
-    test-is o k = over-alike p t o (fact_bound p.game (caps_of p.game s) (length node.acts) fact) value k stands-after
-        (λ x e. bound-positive p.game h.peopled (caps_of p.game s) (length node.acts) fact (holds-rho p.game node fact result.fact) x e) lower-positive
+    test-is o k = over-alike p t o (fact_bound p.game (caps_of p.game s) (length node.acts) fact) value k stands
+        (λ x e. bound-positive p.game h.peopled (caps_of p.game s) (length node.acts) fact (holds-rho p.game node fact result.fact) x e) positive
         ∙ ap (is_over p t) (sym own)
 
     fresh : worked_count s node ≡ 0
-    fresh = unworked p s f h lane node fact point holds result first value stands-after lower-positive
+    fresh = unworked p s f h lane node fact point holds result
 
     abbrev sifted : List Ripe
     sifted = filter (λ (r : Ripe). exceeds r.bound value) f.ripe
 
-    sifted-bounds : All (λ (r : Ripe). StandsFor (Some r.bound) (own_bound p.game t r.node.acts)) sifted
-    sifted-bounds = all-kept (λ (r : Ripe). StandsFor (Some r.bound) (own_bound p.game t r.node.acts)) (λ (r : Ripe). exceeds r.bound value) f.ripe
-        (all-from (λ (r : Ripe). StandsFor (Some r.bound) (own_bound p.game t r.node.acts)) f.ripe (λ r at.
-        let k = (h.ripe.each r.node).0 (in-keyed (λ (x : Ripe). x.node) f.ripe r at) in
-        let is : r.node.acts ≡ k.0 = ap (λ (x : Fix). x.acts) k.1 in
-        let b = All-contains (λ (x : Ripe). StandsFor (Some x.bound) (own_bound p.game s x.node.acts)) f.ripe r h.bounds at in
-        subst (StandsFor (Some r.bound)) (sym (same-bound p s f h lane node fact point holds result first r.node.acts (subst (λ (xs : List ℕ). 1 ≤ worked_count s (prefix xs)) (sym is) k.2.worked))) b))
+    bounds : All (λ (r : Ripe). StandsFor (Some r.bound) (own_bound p.game t r.node.acts)) sifted
+    bounds = sifted-bounds p s f h lane node fact point holds result unchanged value stands positive
 
     none-entry : IsEntry p s node fact value None → IsRipe p t node → ⊥
     none-entry e (acts, is, may) =
@@ -128,17 +113,17 @@ module _ (p : Task) (s : Search) (f : Frontier) (h : IsFrontier p s f) (lane : �
         → IsFrontier p t (record f { best = best; value = value; tops = filter (λ y. not (same node y)) f.tops; ripe = ys })
     kept-put None ys e put =
         kept-prefix p s f h lane node fact point holds result first best value ys up.committed up.tickets up.stands
-        (subst (λ (rs : List Ripe). AreChoices (IsRipe p t) (ripe_nodes rs)) (sym put) (none-ripe p s f h lane node fact point holds result first value stands-after lower-positive (none-entry e)))
-        (subst (λ (rs : List Ripe). All (λ (r : Ripe). StandsFor (Some r.bound) (own_bound p.game t r.node.acts)) rs) (sym put) sifted-bounds)
+        (subst (λ (rs : List Ripe). AreChoices (IsRipe p t) (ripe_nodes rs)) (sym put) (none-ripe p s f h lane node fact point holds result unchanged value stands positive (none-entry e)))
+        (subst (λ (rs : List Ripe). All (λ (r : Ripe). StandsFor (Some r.bound) (own_bound p.game t r.node.acts)) rs) (sym put) bounds)
     kept-put (Some e) ys k put =
-        let all = sift-are p s f h lane node fact point holds result first value stands-after lower-positive in
+        let all = sift-are p s f h lane node fact point holds result unchanged value stands positive in
         let before = put-before sifted put.place node put.within (λ i d lt. subst (λ (x : Fix). Rattle.sg_search.specs.Events.comes_first (get_or sifted i d).node x ≡ true) k.1 (put.before i d lt)) in
         let after = put-after sifted put.place node all.in_order (λ y at. ((all.each y).0 at).1) (λ d lt. subst (λ (x : Fix). Rattle.sg_search.specs.Events.comes_first (get_or sifted put.place d).node x ≡ false) k.1 (put.after d lt)) in
         kept-prefix p s f h lane node fact point holds result first best value ys up.committed up.tickets up.stands
         (subst (λ (rs : List Ripe). AreChoices (IsRipe p t) (ripe_nodes rs)) (sym put.put)
-        (one-ripe p s f h lane node fact point holds result first value stands-after lower-positive e put.place k.1 (some-entry e k) put.within before after))
+        (one-ripe p s f h lane node fact point holds result unchanged value stands positive e put.place k.1 (some-entry e k) put.within before after))
         (subst (λ (rs : List Ripe). All (λ (r : Ripe). StandsFor (Some r.bound) (own_bound p.game t r.node.acts)) rs) (sym put.put)
-        (all-insert (λ (r : Ripe). StandsFor (Some r.bound) (own_bound p.game t r.node.acts)) sifted put.place e sifted-bounds
+        (all-insert (λ (r : Ripe). StandsFor (Some r.bound) (own_bound p.game t r.node.acts)) sifted put.place e bounds
         (subst (λ (xs : List ℕ). StandsFor (Some e.bound) (own_bound p.game t xs)) (sym (ap (λ (x : Fix). x.acts) k.1)) (subst (StandsFor (Some e.bound)) (sym own) k.2))))
 
 pub prefix-kept : (p : Task) (s : Search) (f : Frontier) (m : Machine) (lane : ℕ) (node : Fix) (fact : Fact) (point : Option Committed) (best : Option Best) (o : Option Ripe) (v : Fraction)
@@ -156,7 +141,7 @@ prefix-kept p s f m lane node fact point best o v lanes worked tops xs ys best2 
     let va : Fraction = value_after best f.value in
     let entry3 = subst (λ (y : Fraction). IsEntry p s node fact y o) is_v entry2 in
     let put2 = subst (λ (zs : List Ripe). IsPutIn zs o ys) (is_xs ∙ ap (λ (y : Fraction). filter (λ (r : Ripe). exceeds r.bound y) f.ripe) is_v) put in
-    let k = kept-put p s f h lane node fact point held2 result2 first (best_after best f.best) va (raised p s f h lane node fact point held2 result2 first best rise2) o ys entry3 put2 in
+    let k = kept-put p s f h lane node fact point held2 result2 first (best_after best f.best) va (raised p s f h lane node fact point held2 result2 best rise2) o ys entry3 put2 in
     subst (λ (ls : List (Option Held)). IsFrontier p (record s { lanes = ls; worked = worked }) (record f { best = best2; value = value2; tops = tops; ripe = ys })) (sym is_lanes)
     (subst (λ (ws : List Worked). IsFrontier p (record s { lanes = set s.lanes (lane - 1) None; worked = ws }) (record f { best = best2; value = value2; tops = tops; ripe = ys })) (sym is_worked)
     (subst (λ (b : Committed). IsFrontier p (worked_search s lane node fact point) (record f { best = b; value = value2; tops = tops; ripe = ys })) (sym is_best)

@@ -17,10 +17,10 @@ use Rattle.sg_bounds.specs.Leaves.{fact_bound}
 use Rattle.sg_search.specs.declared.held.Held.{Held}
 use Rattle.sg_search.specs.Searches.{Task, Search, first_search, same, stuck_count, taken_count, worked_count, IsPartOf, IsCapNode}
 use Rattle.sg_search.specs.Bounding.{better, caps_of, exceeds, fact_of, incumbent, inherited, is_over, is_split, lower, own_bound, value_fraction}
-use Rattle.sg_search.specs.Changes.{works, Holds, MaySplit, with_lane}
+use Rattle.sg_search.specs.Changes.{works, Holds, MaySplit, Runs, with_lane}
 use Rattle.sg_search.specs.Events.{AreChoices}
 use Rattle.sg_search.specs.Results.{IsResult}
-use Rattle.sg_search.proofs.Placed.{held-let_go, one_if, worked-more}
+use Rattle.sg_search.proofs.Placed.{held-let_go, known_in_one_place, one_if, same-self, worked-more}
 use Rattle.sg_search.proofs.Grown.{AreSplits, are_splits}
 use Rattle.sg_search.proofs.Poorer.{caps-same, fact-more, inherited-same}
 use Rattle.sg_search.proofs.Listing.{choices-same}
@@ -51,6 +51,26 @@ module _ (p : Task) (s : Search) (f : Frontier) (h : IsFrontier p s f) (lane : �
   pub same-taken : (x : Fix) → taken_count t x ≡ taken_count s x
   same-taken x = let a = held-let_go s lane node x true holds in let b = worked-more s w x in omega (arith, a, b)
 
+  -- the node was not worked before
+  pub unworked : worked_count s node ≡ 0
+  unworked =
+      let o = (known_in_one_place p h.peopled h.changes s h.runs).once node in
+      let l = held-let_go s lane node node true holds in
+      let y : one_if (same node node) ≡ 1 = ap one_if (same-self node) in
+      omega (arith, o, l, y)
+
+  pub runs-after : Runs p (first_search p) (h.changes ++ (works lane fact point ∷ [])) t
+  runs-after = runs-more p h.changes (first_search p) s (works lane fact point) t h.runs (node, holds, refl)
+
+  pub results-after : All (IsResult p.game) t.worked
+  results-after = All-append (IsResult p.game) s.worked (w ∷ []) h.results (All-cons (IsResult p.game) w [] result (All-nil (IsResult p.game)))
+
+  -- the bound of a prefix that was worked before, where the caps stay
+  pub same-bound : caps_of p.game t ≡ caps_of p.game s → (acts : List ℕ) → 1 ≤ worked_count s (prefix acts) → own_bound p.game t acts ≡ own_bound p.game s acts
+  same-bound same acts before =
+      ap (λ (cs : List Cap). option_and_then (fact_bound p.game cs (length acts)) (fact_of t.worked (prefix acts))) same
+      ∙ ap (λ (o : Option Fact). option_and_then (fact_bound p.game (caps_of p.game s) (length acts)) o) (fact-more s.worked w (prefix acts) (inl before))
+
   -- ---- a prefix
 
   module _ (first : node.first ≡ 1) where
@@ -59,12 +79,6 @@ module _ (p : Task) (s : Search) (f : Frontier) (h : IsFrontier p s f) (lane : �
 
     pub same-caps : caps_of p.game t ≡ caps_of p.game s
     same-caps = caps-same p.game s t (λ l a two. fact-more s.worked w (alone l a) (inr (no-cap l a two)))
-
-    -- the bound of a prefix that was worked before
-    pub same-bound : (acts : List ℕ) → 1 ≤ worked_count s (prefix acts) → own_bound p.game t acts ≡ own_bound p.game s acts
-    same-bound acts before =
-        ap (λ (cs : List Cap). option_and_then (fact_bound p.game cs (length acts)) (fact_of t.worked (prefix acts))) same-caps
-        ∙ ap (λ (o : Option Fact). option_and_then (fact_bound p.game (caps_of p.game s) (length acts)) o) (fact-more s.worked w (prefix acts) (inl before))
 
     kept-undone : AreChoices (λ x. IsCapNode p.game x × (worked_count t x + stuck_count t x ≡ 0)) f.undone
     kept-undone = choices-same (λ x. IsCapNode p.game x × (worked_count s x + stuck_count s x ≡ 0)) (λ x. IsCapNode p.game x × (worked_count t x + stuck_count t x ≡ 0)) f.undone (λ y. (
@@ -81,13 +95,13 @@ module _ (p : Task) (s : Search) (f : Frontier) (h : IsFrontier p s f) (lane : �
         → IsFrontier p t (record f { best = best; value = value; tops = filter (λ y. not (same node y)) f.tops; ripe = ripe })
     kept-prefix best value ripe committed is stands are bounds = record {
       changes = h.changes ++ (works lane fact point ∷ []);
-      runs = runs-more p h.changes (first_search p) s (works lane fact point) t h.runs (node, holds, refl);
+      runs = runs-after;
       peopled = h.peopled;
       few = h.few;
       first = h.first;
       root = h.root;
       shift = h.shift;
-      results = All-append (IsResult p.game) s.worked (w ∷ []) h.results (All-cons (IsResult p.game) w [] result (All-nil (IsResult p.game)));
+      results = results-after;
       committed = committed;
       best = is ∙ sym incumbent-after;
       value = subst (λ (k : List Ticket). Stands value (value_fraction p.game k)) (is ∙ sym incumbent-after) stands;

@@ -23,7 +23,7 @@ use Rattle.sg_search.specs.Results.{IsResult, IsPointOf}
 use Rattle.sg_search.proofs.Placed.{held-let_go, known_in_one_place, one_if, same-is, same-self, worked-more}
 use Rattle.sg_search.proofs.Poorer.{above-falls, inherited-positive, positive-value}
 use Rattle.sg_search.proofs.Reported.{are_facts, incumbent-first}
-use Rattle.sg_search.proofs.Listing.{Passes, choices-kept, choices-more, choices-same, in-keyed, keyed-in}
+use Rattle.sg_search.proofs.Listing.{Passes, choices-kept, choices-more, choices-same, here-in, in-keyed, keyed-in, later-in}
 use Rattle.sg_lanes.specs.declared.ripe.Ripe.{Ripe}
 use Rattle.sg_lanes.specs.Bounds.{Stands, StandsFor}
 use Rattle.sg_lanes.specs.Choices.{ripe_nodes}
@@ -33,7 +33,7 @@ use Rattle.sg_lanes.proofs.Sifted.{all-kept}
 use Rattle.sg_lanes.proofs.Branched.{not-one}
 use Rattle.sg_lanes.proofs.Picked.{stands-some}
 use Rattle.sg_lanes.proofs.Chosen.{value-positive}
-use Rattle.sg_lanes.proofs.Recorded.{incumbent-after, same-bound, worked_search}
+use Rattle.sg_lanes.proofs.Recorded.{incumbent-after, same-bound, unworked, worked_search}
 
 -- the fact of a node that was worked last
 fact-last : (ws : List Worked) (w : Worked) → count_by (λ (v : Worked). same w.fix v.fix) ws ≡ 0 → fact_of (ws ++ (w ∷ [])) w.fix ≡ Some w.fact
@@ -63,8 +63,12 @@ nodes-insert rs zero e le = refl
 nodes-insert [] (suc n) e le = absurd (omega (arith, le))
 nodes-insert (r ∷ rs) (suc n) e le = ap (λ (xs : List Fix). r.node ∷ xs) (nodes-insert rs n e (omega (arith, le)))
 
+pub all-from : (P : Ripe → Type 0) (rs : List Ripe) → ((r : Ripe) → Contains rs r → P r) → All P rs
+all-from P [] h = All-nil P
+all-from P (r ∷ rs) h = All-cons P r rs (h r (here-in r rs)) (all-from P rs (λ x at. h x (later-in r rs x at)))
+
 module _ (p : Task) (s : Search) (f : Frontier) (h : IsFrontier p s f) (lane : ℕ) (node : Fix) (fact : Fact) (point : Option Committed) (holds : Holds s lane node true)
-  (result : IsResult p.game (record { fix = node; fact = fact; point = point })) (first : node.first ≡ 1) (value : Fraction) where
+  (result : IsResult p.game (record { fix = node; fact = fact; point = point })) (same_caps : caps_of p.game (worked_search s lane node fact point) ≡ caps_of p.game s) (value : Fraction) where
   abbrev t : Search
   t = worked_search s lane node fact point
 
@@ -74,14 +78,6 @@ module _ (p : Task) (s : Search) (f : Frontier) (h : IsFrontier p s f) (lane : �
   module _ (stands : Stands value (lower p t)) (lower_positive : pos 1 ≤ℤ (lower p t).den) where
     abbrev above : Ripe → Bool
     above r = exceeds r.bound value
-
-    -- the node was not worked before
-    pub unworked : worked_count s node ≡ 0
-    unworked =
-        let o = (known_in_one_place p h.peopled h.changes s h.runs).once node in
-        let l = held-let_go s lane node node true holds in
-        let y : one_if (same node node) ≡ 1 = ap one_if (same-self node) in
-        omega (arith, o, l, y)
 
     worked-before : (y : Fix) → y ≢ node → 1 ≤ worked_count t y → 1 ≤ worked_count s y
     worked-before y ne k =
@@ -100,14 +96,14 @@ module _ (p : Task) (s : Search) (f : Frontier) (h : IsFrontier p s f) (lane : �
         let same_acts : r.node.acts ≡ acts = ap (λ (x : Fix). x.acts) is in
         let k = stands-some r.bound (own_bound p.game s acts) (subst (λ (xs : List ℕ). StandsFor (Some r.bound) (own_bound p.game s xs)) same_acts b) in
         exceeds-alike r.bound k.0 value (lower p t) k.2 stands (bound-den acts k.0 ne k.1) lower_positive
-        ∙ sym (ap (is_over p t) (same-bound p s f h lane node fact point holds result first acts before ∙ k.1))
+        ∙ sym (ap (is_over p t) (same-bound p s f h lane node fact point holds result same_caps acts before ∙ k.1))
 
     sift-to : (y : Fix) → Passes (λ (r : Ripe). r.node) above f.ripe y → IsRipe p t y × (y ≢ node)
     sift-to y pass =
         let k = (h.ripe.each y).0 (subst (Contains (ripe_nodes f.ripe)) pass.key_is (in-keyed (λ (r : Ripe). r.node) f.ripe pass.item pass.at)) in
         let before = k.2.worked in
         let m = worked-more s w (prefix k.0) in
-        let differ : y ≢ node = λ e. let u = unworked in let c : worked_count s (prefix k.0) ≡ worked_count s node = ap (worked_count s) (sym k.1 ∙ e) in omega (arith, u, c, before) in (
+        let differ : y ≢ node = λ e. let u = unworked p s f h lane node fact point holds result in let c : worked_count s (prefix k.0) ≡ worked_count s node = ap (worked_count s) (sym k.1 ∙ e) in omega (arith, u, c, before) in (
           (k.0, k.1, record {
             some = k.2.some;
             worked = omega (arith, m, before);
@@ -128,7 +124,7 @@ module _ (p : Task) (s : Search) (f : Frontier) (h : IsFrontier p s f) (lane : �
     sift-from : (y : Fix) → IsRipe p t y × (y ≢ node) → Passes (λ (r : Ripe). r.node) above f.ripe y
     sift-from y ((acts, is, may), ne) =
         let before : 1 ≤ worked_count s (prefix acts) = worked-before (prefix acts) (λ e. ne (is ∙ e)) may.worked in
-        let own = same-bound p s f h lane node fact point holds result first acts before in
+        let own = same-bound p s f h lane node fact point holds result same_caps acts before in
         let at = (h.ripe.each y).1 (acts, is, record { some = may.some; worked = before; unsplit = may.unsplit; short = may.short; over = over-before acts may.some own may.over }) in
         let r = keyed-in (λ (x : Ripe). x.node) f.ripe y at in
         record { item = r.0; at = r.1; key_is = r.2; passes = test-is r.0 acts (r.2 ∙ is) r.1 may.some before ∙ may.over }
@@ -142,6 +138,14 @@ module _ (p : Task) (s : Search) (f : Frontier) (h : IsFrontier p s f) (lane : �
 
     abbrev sifted : List Ripe
     sifted = filter above f.ripe
+
+    pub sifted-bounds : All (λ (r : Ripe). StandsFor (Some r.bound) (own_bound p.game t r.node.acts)) sifted
+    sifted-bounds = all-kept (λ (r : Ripe). StandsFor (Some r.bound) (own_bound p.game t r.node.acts)) above f.ripe
+        (all-from (λ (r : Ripe). StandsFor (Some r.bound) (own_bound p.game t r.node.acts)) f.ripe (λ r at.
+        let k = (h.ripe.each r.node).0 (in-keyed (λ (x : Ripe). x.node) f.ripe r at) in
+        let is : r.node.acts ≡ k.0 = ap (λ (x : Fix). x.acts) k.1 in
+        let b = All-contains (λ (x : Ripe). StandsFor (Some x.bound) (own_bound p.game s x.node.acts)) f.ripe r h.bounds at in
+        subst (StandsFor (Some r.bound)) (sym (same-bound p s f h lane node fact point holds result same_caps r.node.acts (subst (λ (xs : List ℕ). 1 ≤ worked_count s (prefix xs)) (sym is) k.2.worked))) b))
 
     pub sift-are : AreChoices (λ y. IsRipe p t y × (y ≢ node)) (ripe_nodes sifted)
     sift-are = choices-same (Passes (λ (r : Ripe). r.node) above f.ripe) (λ y. IsRipe p t y × (y ≢ node)) (ripe_nodes sifted) (λ y. (sift-to y, sift-from y)) (choices-kept (λ (r : Ripe). r.node) above (IsRipe p s) f.ripe h.ripe)
@@ -161,6 +165,6 @@ module _ (p : Task) (s : Search) (f : Frontier) (h : IsFrontier p s f) (lane : �
         )) (choices-more (λ y. IsRipe p t y × (y ≢ node)) (ripe_nodes sifted) n node sift-are before after))
 
     -- the bound of the node
-    pub own-is : own_bound p.game t node.acts ≡ fact_bound p.game (caps_of p.game t) (length node.acts) fact
-    own-is = ap (λ (o : Option Fact). option_and_then (fact_bound p.game (caps_of p.game t) (length node.acts)) o)
-        (subst (λ (x : Fix). fact_of t.worked x ≡ Some fact) (ap (λ (n : ℕ). record { first = n; acts = node.acts }) first) (fact-last s.worked w unworked))
+    pub own-is : node.first ≡ 1 → own_bound p.game t node.acts ≡ fact_bound p.game (caps_of p.game t) (length node.acts) fact
+    own-is first = ap (λ (o : Option Fact). option_and_then (fact_bound p.game (caps_of p.game t) (length node.acts)) o)
+        (subst (λ (x : Fix). fact_of t.worked x ≡ Some fact) (ap (λ (n : ℕ). record { first = n; acts = node.acts }) first) (fact-last s.worked w (unworked p s f h lane node fact point holds result)))
