@@ -46,7 +46,7 @@ impl<'a> Lanes<'a> {
     /// What the search comes to: its incumbent, caps, tree and worked nodes, and why the first stuck node is stuck. It may be
     /// asked at any state; what it means is known where nothing may happen. It takes memory for the tree alone.
     pub fn end(self, alloc: Global) -> Result<End, AllocError>
-        ensures { IfOk result (λ end. IsEndOf self.task self.search end) }
+        ensures { IfOk result (λ end. IsEndOf self.entry.task self.entry.search end) }
     {
         let Lanes {
             game,
