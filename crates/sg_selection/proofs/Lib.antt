@@ -7,3 +7,4 @@ pub mod Handed
 pub mod Named
 pub mod Made
 pub mod Words
+pub mod Same

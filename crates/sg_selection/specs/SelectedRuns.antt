@@ -40,3 +40,16 @@ event_words Seeded (Finish lane) = 1
 abbrev pub words_count : Walk → List MadeEvent → ℕ
 words_count walk [] = 0
 words_count walk (m ∷ ms) = event_words walk m.event + words_count walk ms
+
+-- a turn or the finish of a node is answered; which node a lane begins is fixed by the number of its choice
+abbrev pub IsAnswered : Event → Type 0
+IsAnswered (Begin lane n) = ⊥
+IsAnswered (Turn lane) = Unit {0}
+IsAnswered (Finish lane) = Unit {0}
+
+-- as many events, where the same turn or finish in the same place comes to the same
+abbrev pub HaveSameAnswers : List MadeEvent → List MadeEvent → Type 0
+HaveSameAnswers [] [] = Unit {0}
+HaveSameAnswers [] (n ∷ ns) = ⊥
+HaveSameAnswers (m ∷ ms) [] = ⊥
+HaveSameAnswers (m ∷ ms) (n ∷ ns) = (m.event ≡ n.event → IsAnswered m.event → m.change ≡ n.change) × HaveSameAnswers ms ns

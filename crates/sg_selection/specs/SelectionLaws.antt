@@ -10,7 +10,7 @@ use Rattle.sg_search.specs.Changes.{Change, Goes, Runs}
 use Rattle.sg_search.specs.Events.{IsEnabled, IsEnd, IsOf}
 use Rattle.sg_search.specs.TreeLaws.{AreFacts}
 use Rattle.sg_selection.specs.Selections.{SelectionState, Selects, first_selection, word_drawn}
-use Rattle.sg_selection.specs.SelectedRuns.{MadeEvent, SelectedRuns, after_events, changes_of, words_count}
+use Rattle.sg_selection.specs.SelectedRuns.{HaveSameAnswers, MadeEvent, SelectedRuns, after_events, changes_of, words_count}
 
 -- where some event is enabled, the order names one
 abbrev pub EventIsNamed : Type 0
@@ -41,6 +41,11 @@ SelectedGoOn = (p : Task) (c : SelectionState) (s : Search) (ms : List MadeEvent
 -- what a selection keeps is fixed by the events before
 abbrev pub SelectionIsOfEvents : Type 0
 SelectionIsOfEvents = (p : Task) (c : SelectionState) (s : Search) (ms : List MadeEvent) (d : SelectionState) (t : Search) → SelectedRuns p c s ms d t → d ≡ after_events c ms
+
+-- where the programs of nodes answer the same, the events are the same, and so is the end
+abbrev pub SameAnswersSameRun : Type 0
+SameAnswersSameRun = (p : Task) (c : SelectionState) (s : Search) (ms ns : List MadeEvent) (b d : SelectionState) (t u : Search) → SelectedRuns p c s ms b t → SelectedRuns p c s ns d u
+    → HaveSameAnswers ms ns → (ms ≡ ns) × (b ≡ d) × (t ≡ u)
 
 -- the word that is drawn next is the one at the place of the seed's stream that tells how many were drawn; behind 2^68 of them the stream begins anew
 abbrev pub WordsAreInTurn : Type 0
