@@ -6,3 +6,5 @@ pub mod Values
 pub mod Trees
 pub mod Caps
 pub mod Causes
+pub mod Budgets
+pub mod Reports

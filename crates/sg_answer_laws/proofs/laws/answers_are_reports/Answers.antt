@@ -1,4 +1,5 @@
+use Rattle.sg_answer_laws.proofs.Reports.{answers_are_reports}
 use Rattle.sg_answer_laws.proofs.laws.answers_are_reports.Goals as goal
 
 pub returns : goal.returns
-returns c = ?
+returns c = answers_are_reports
