@@ -9,3 +9,4 @@ pub mod Tallied
 pub mod Short
 pub mod Caused
 pub mod Ample
+pub mod Small

@@ -1,3 +1,4 @@
 pub mod Ends
 pub mod GapLaws
 pub mod EnoughLaws
+pub mod Examples

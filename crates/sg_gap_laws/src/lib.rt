@@ -5,9 +5,11 @@
 #![tactic(auto)]
 
 mod enough_laws;
+mod examples;
 mod gap_laws;
 
 pub use enough_laws::{enough_leaves_wide, no_gap_of_looks, no_gap_of_nodes, no_gap_of_pivots};
+pub use examples::worked_ends;
 pub use gap_laws::{
     end_is_accepted, gap_is_caused, points_are_not_above, stuck_are_nodes, value_is_below,
     worked_are_results,
