@@ -1,6 +1,7 @@
 //! Events that are named one after the other, over ranks in a list.
 
-ghost use Rattle.std.specs.Prelude.{◌≡◌, ◌<◌, ◌≤◌, ℕ, length, OnTrue};
+ghost use Rattle.std.specs.Prelude.{◌≡◌, ◌<◌, ◌≤◌, ℕ};
+ghost use Rattle.std.specs.Bool.{OnTrue};
 ghost use Rattle.sg_search.specs.declared.event.Ready.{Ready};
 ghost use Rattle.sg_selection.specs.Handing.{IsAskable};
 

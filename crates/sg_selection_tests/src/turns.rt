@@ -4,6 +4,7 @@ use crate::steps::{Step, are_due, order};
 use sg_options::Walk;
 use sg_search::Event;
 use sg_search::Ready::{Begin, Finish, Nothing, Turn};
+use sg_selection::{order_names_one, selected_are_runs, words_are_in_turn};
 use std::test::Fail;
 
 const RANKS: &[(i128, i128)] = &[(1, 2), (3, 4), (3, 4), (2, 3)];
@@ -55,6 +56,9 @@ fn ends() -> &'static [Step] {
 
 #[test]
 fn lanes_take_turns(rt: HostRuntime) -> Result<(), Fail> {
+    order_names_one();
+    selected_are_runs();
+    words_are_in_turn();
     for steps in [three(), passed_over(), ends()] {
         assert!(rt; are_due(rt.alloc(), &order(Walk::File, 1), RANKS, steps)?);
     }
