@@ -8,3 +8,4 @@ pub mod Caps
 pub mod Causes
 pub mod Budgets
 pub mod Reports
+pub mod Lengths
