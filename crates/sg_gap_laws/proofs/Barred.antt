@@ -19,22 +19,14 @@ use Rattle.sg_search.specs.Searches.{Task, Search, worked_count, ArePlaced, IsPa
 use Rattle.sg_search.specs.Bounding.{caps_of, exceeds, fact_of, inherited, is_over, is_split, leaf_with, lower, own_bound, tree_at, tree_of}
 use Rattle.sg_search.specs.Changes.{MaySplit}
 use Rattle.sg_search.specs.EndLaws.{IsClosed}
-use Rattle.sg_search.proofs.Grown.{AreSplits, split-yes}
-use Rattle.sg_search.proofs.Opened.{base-is, bounds-are, fact-some, fact-worked, split-out}
+use Rattle.sg_search.proofs.Grown.{AreSplits, split-yes, zero-or-more}
+use Rattle.sg_search.proofs.Opened.{base-is, bounds-are, fact-some, fact-worked, not-true, split-out}
 use Rattle.sg_programs.specs.CauseRows.{AreLeavesBarred, ArePartsBarred, IsOverValue, IsStuckUnder}
 use Rattle.sg_programs.specs.NodeTests.{Method}
 use Rattle.sg_gap_laws.proofs.Compared.{below-from}
 
 none-some : {X : Type 0} {x : X} → None ≡ Some x → ⊥
 none-some h = cc
-
-zero-or-more : (n : ℕ) → (n ≡ 0) ⊎ (1 ≤ n)
-zero-or-more zero = inl refl
-zero-or-more (suc n) = inr (omega arith)
-
-not-true : (b : Bool) → (b ≡ true → ⊥) → b ≡ false
-not-true true h = absurd (h refl)
-not-true false h = refl
 
 module _ (p : Task) (s : Search) (placed : ArePlaced p.game s) (ok : AreSplits p s) where
   abbrev g : Game

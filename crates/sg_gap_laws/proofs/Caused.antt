@@ -31,7 +31,7 @@ use Rattle.sg_search.specs.EndLaws.{IsBarred, IsClosed}
 use Rattle.sg_search.specs.ReportLaws.{IsReportOf}
 use Rattle.sg_search.specs.Results.{IsPointOf, IsResult}
 use Rattle.sg_search.proofs.Capped.{cap-is}
-use Rattle.sg_search.proofs.Grown.{worked-parent}
+use Rattle.sg_search.proofs.Grown.{worked-parent, zero-or-more}
 use Rattle.sg_search.proofs.Listing.{here-in, later-in}
 use Rattle.sg_search.proofs.Opened.{fact-some}
 use Rattle.sg_search.proofs.Placed.{one_if, same-is}
@@ -48,15 +48,11 @@ use Rattle.sg_gap_laws.specs.GapLaws.{GapIsCaused}
 use Rattle.sg_gap_laws.proofs.Barred.{tree-barred, tree-closed}
 use Rattle.sg_gap_laws.proofs.Compared.{above-same}
 use Rattle.sg_gap_laws.proofs.Facts.{Stated, node_in}
-use Rattle.sg_gap_laws.proofs.Known.{stuck-is, stuck-nodes, worked-is}
+use Rattle.sg_gap_laws.proofs.Known.{found-in, stuck-is, stuck-nodes, worked-is}
 use Rattle.sg_gap_laws.proofs.Open.{IsPlainCap, IsProvedCap, cap-cases, plain-unworked, tree-open, unworked-plain}
 use Rattle.sg_gap_laws.proofs.Reached.{closed-optimal, ended, facts, is_peopled, lower-positive, placed, results, sound, splits, value-positive, value-same}
 use Rattle.sg_gap_laws.proofs.Short.{full-low, short}
 use Rattle.sg_gap_laws.proofs.Tallied.{cap_part, count-in, facts_of, few, near, stated-worked}
-
-zero-or-more : (n : ℕ) → (n ≡ 0) ⊎ (1 ≤ n)
-zero-or-more zero = inl refl
-zero-or-more (suc n) = inr (omega arith)
 
 -- ---- the cause that is due
 
@@ -87,25 +83,6 @@ stated_due p t r end why e = ⊎_elim
 pub is_gap : (r : Report) (why : Cause) → r.ending ≡ Gap why → is_optimal r.ending ≡ false
 is_gap r why e = ap is_optimal e
 
--- a stuck node is among the stuck ones
-stuck-in : (x : Fix) (xs : List Stuck) → 1 ≤ count_by (λ (v : Stuck). same x v.node) xs → (y : Stuck) × Contains xs y × (y.node ≡ x)
-stuck-in x [] h = absurd (omega (arith, h))
-stuck-in x (y ∷ xs) h =
-    let c = sum_by-cons (λ (v : Stuck). cond (same x v.node) 1 0) y xs in
-    ⊎_elim
-    (λ yes. (y, here-in y xs, sym (same-is x y.node yes)))
-    (λ out. let z : one_if (same x y.node) ≡ 0 = ap one_if out in let r = stuck-in x xs (omega (arith, h, c, z)) in (r.0, later-in y xs r.0 r.1, r.2))
-    (cases_Bool (same x y.node))
-
-worked-in : (x : Fix) (ws : List Worked) → 1 ≤ count_by (λ (v : Worked). same x v.fix) ws → (w : Worked) × (Contains ws w × (w.fix ≡ x))
-worked-in x [] h = absurd (omega (arith, h))
-worked-in x (w ∷ ws) h =
-    let c = sum_by-cons (λ (v : Worked). cond (same x v.fix) 1 0) w ws in
-    ⊎_elim
-    (λ yes. (w, (here-in w ws, sym (same-is x w.fix yes))))
-    (λ out. let z : one_if (same x w.fix) ≡ 0 = ap one_if out in let r = worked-in x ws (omega (arith, h, c, z)) in (r.0, (later-in w ws r.0 r.1.0, r.1.1)))
-    (cases_Bool (same x w.fix))
-
 module _ (m : Method) (p : Task) (t : Search) (h : HasEnded p.game m p t) where
   abbrev g : Game
   g = p.game
@@ -123,7 +100,7 @@ module _ (m : Method) (p : Task) (t : Search) (h : HasEnded p.game m p t) where
   says x at = let node = stuck-node x at in stop_is_cause g h.game h.unscaled x.node node.is_fix m (h.methods x.node node) x.cause (stops-node x at)
 
   is_stuck : (node : Fix) → 1 ≤ stuck_count t node → IsStuckUnder g m node
-  is_stuck node h1 = let x = stuck-in node t.stuck h1 in (x.0.cause, subst (λ (y : Fix). NodeCause g m y x.0.cause) x.2 (says x.0 x.1))
+  is_stuck node h1 = let x = found-in (λ (y : Stuck). y.node) node t.stuck h1 in (x.0.cause, subst (λ (y : Fix). NodeCause g m y x.0.cause) x.2 (says x.0 x.1))
 
   stuck-counted : (x : Stuck) → Contains t.stuck x → 1 ≤ stuck_count t x.node
   stuck-counted x at = let lt = at.1 in subst (λ (y : Stuck). 1 ≤ stuck_count t y.node) at.2 (stuck-is p t (placed m p t h) (splits m p t h) at.0 x lt)
@@ -233,7 +210,7 @@ module _ (m : Method) (p : Task) (t : Search) (h : HasEnded p.game m p t) where
           let up = worked-parent p t (placed m p t h) acts a (subst (λ (y : Fix). 1 ≤ worked_count t y) e c) in
           ⊎_elim
           (λ none. absurd (some none))
-          (λ more. worked-in (prefix acts) t.worked more)
+          (λ more. let v = found-in (λ (u : Worked). u.fix) (prefix acts) t.worked more in (v.0, (v.1, v.2)))
           ((splits m p t h).worked acts up.0)
 
       final-fact : (x : Stated) → Contains (facts_of g t) x → IsFinalFact g x

@@ -1,8 +1,9 @@
 -- The nodes that a search knows are nodes of the game.
 use Rattle.std.proofs.Common.{◌≡◌, ◌≢◌, ◌⊎◌, ℕ, zero, suc, ◌+◌, ◌≤◌, true, cond, List, [], ◌∷◌, ◌++◌, length, get_or, count_by, sym, ◌∙◌, ap, subst, refl, arith, inl, inr, ⊎_elim, Contains, append_assoc, length-append}
 use Rattle.std.specs.List.{All, zip}
+use Rattle.std.proofs.lemmas.Bool.{cases_Bool}
 use Rattle.std.proofs.lemmas.List.{length_push, same_from_push}
-use Rattle.std.proofs.lemmas.List.Sums.{get_or-le-sum_by}
+use Rattle.std.proofs.lemmas.List.Sums.{get_or-le-sum_by, sum_by-cons}
 use Rattle.std.proofs.lemmas.List.Elements.{All-nil, All-cons}
 use Rattle.sg_model.specs.Sums.{numbers_from}
 use Rattle.sg_model.specs.Games.{Game, action_count}
@@ -11,8 +12,19 @@ use Rattle.sg_tree.specs.declared.worked.Worked.{Worked}
 use Rattle.sg_bounds.specs.Regions.{IsFix, IsNode, alone, prefix}
 use Rattle.sg_search.specs.declared.held.Stuck.{Stuck}
 use Rattle.sg_search.specs.Searches.{Task, Search, same, worked_count, stuck_count, ArePlaced, IsCapNode, IsKnown, IsPartOf}
-use Rattle.sg_search.proofs.Placed.{one_if, same-self}
+use Rattle.sg_search.proofs.Listing.{here-in, later-in}
+use Rattle.sg_search.proofs.Placed.{one_if, same-is, same-self}
 use Rattle.sg_search.proofs.Grown.{AreSplits, ancestors, last-of}
+
+-- a node that is counted among some is that of one of them
+pub found-in : {X : Type 0} (key : X → Fix) (x : Fix) (xs : List X) → 1 ≤ count_by (λ (y : X). same x (key y)) xs → (y : X) × Contains xs y × (key y ≡ x)
+found-in key x [] h = absurd (omega (arith, h))
+found-in {X} key x (y ∷ xs) h =
+    let c = sum_by-cons (λ (z : X). cond (same x (key z)) 1 0) y xs in
+    ⊎_elim
+    (λ yes. (y, here-in y xs, sym (same-is x (key y) yes)))
+    (λ out. let z : one_if (same x (key y)) ≡ 0 = ap one_if out in let r = found-in key x xs (omega (arith, h, c, z)) in (r.0, later-in y xs r.0 r.1, r.2))
+    (cases_Bool (same x (key y)))
 
 -- an action of a type, counted from 1
 abbrev pub IsActionOf : Game → ℕ × ℕ → Type 0

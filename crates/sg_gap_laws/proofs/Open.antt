@@ -16,12 +16,8 @@ use Rattle.sg_search.specs.Searches.{Task, Search, worked_count, ArePlaced, IsPa
 use Rattle.sg_search.specs.Bounding.{cap_at, cap_facts, fact_of, is_split, leaf_with, least_cap, tree_at, tree_of}
 use Rattle.sg_search.proofs.Capped.{kept-all}
 use Rattle.sg_search.proofs.Grown.{AreSplits, ancestors, fact-none, split-yes}
-use Rattle.sg_search.proofs.Opened.{fact-worked, split-out}
+use Rattle.sg_search.proofs.Opened.{fact-worked, not-true, split-out}
 use Rattle.sg_programs.specs.CauseRows.{IsOpenAt, IsOpenIn}
-
-not-true : (b : Bool) → (b ≡ true → ⊥) → b ≡ false
-not-true true h = absurd (h refl)
-not-true false h = refl
 
 -- ---- an open part
 

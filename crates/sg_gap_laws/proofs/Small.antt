@@ -1,5 +1,5 @@
 -- The ends of small searches, by computing.
-use Rattle.std.proofs.Common.{◌≡◌, ◌⊎◌, ℕ, zero, suc, ◌+◌, ◌<◌, ◌≤◌, true, false, true≢false, List, [], ◌∷◌, ◌++◌, length, Option, Some, None, pos, ◌≤ℤ◌, sym, ◌∙◌, ap, subst, refl, arith, inl, inr, ⊎_elim, Contains}
+use Rattle.std.proofs.Common.{◌≡◌, ◌⊎◌, ℕ, zero, suc, ◌+◌, ◌<◌, ◌≤◌, Bool, true, false, true≢false, List, [], ◌∷◌, ◌++◌, length, replicate, Option, Some, None, pos, ◌≤ℤ◌, sym, ◌∙◌, ap, subst, refl, arith, inl, inr, ⊎_elim, Contains}
 use Rattle.std.specs.List.{All}
 use Rattle.std.proofs.lemmas.Int.{ints}
 use Rattle.std.proofs.lemmas.List.Elements.{All-cons, All-nil}
@@ -8,6 +8,7 @@ use Rattle.sg_frac.specs.Fractions.{Fraction}
 use Rattle.sg_model.specs.Examples.{one_player}
 use Rattle.sg_model.specs.Games.{action_count}
 use Rattle.sg_model.specs.Limits.{IsGame}
+use Rattle.sg_model.specs.Sums.{nth}
 use Rattle.sg_model.proofs.Deciding.{at_most_z}
 use Rattle.sg_model.proofs.Worked.{worked}
 use Rattle.sg_commit.proofs.Standing.{All-back, All-front}
@@ -25,7 +26,7 @@ use Rattle.sg_bounds.proofs.Nodes.{node_of-Unproved}
 use Rattle.sg_bounds.proofs.Worked.{one_more, reduced, split-nodes, worked_reports}
 use Rattle.sg_search.specs.declared.held.Held.{Held}
 use Rattle.sg_search.specs.declared.held.Stuck.{Stuck}
-use Rattle.sg_search.specs.Searches.{Task, Search, first_search, lane_at, taken_count, IsPartOf}
+use Rattle.sg_search.specs.Searches.{Task, Search, first_search, lane_at, taken_count, IsKnown, IsPartOf}
 use Rattle.sg_search.specs.Bounding.{caps_of, incumbent, is_open, is_over, inherited, tree_of}
 use Rattle.sg_search.specs.Changes.{Change, Goes, Holds, IsStill, MayBegin, MaySplit, MayTake, Runs, begun, branches, ends, moves, sticks, takes, with_lane, works}
 use Rattle.sg_search.specs.ReportLaws.{IsReportOf}
@@ -35,6 +36,7 @@ use Rattle.sg_lp.specs.Moves.{AreAbove}
 use Rattle.sg_lp.specs.States.{start_of}
 use Rattle.sg_simplex.specs.declared.turn.Turn.TheVariants as turn
 use Rattle.sg_programs.specs.NodeTests.{StopsNode}
+use Rattle.sg_programs.specs.Plays.{plays_program}
 use Rattle.sg_programs.proofs.ListedPlays.{listing_is_method}
 use Rattle.sg_gap_laws.specs.Ends.{HasEnded, IsEndReport, cause_due}
 use Rattle.sg_gap_laws.specs.Examples.{WorkedEnds, both_open, both_stuck, passed_over, small_task, unseen, without_looks}
@@ -62,7 +64,7 @@ none-some h = cc
 
 not-held : (s : Search) → s.lanes ≡ None ∷ [] → (lane : ℕ) (node : Fix) (b : Bool) → Holds s lane node b → ⊥
 not-held s e zero node b h = let low = h.from_one in omega (arith, low)
-not-held s e (suc zero) node b h = none-some (sym (ap (λ (ls : List (Option Held)). Rattle.sg_model.specs.Sums.nth ls 1 None) e) ∙ h.held)
+not-held s e (suc zero) node b h = none-some (sym (ap (λ (ls : List (Option Held)). nth ls 1 None) e) ∙ h.held)
 not-held s e (suc (suc n)) node b h = let high = h.in_range in let l = ap length e in omega (arith, high, l)
 
 still-by : (p : Task) (s : Search) → s.lanes ≡ None ∷ [] → ((lane : ℕ) (node : Fix) → MayBegin p s lane → MayTake p s node → ⊥) → ((lane : ℕ) (acts : List ℕ) → MayBegin p s lane → MaySplit p s acts → ⊥) → IsStill p s
@@ -91,7 +93,7 @@ none-left node may = by may.waits.0 may.waits.1
         let part = subst (λ (x : List ℕ). IsPartOf one_player x node) (sym e) of in
         at-act part.act part.from_one part.in_range (ap (taken_count both_stuck) (sym part.node_is) ∙ fresh)
 
-    by : Rattle.sg_search.specs.Searches.IsKnown one_player both_stuck node → taken_count both_stuck node ≡ 0 → ⊥
+    by : IsKnown one_player both_stuck node → taken_count both_stuck node ≡ 0 → ⊥
     by (inl part) fresh = ⊎_elim (λ e. below part.0 e part.2 fresh) (λ later. none-in later) (either-in [] [] part.0 part.1)
     by (inr lone) fresh = let low = lone.from_two in let high = lone.type_in_range in omega (arith, low, high)
 
@@ -132,17 +134,17 @@ runs = passes [] 1 (omega arith) (omega arith) refl refl refl (passed_over 2 [])
 stops : (act : ℕ) → StopsNode one_player without_looks (prefix (act ∷ [])) (unseen act)
 stops act = record {
   moves = 0;
-  state = start_of (Rattle.sg_programs.specs.Plays.plays_program one_player (prefix (act ∷ []))).height;
+  state = start_of (plays_program one_player (prefix (act ∷ []))).height;
   answer = turn.LooksSpent;
   end = record {
     other = λ e. cc;
-    answers = record { run = refl; cause = record { above = zeros (Rattle.sg_programs.specs.Plays.plays_program one_player (prefix (act ∷ []))).height; answers = refl } };
+    answers = record { run = refl; cause = record { above = zeros (plays_program one_player (prefix (act ∷ []))).height; answers = refl } };
     first = λ j lt. absurd (omega (arith, lt));
   };
   says = (refl, refl, refl, refl);
 }
   where
-    zeros : (n : ℕ) → AreAbove (Rattle.std.specs.Prelude.replicate n (pos 0))
+    zeros : (n : ℕ) → AreAbove (replicate n (pos 0))
     zeros zero k lt = absurd (omega (arith, lt))
     zeros (suc n) zero lt = omega (arith, ints)
     zeros (suc n) (suc k) lt = zeros n k (omega (arith, lt))

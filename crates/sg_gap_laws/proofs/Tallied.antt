@@ -24,23 +24,17 @@ use Rattle.sg_search.specs.TreeLaws.{proved}
 use Rattle.sg_search.proofs.Capped.{kept-all, kept-le}
 use Rattle.sg_search.proofs.Enough.{counted, distinct, fixes, member}
 use Rattle.sg_search.proofs.Grown.{AreSplits}
-use Rattle.sg_search.proofs.Listing.{here-in, keyed-in, later-in, none-in}
+use Rattle.sg_search.proofs.Listing.{here-in, in-keyed, later-in, none-in}
 use Rattle.sg_search.proofs.Opened.{fact-some, fact-worked}
 use Rattle.sg_search.proofs.Placed.{one_if, same-is}
 use Rattle.sg_programs.specs.CauseRows.{plain_spare, proof_facts, spare_of, tree_facts}
 use Rattle.sg_gap_laws.proofs.Facts.{Differ, Stated, differ-append, differ-short, distinct-short, node_in, proof-differ, proof-fact, proof-has, tree-differ, tree-fact, tree-has}
-use Rattle.sg_gap_laws.proofs.Known.{worked-is}
+use Rattle.sg_gap_laws.proofs.Known.{found-in}
 use Rattle.sg_gap_laws.proofs.Open.{IsPlainCap, IsProvedCap, cap-cases}
 
 -- a node that was worked is among the worked ones
 pub count-in : (x : Fix) (ws : List Worked) → 1 ≤ count_by (λ (v : Worked). same x v.fix) ws → Contains (fixes ws) x
-count-in x [] h = absurd (omega (arith, h))
-count-in x (w ∷ ws) h =
-    let c = sum_by-cons (λ (v : Worked). cond (same x v.fix) 1 0) w ws in
-    ⊎_elim
-    (λ yes. subst (λ (y : Fix). Contains (fixes (w ∷ ws)) y) (sym (same-is x w.fix yes)) (here-in w.fix (fixes ws)))
-    (λ out. let z : one_if (same x w.fix) ≡ 0 = ap one_if out in later-in w.fix (fixes ws) x (count-in x ws (omega (arith, h, c, z))))
-    (cases_Bool (same x w.fix))
+count-in x ws h = let r = found-in (λ (w : Worked). w.fix) x ws h in subst (Contains (fixes ws)) r.2 (in-keyed (λ (w : Worked). w.fix) ws r.0 r.1)
 
 equal-or-more : (i j : ℕ) → j ≤ i → (i ≡ j) ⊎ (j + 1 ≤ i)
 equal-or-more i j h = grind (arith, h)

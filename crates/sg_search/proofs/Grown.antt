@@ -149,7 +149,7 @@ known-not_root g s (inl below) =
 known-not_root g s (inr lone) =
     let e : 0 ≡ 1 = ap (λ (f : Fix). length f.acts) lone.node_is in omega (arith, e)
 
-zero-or-more : (n : ℕ) → (n ≡ 0) ⊎ (1 ≤ n)
+pub zero-or-more : (n : ℕ) → (n ≡ 0) ⊎ (1 ≤ n)
 zero-or-more zero = inl refl
 zero-or-more (suc n) = inr (omega arith)
 

@@ -178,7 +178,7 @@ leaf-part p s acts act b low high unsplit e m =
     by None q = subst (λ (x : Option Fraction). Contains (listed x) b) (sym q) (0, omega arith, refl)
     by (Some f) q = subst (λ (x : Option Fraction). Contains (listed x) b) (sym q) (0, omega arith, refl)
 
-not-true : (t : Bool) → (t ≡ true → ⊥) → t ≡ false
+pub not-true : (t : Bool) → (t ≡ true → ⊥) → t ≡ false
 not-true true h = absurd (h refl)
 not-true false h = refl
 
