@@ -1,5 +1,5 @@
 -- Which causes of a gap never come where budgets are enough.
-use Rattle.std.proofs.Common.{◌≡◌, ◌≢◌, ◌⊎◌, ℕ, ◌≤◌, ◌<◌, true≢false, List, [], length, sym, ◌∙◌, ap, subst, refl, arith, inl, inr, ⊎_elim, Contains}
+use Rattle.std.proofs.Common.{◌≡◌, ◌≢◌, ◌⊎◌, ℕ, ◌≤◌, ◌<◌, true≢false, sym, ◌∙◌, subst, arith, inl, inr, ⊎_elim, Contains}
 use Rattle.sg_num.specs.declared.step.Wide.{Wide}
 use Rattle.sg_model.specs.Games.{Game}
 use Rattle.sg_tree.specs.declared.fix.Fix.{Fix}

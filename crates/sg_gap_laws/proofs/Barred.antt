@@ -2,7 +2,6 @@
 use Rattle.std.proofs.Common.{◌≡◌, ◌⊎◌, ℕ, zero, suc, ◌+◌, ◌≤◌, ◌<◌, Bool, true, false, true≢false, cond, List, [], ◌∷◌, ◌++◌, map, length, Option, Some, None, sym, ◌∙◌, ap, subst, refl, arith, inl, inr, ⊎_elim, Contains}
 use Rattle.std.specs.List.{All}
 use Rattle.std.specs.Prelude.{option_and_then}
-use Rattle.std.proofs.lemmas.Bool.{cases_Bool}
 use Rattle.std.proofs.lemmas.List.{length_push}
 use Rattle.std.proofs.lemmas.List.Elements.{All-append, All-cons, All-nil}
 use Rattle.sg_frac.specs.Fractions.{Fraction}
@@ -12,11 +11,11 @@ use Rattle.sg_tree.specs.declared.fact.Fact.{Fact}
 use Rattle.sg_tree.specs.declared.fix.Fix.{Fix}
 use Rattle.sg_tree.specs.declared.report.Cap.{Cap}
 use Rattle.sg_bounds.specs.Accepted.{IsNotAbove}
-use Rattle.sg_bounds.specs.Leaves.{base_bound, fact_bound, leaf_bounds, listed, part_bounds, root_bound, tree_bounds_of}
+use Rattle.sg_bounds.specs.Leaves.{base_bound, fact_bound, leaf_bounds, listed, part_bounds, root_bound}
 use Rattle.sg_bounds.specs.Regions.{prefix}
 use Rattle.sg_bounds.specs.Trees.{Node, parts_of, split}
 use Rattle.sg_search.specs.Searches.{Task, Search, worked_count, ArePlaced, IsPartOf}
-use Rattle.sg_search.specs.Bounding.{caps_of, exceeds, fact_of, inherited, is_over, is_split, leaf_with, lower, own_bound, tree_at, tree_of}
+use Rattle.sg_search.specs.Bounding.{caps_of, exceeds, fact_of, inherited, is_over, is_split, leaf_with, lower, tree_at}
 use Rattle.sg_search.specs.Changes.{MaySplit}
 use Rattle.sg_search.specs.EndLaws.{IsClosed}
 use Rattle.sg_search.proofs.Grown.{AreSplits, split-yes, zero-or-more}

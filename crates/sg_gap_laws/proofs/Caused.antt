@@ -1,10 +1,7 @@
 -- The cause of a gap is so, and which causes never come.
-use Rattle.std.proofs.Common.{◌≡◌, ◌≢◌, ◌⊎◌, ℕ, zero, suc, ◌+◌, ◌-◌, ◌≤◌, ◌<◌, Bool, true, false, true≢false, cond, List, [], ◌∷◌, ◌++◌, map, length, get_or, flat_map, sum_by, count_by, Option, Some, None, sym, ◌∙◌, ap, subst, refl, arith, inl, inr, ⊎_elim, Contains}
+use Rattle.std.proofs.Common.{◌≡◌, ◌⊎◌, ℕ, ◌+◌, ◌-◌, ◌≤◌, ◌<◌, true, false, true≢false, List, [], ◌∷◌, ◌++◌, length, get_or, flat_map, sum_by, count_by, Option, Some, None, sym, ◌∙◌, ap, subst, refl, arith, inl, inr, ⊎_elim, Contains}
 use Rattle.std.specs.List.{All}
-use Rattle.std.proofs.lemmas.Bool.{cases_Bool}
 use Rattle.std.proofs.lemmas.List.Elements.{All-contains, All-map, Contains-get_or}
-use Rattle.std.proofs.lemmas.List.Sums.{sum_by-cons}
-use Rattle.sg_num.specs.declared.step.Wide.{Wide}
 use Rattle.sg_frac.specs.Fractions.{Fraction}
 use Rattle.sg_model.specs.Sums.{numbers_from}
 use Rattle.sg_model.specs.Games.{Game, action_count}
@@ -14,7 +11,6 @@ use Rattle.sg_tree.specs.declared.fix.Fix.{Fix}
 use Rattle.sg_tree.specs.declared.report.Cap.{Cap}
 use Rattle.sg_tree.specs.declared.report.Cause.{Cause}
 use Rattle.sg_tree.specs.declared.report.Cause.TheVariants as cause
-use Rattle.sg_tree.specs.declared.report.Ending.{Ending}
 use Rattle.sg_tree.specs.declared.report.Ending.TheVariants.{Optimal, Gap}
 use Rattle.sg_tree.specs.declared.report.Report.{Report}
 use Rattle.sg_tree.specs.declared.worked.Worked.{Worked}
@@ -24,26 +20,21 @@ use Rattle.sg_bounds.specs.Leaves.{root_bound}
 use Rattle.sg_bounds.specs.Regions.{IsNode, alone, prefix}
 use Rattle.sg_bounds.specs.Trees.{Node, node_of}
 use Rattle.sg_search.specs.declared.held.Stuck.{Stuck}
-use Rattle.sg_search.specs.Searches.{Task, Search, same, stuck_count, worked_count, IsCapNode, IsKnown, IsPartOf}
-use Rattle.sg_search.specs.Bounding.{cap_at, cap_facts, caps_of, fact_of, inherited, is_over, lower, tree_of}
-use Rattle.sg_search.specs.CountLaws.{enough_nodes}
+use Rattle.sg_search.specs.Searches.{Task, Search, same, stuck_count, worked_count, IsKnown}
+use Rattle.sg_search.specs.Bounding.{cap_at, cap_facts, caps_of, fact_of, is_over, lower}
 use Rattle.sg_search.specs.EndLaws.{IsBarred, IsClosed}
 use Rattle.sg_search.specs.ReportLaws.{IsReportOf}
-use Rattle.sg_search.specs.Results.{IsPointOf, IsResult}
+use Rattle.sg_search.specs.Results.{IsPointOf}
 use Rattle.sg_search.proofs.Capped.{cap-is}
 use Rattle.sg_search.proofs.Grown.{worked-parent, zero-or-more}
-use Rattle.sg_search.proofs.Listing.{here-in, later-in}
+use Rattle.sg_search.proofs.Listing.{here-in}
 use Rattle.sg_search.proofs.Opened.{fact-some}
-use Rattle.sg_search.proofs.Placed.{one_if, same-is}
 use Rattle.sg_search.proofs.Ranges.{fact-source}
-use Rattle.sg_lp.specs.Programs.{enough_pivots}
 use Rattle.sg_programs.specs.CauseRows.{AreLeavesBarred, AreNodesSpent, HasParent, IsCapBarred, IsFinalFact, IsGapCause, IsOpenAt, IsOverValue, IsReportBarred, IsStuckUnder, NodeCause, SpendsNodes, StaysUnproved, spare_of, stated_facts, tree_facts}
-use Rattle.sg_programs.specs.Enough.{enough_looks, node_budget}
+use Rattle.sg_programs.specs.Enough.{node_budget}
 use Rattle.sg_programs.specs.NodeTests.{ClosesNode, Method, StopsNode}
-use Rattle.sg_programs.specs.Plays.{plays_program}
-use Rattle.sg_programs.proofs.NodeEnds.{pivots_are_few, stop_is_cause}
+use Rattle.sg_programs.proofs.NodeEnds.{stop_is_cause}
 use Rattle.sg_gap_laws.specs.Ends.{HasEnded, IsEndReport, cause_due, first_cause}
-use Rattle.sg_gap_laws.specs.EnoughLaws.{AreEnough, EnoughLeavesWide, NoGapOfLooks, NoGapOfNodes, NoGapOfPivots}
 use Rattle.sg_gap_laws.specs.GapLaws.{GapIsCaused}
 use Rattle.sg_gap_laws.proofs.Barred.{tree-barred, tree-closed}
 use Rattle.sg_gap_laws.proofs.Compared.{above-same}
@@ -52,7 +43,7 @@ use Rattle.sg_gap_laws.proofs.Known.{found-in, stuck-is, stuck-nodes, worked-is}
 use Rattle.sg_gap_laws.proofs.Open.{IsPlainCap, IsProvedCap, cap-cases, plain-unworked, tree-open, unworked-plain}
 use Rattle.sg_gap_laws.proofs.Reached.{closed-optimal, ended, facts, is_peopled, lower-positive, placed, results, sound, splits, value-positive, value-same}
 use Rattle.sg_gap_laws.proofs.Short.{full-low, short}
-use Rattle.sg_gap_laws.proofs.Tallied.{cap_part, count-in, facts_of, few, near, stated-worked}
+use Rattle.sg_gap_laws.proofs.Tallied.{cap_part, facts_of, few, near, stated-worked}
 
 -- ---- the cause that is due
 
@@ -134,14 +125,26 @@ module _ (m : Method) (p : Task) (t : Search) (h : HasEnded p.game m p t) where
         by (inl below) =
             let part = below.2 in
             let acts : List ℕ = below.0 ++ (part.act ∷ []) in
-            inl (acts, (part.node_is, subst (λ (n : Node). IsOpenAt n acts) (sym of.tree)
-            (tree-open p t (placed m p t h) (splits m p t h) below.0 below.1 part.act part.from_one part.in_range (ap (worked_count t) (sym part.node_is) ∙ fresh))))
-        by (inr lone) = inr (lone.l, (lone.act, (
-          lone.from_two,
-          lone.node_is,
-          ap (λ (cs : List Cap). (cap_of cs lone.l).proof) of.caps ∙ ap (λ (c : Cap). c.proof) (cap-is g t lone.l lone.from_two lone.type_in_range)
-              ∙ unworked-plain g t lone.l lone.act lone.from_one lone.in_range (ap (worked_count t) (sym lone.node_is) ∙ fresh),
-        )))
+            inl (
+              acts,
+              (
+                part.node_is,
+                subst (λ (n : Node). IsOpenAt n acts) (sym of.tree)
+                    (tree-open p t (placed m p t h) (splits m p t h) below.0 below.1 part.act part.from_one part.in_range (ap (worked_count t) (sym part.node_is) ∙ fresh)),
+              ),
+            )
+        by (inr lone) = inr (
+          lone.l,
+          (
+            lone.act,
+            (
+              lone.from_two,
+              lone.node_is,
+              ap (λ (cs : List Cap). (cap_of cs lone.l).proof) of.caps ∙ ap (λ (c : Cap). c.proof) (cap-is g t lone.l lone.from_two lone.type_in_range)
+                  ∙ unworked-plain g t lone.l lone.act lone.from_one lone.in_range (ap (worked_count t) (sym lone.node_is) ∙ fresh),
+            ),
+          ),
+        )
 
     -- ---- what is open is stuck
 

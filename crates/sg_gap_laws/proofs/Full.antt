@@ -1,12 +1,12 @@
 -- The bound of a fact that fixes all types isn't above the value of the point that reaches the fact.
 use Rattle.std.proofs.Common.{◌≡◌, ℕ, suc, ◌+◌, ◌-◌, ◌<◌, ◌≤◌, Bool, true, false, cond, List, [], ◌∷◌, length, Option, Some, None, ℤ, pos, ◌+ℤ◌, ◌-ℤ◌, ◌*ℤ◌, ◌≤ℤ◌, sym, ◌∙◌, ap, subst, refl, arith}
 use Rattle.std.specs.List.{All, zip}
-use Rattle.std.specs.Prelude.{int_lt, slice_index, IfSome}
+use Rattle.std.specs.Prelude.{int_lt, slice_index}
 use Rattle.std.proofs.lemmas.Int.{ints}
 use Rattle.std.proofs.lemmas.List.Elements.{All-head, All-tail}
 use Rattle.sg_frac.specs.Fractions.{Fraction}
 use Rattle.sg_model.specs.Sums.{numbers, numbers_from, total}
-use Rattle.sg_model.specs.Games.{Game, action_count, attacker, prior_total}
+use Rattle.sg_model.specs.Games.{Game, attacker, prior_total}
 use Rattle.sg_model.specs.Payoffs.{IsPeopled, shift_of}
 use Rattle.sg_model.specs.Commitments.{is_best, sum_d, take_of, weight_total, worth}
 use Rattle.sg_model.specs.declared.ticket.Ticket.{Ticket}

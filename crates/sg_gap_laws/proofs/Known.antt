@@ -1,5 +1,5 @@
 -- The nodes that a search knows are nodes of the game.
-use Rattle.std.proofs.Common.{◌≡◌, ◌≢◌, ◌⊎◌, ℕ, zero, suc, ◌+◌, ◌≤◌, true, cond, List, [], ◌∷◌, ◌++◌, length, get_or, count_by, sym, ◌∙◌, ap, subst, refl, arith, inl, inr, ⊎_elim, Contains, append_assoc, length-append}
+use Rattle.std.proofs.Common.{◌≡◌, ℕ, suc, ◌+◌, ◌≤◌, cond, List, [], ◌∷◌, ◌++◌, length, get_or, count_by, sym, ◌∙◌, ap, subst, refl, arith, inl, inr, ⊎_elim, Contains, append_assoc, length-append}
 use Rattle.std.specs.List.{All, zip}
 use Rattle.std.proofs.lemmas.Bool.{cases_Bool}
 use Rattle.std.proofs.lemmas.List.{length_push, same_from_push}
@@ -9,7 +9,7 @@ use Rattle.sg_model.specs.Sums.{numbers_from}
 use Rattle.sg_model.specs.Games.{Game, action_count}
 use Rattle.sg_tree.specs.declared.fix.Fix.{Fix}
 use Rattle.sg_tree.specs.declared.worked.Worked.{Worked}
-use Rattle.sg_bounds.specs.Regions.{IsFix, IsNode, alone, prefix}
+use Rattle.sg_bounds.specs.Regions.{IsNode, prefix}
 use Rattle.sg_search.specs.declared.held.Stuck.{Stuck}
 use Rattle.sg_search.specs.Searches.{Task, Search, same, worked_count, stuck_count, ArePlaced, IsCapNode, IsKnown, IsPartOf}
 use Rattle.sg_search.proofs.Listing.{here-in, later-in}

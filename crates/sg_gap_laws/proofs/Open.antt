@@ -1,5 +1,5 @@
 -- What stays unproved: a part of the tree that isn't worked, and the cap of a type with a node that isn't.
-use Rattle.std.proofs.Common.{◌≡◌, ◌⊎◌, ℕ, zero, suc, ◌+◌, ◌-◌, ◌≤◌, ◌<◌, nat_eq, Bool, true, false, true≢false, cond, List, [], ◌∷◌, ◌++◌, map, length, Option, Some, None, sym, ◌∙◌, ap, subst, refl, arith, inl, inr, ⊎_elim, Contains, append-nil, append_assoc, length-append}
+use Rattle.std.proofs.Common.{◌≡◌, ◌⊎◌, ℕ, zero, suc, ◌+◌, ◌≤◌, ◌<◌, nat_eq, Bool, true, false, true≢false, cond, List, [], ◌∷◌, ◌++◌, map, length, Option, Some, None, sym, ◌∙◌, ap, subst, refl, arith, inl, inr, ⊎_elim, Contains, append-nil, append_assoc, length-append}
 use Rattle.std.specs.Prelude.{filter_map}
 use Rattle.std.proofs.lemmas.Bool.{cases_Bool, eq-eqb, eqb-true}
 use Rattle.std.proofs.lemmas.List.{length_push}
@@ -7,12 +7,11 @@ use Rattle.sg_model.specs.Sums.{greatest, numbers, numbers_from}
 use Rattle.sg_model.specs.Games.{Game, action_count}
 use Rattle.sg_model.specs.Payoffs.{greatest_of}
 use Rattle.sg_tree.specs.declared.fact.Fact.{Fact}
-use Rattle.sg_tree.specs.declared.fix.Fix.{Fix}
 use Rattle.sg_tree.specs.declared.report.Cap.{Cap}
 use Rattle.sg_bounds.specs.Facts.{no_fact}
 use Rattle.sg_bounds.specs.Regions.{alone, prefix}
-use Rattle.sg_bounds.specs.Trees.{Node, Parts, closed, end, part, parts_of, split, unproved}
-use Rattle.sg_search.specs.Searches.{Task, Search, worked_count, ArePlaced, IsPartOf}
+use Rattle.sg_bounds.specs.Trees.{Node, parts_of, split}
+use Rattle.sg_search.specs.Searches.{Task, Search, worked_count, ArePlaced}
 use Rattle.sg_search.specs.Bounding.{cap_at, cap_facts, fact_of, is_split, leaf_with, least_cap, tree_at, tree_of}
 use Rattle.sg_search.proofs.Capped.{kept-all}
 use Rattle.sg_search.proofs.Grown.{AreSplits, ancestors, fact-none, split-yes}

@@ -1,28 +1,28 @@
 -- What holds where a search has ended, and of its report.
-use Rattle.std.proofs.Common.{◌≡◌, ◌⊎◌, Bool, true, false, true≢false, List, [], ◌∷◌, length, get_or, ℤ, pos, ◌*ℤ◌, ◌≤ℤ◌, ◌≤◌, suc, sym, ◌∙◌, ap, subst, refl, arith, Contains, ⊎_elim, Option, Some, None}
+use Rattle.std.proofs.Common.{◌≡◌, true, false, true≢false, List, get_or, ℤ, pos, ◌*ℤ◌, ◌≤ℤ◌, sym, ◌∙◌, ap, subst, arith, Contains, ⊎_elim, Option, Some, None}
 use Rattle.std.specs.List.{All}
 use Rattle.std.specs.Prelude.{int_lt, IfSome}
 use Rattle.std.proofs.lemmas.Int.{ints}
 use Rattle.std.proofs.lemmas.Bool.{cases_Bool}
-use Rattle.std.proofs.lemmas.List.Elements.{All-contains, All-head, All-tail, All-weaker}
+use Rattle.std.proofs.lemmas.List.Elements.{All-contains, All-head, All-weaker}
 use Rattle.sg_frac.specs.Fractions.{Fraction}
 use Rattle.sg_frac.proofs.Apart.{same_by_cross}
 use Rattle.sg_model.specs.Games.{Game, prior_total}
 use Rattle.sg_model.specs.Limits.{is_scaled}
 use Rattle.sg_model.specs.Payoffs.{IsPeopled}
-use Rattle.sg_model.specs.Commitments.{IsCommitment, IsValue, weight_total, worth}
+use Rattle.sg_model.specs.Commitments.{IsValue, weight_total}
 use Rattle.sg_model.specs.declared.ticket.Ticket.{Ticket}
 use Rattle.sg_model.proofs.Ints.{v, times, same_by}
 use Rattle.sg_model.proofs.Promises.{peopled}
 use Rattle.sg_commit.specs.Committed.{Committed}
 use Rattle.sg_tree.specs.declared.report.Report.{Report}
 use Rattle.sg_tree.specs.declared.worked.Worked.{Worked}
-use Rattle.sg_bounds.specs.Accepted.{IsAccepted, IsNotAbove, IsSame, IsSplitTree, is_optimal}
+use Rattle.sg_bounds.specs.Accepted.{IsAccepted, IsNotAbove, IsSame, is_optimal}
 use Rattle.sg_bounds.specs.Leaves.{tree_bounds_of}
 use Rattle.sg_bounds.specs.Trees.{node_of}
 use Rattle.sg_bounds.specs.Regions.{IsNode}
 use Rattle.sg_search.specs.declared.held.Stuck.{Stuck}
-use Rattle.sg_search.specs.Searches.{Task, Search, first_search, ArePlaced}
+use Rattle.sg_search.specs.Searches.{Task, Search, ArePlaced}
 use Rattle.sg_search.specs.Bounding.{caps_of, exceeds, incumbent, lower, tree_of, value_fraction}
 use Rattle.sg_search.specs.EndLaws.{IsClosed, IsEnded}
 use Rattle.sg_search.specs.ReportLaws.{IsReportOf}
@@ -39,7 +39,7 @@ use Rattle.sg_programs.specs.NodeTests.{Method}
 use Rattle.sg_programs.proofs.NodeEnds.{closed_is_result}
 use Rattle.sg_gap_laws.specs.Ends.{HasEnded}
 use Rattle.sg_gap_laws.specs.GapLaws.{EndIsAccepted, PointsAreNotAbove, StuckAreNodes, ValueIsBelow, WorkedAreResults}
-use Rattle.sg_gap_laws.proofs.Compared.{IsOverOne, below-chain, below-same, not-both, tree-positive}
+use Rattle.sg_gap_laws.proofs.Compared.{IsOverOne, below-chain, below-same, tree-positive}
 use Rattle.sg_gap_laws.proofs.Known.{stuck-nodes, worked-nodes}
 
 module _ (m : Method) (p : Task) (t : Search) (h : HasEnded p.game m p t) where

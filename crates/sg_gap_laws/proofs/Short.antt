@@ -1,5 +1,5 @@
 -- Where a search's bounds don't meet, fewer nodes were worked than are enough.
-use Rattle.std.proofs.Common.{◌≡◌, ◌⊎◌, ℕ, zero, suc, ◌+◌, ◌-◌, ◌≤◌, ◌<◌, nat_eq, Bool, true, false, true≢false, cond, List, [], ◌∷◌, length, get_or, sum_by, count_by, Option, Some, None, pos, ◌≤ℤ◌, sym, ◌∙◌, ap, subst, refl, arith, inl, inr, ⊎_elim, Contains}
+use Rattle.std.proofs.Common.{◌≡◌, ◌⊎◌, ℕ, zero, suc, ◌+◌, ◌-◌, ◌≤◌, ◌<◌, nat_eq, Bool, true, false, true≢false, cond, List, [], ◌∷◌, length, sum_by, count_by, Option, Some, None, pos, ◌≤ℤ◌, sym, ◌∙◌, ap, subst, refl, arith, inl, ⊎_elim, Contains}
 use Rattle.std.specs.List.{All}
 use Rattle.std.specs.Prelude.{IfSome}
 use Rattle.std.proofs.lemmas.Bool.{cases_Bool, eqb-true, false_from_ne_true}
@@ -18,8 +18,7 @@ use Rattle.sg_bounds.specs.Leaves.{fact_bound}
 use Rattle.sg_bounds.specs.Regions.{IsFix, prefix}
 use Rattle.sg_bounds.proofs.Caps.{holds-rho}
 use Rattle.sg_search.specs.Searches.{Task, Search, same, worked_count, IsPartOf}
-use Rattle.sg_search.specs.Bounding.{caps_of, exceeds, fact_of, is_over, lower, value_fraction}
-use Rattle.sg_search.specs.Changes.{MaySplit}
+use Rattle.sg_search.specs.Bounding.{caps_of, fact_of, is_over, lower, value_fraction}
 use Rattle.sg_search.specs.CountLaws.{enough_nodes, prefix_count}
 use Rattle.sg_search.specs.EndLaws.{IsClosed}
 use Rattle.sg_search.specs.Results.{IsPointOf, IsResult}
@@ -32,7 +31,7 @@ use Rattle.sg_programs.specs.NodeTests.{Method}
 use Rattle.sg_gap_laws.specs.Ends.{HasEnded}
 use Rattle.sg_gap_laws.proofs.Barred.{tree-closed}
 use Rattle.sg_gap_laws.proofs.Compared.{below-chain, not-both}
-use Rattle.sg_gap_laws.proofs.Facts.{distinct-short, from-member}
+use Rattle.sg_gap_laws.proofs.Facts.{distinct-short}
 use Rattle.sg_gap_laws.proofs.Full.{full-below}
 use Rattle.sg_gap_laws.proofs.Reached.{is_peopled, lower-positive, placed, results, sound, splits}
 

@@ -1,12 +1,10 @@
 -- The ends of small searches, by computing.
-use Rattle.std.proofs.Common.{◌≡◌, ◌⊎◌, ℕ, zero, suc, ◌+◌, ◌<◌, ◌≤◌, Bool, true, false, true≢false, List, [], ◌∷◌, ◌++◌, length, replicate, Option, Some, None, pos, ◌≤ℤ◌, sym, ◌∙◌, ap, subst, refl, arith, inl, inr, ⊎_elim, Contains}
-use Rattle.std.specs.List.{All}
+use Rattle.std.proofs.Common.{◌≡◌, ℕ, zero, suc, ◌≤◌, Bool, true, false, true≢false, List, [], ◌∷◌, ◌++◌, length, replicate, Option, Some, None, pos, sym, ◌∙◌, ap, subst, refl, arith, inl, inr, ⊎_elim}
 use Rattle.std.proofs.lemmas.Int.{ints}
 use Rattle.std.proofs.lemmas.List.Elements.{All-cons, All-nil}
 use Rattle.sg_num.specs.Exact.{Fits}
 use Rattle.sg_frac.specs.Fractions.{Fraction}
 use Rattle.sg_model.specs.Examples.{one_player}
-use Rattle.sg_model.specs.Games.{action_count}
 use Rattle.sg_model.specs.Limits.{IsGame}
 use Rattle.sg_model.specs.Sums.{nth}
 use Rattle.sg_model.proofs.Deciding.{at_most_z}
@@ -26,9 +24,9 @@ use Rattle.sg_bounds.proofs.Nodes.{node_of-Unproved}
 use Rattle.sg_bounds.proofs.Worked.{one_more, reduced, split-nodes, worked_reports}
 use Rattle.sg_search.specs.declared.held.Held.{Held}
 use Rattle.sg_search.specs.declared.held.Stuck.{Stuck}
-use Rattle.sg_search.specs.Searches.{Task, Search, first_search, lane_at, taken_count, IsKnown, IsPartOf}
+use Rattle.sg_search.specs.Searches.{Task, Search, first_search, taken_count, IsKnown, IsPartOf}
 use Rattle.sg_search.specs.Bounding.{caps_of, incumbent, is_open, is_over, inherited, tree_of}
-use Rattle.sg_search.specs.Changes.{Change, Goes, Holds, IsStill, MayBegin, MaySplit, MayTake, Runs, begun, branches, ends, moves, sticks, takes, with_lane, works}
+use Rattle.sg_search.specs.Changes.{Change, Holds, IsStill, MayBegin, MaySplit, MayTake, Runs, branches, ends, moves, sticks, takes, works}
 use Rattle.sg_search.specs.ReportLaws.{IsReportOf}
 use Rattle.sg_search.specs.Results.{IsFirst}
 use Rattle.sg_search.proofs.Listing.{either-in, none-in}
@@ -38,7 +36,6 @@ use Rattle.sg_simplex.specs.declared.turn.Turn.TheVariants as turn
 use Rattle.sg_programs.specs.NodeTests.{StopsNode}
 use Rattle.sg_programs.specs.Plays.{plays_program}
 use Rattle.sg_programs.proofs.ListedPlays.{listing_is_method}
-use Rattle.sg_gap_laws.specs.Ends.{HasEnded, IsEndReport, cause_due}
 use Rattle.sg_gap_laws.specs.Examples.{WorkedEnds, both_open, both_stuck, passed_over, small_task, unseen, without_looks}
 
 -- ---- the game and the first commitment

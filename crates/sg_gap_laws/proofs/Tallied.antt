@@ -1,16 +1,15 @@
 -- The facts that a search states are those of worked nodes, all but some of the types whose cap is plain.
 use Rattle.std.proofs.Common.{◌≡◌, ◌⊎◌, ℕ, zero, suc, ◌+◌, ◌-◌, ◌≤◌, ◌<◌, Bool, true, false, true≢false, cond, nat_eq, List, [], ◌∷◌, ◌++◌, map, length, get_or, flat_map, sum_by, count_by, option_map, Option, Some, None, sym, ◌∙◌, ap, subst, refl, arith, inl, inr, ⊎_elim, Contains, length-append}
 use Rattle.std.specs.Prelude.{filter_map}
-use Rattle.std.specs.List.{All, cons_option}
-use Rattle.std.proofs.lemmas.Bool.{cases_Bool, eq-eqb, eqb-true}
+use Rattle.std.specs.List.{cons_option}
+use Rattle.std.proofs.lemmas.Bool.{eq-eqb, eqb-true}
 use Rattle.std.proofs.lemmas.List.{length-map}
 use Rattle.std.proofs.lemmas.List.Concat.{flat_map-cons}
-use Rattle.std.proofs.lemmas.List.Elements.{Contains-append_cases, Contains-append_left, Contains-append_right, Contains-get_or}
+use Rattle.std.proofs.lemmas.List.Elements.{Contains-append_cases, Contains-append_left, Contains-append_right}
 use Rattle.std.proofs.lemmas.List.Sums.{sum_by-cons}
 use Rattle.sg_model.specs.Sums.{greatest, numbers, numbers_from}
 use Rattle.sg_model.specs.Games.{Game, action_count}
 use Rattle.sg_model.specs.Payoffs.{greatest_of}
-use Rattle.sg_model.proofs.Numbers.{length-numbers_from}
 use Rattle.sg_model.proofs.Payoffs.{Contains-flat_map, Contains-map, Contains-numbers_from}
 use Rattle.sg_tree.specs.declared.fact.Fact.{Fact}
 use Rattle.sg_tree.specs.declared.fix.Fix.{Fix}
@@ -18,7 +17,7 @@ use Rattle.sg_tree.specs.declared.report.Cap.{Cap}
 use Rattle.sg_tree.specs.declared.worked.Worked.{Worked}
 use Rattle.sg_bounds.specs.Facts.{no_fact}
 use Rattle.sg_bounds.specs.Regions.{alone, prefix}
-use Rattle.sg_search.specs.Searches.{Task, Search, same, worked_count, ArePlaced, IsCapNode, IsKnown}
+use Rattle.sg_search.specs.Searches.{Task, Search, same, worked_count, ArePlaced, IsKnown}
 use Rattle.sg_search.specs.Bounding.{cap_at, cap_facts, caps_of, fact_of, least_cap, tree_of}
 use Rattle.sg_search.specs.TreeLaws.{proved}
 use Rattle.sg_search.proofs.Capped.{kept-all, kept-le}
@@ -26,8 +25,7 @@ use Rattle.sg_search.proofs.Enough.{counted, distinct, fixes, member}
 use Rattle.sg_search.proofs.Grown.{AreSplits}
 use Rattle.sg_search.proofs.Listing.{here-in, in-keyed, later-in, none-in}
 use Rattle.sg_search.proofs.Opened.{fact-some, fact-worked}
-use Rattle.sg_search.proofs.Placed.{one_if, same-is}
-use Rattle.sg_programs.specs.CauseRows.{plain_spare, proof_facts, spare_of, tree_facts}
+use Rattle.sg_programs.specs.CauseRows.{proof_facts, spare_of, tree_facts}
 use Rattle.sg_gap_laws.proofs.Facts.{Differ, Stated, differ-append, differ-short, distinct-short, node_in, proof-differ, proof-fact, proof-has, tree-differ, tree-fact, tree-has}
 use Rattle.sg_gap_laws.proofs.Known.{found-in}
 use Rattle.sg_gap_laws.proofs.Open.{IsPlainCap, IsProvedCap, cap-cases}
