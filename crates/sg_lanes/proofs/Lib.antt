@@ -2,6 +2,9 @@ pub mod Totals
 pub mod Rounded
 pub mod Capping
 pub mod Toplevel
+pub mod Renewed
+pub mod TopsRipe
+pub mod CapKept
 pub mod Bounded
 pub mod Sifted
 pub mod Lanewise
