@@ -232,7 +232,7 @@ ranged-fact g is_peopled few small fix is_fix rho mu marks holds point is_point 
 
 -- ---- the fact of a closed node
 
-marks-few : (ms : List (ℕ × ℕ)) (vs : List ℤ) → length (marks_of ms vs) ≤ length ms
+pub marks-few : (ms : List (ℕ × ℕ)) (vs : List ℤ) → length (marks_of ms vs) ≤ length ms
 marks-few [] vs = omega arith
 marks-few (m ∷ ms) [] = omega arith
 marks-few (m ∷ ms) (z ∷ vs) = by (int_lt (pos 0) z) (marks-few ms vs)

@@ -9,3 +9,6 @@ pub mod Causes
 pub mod Budgets
 pub mod Reports
 pub mod Lengths
+pub mod Counting
+pub mod Short
+pub mod Shortness
