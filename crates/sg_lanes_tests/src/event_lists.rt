@@ -1,4 +1,4 @@
-//! All lists of up to five events, beside a plain machine.
+//! All lists of up to five events, beside a plain machine; where a prefix is to be split, and after it, of up to four.
 
 use crate::games::TWO_TYPES;
 use crate::plain::{Answer, Plain};
@@ -11,20 +11,24 @@ use sg_tree::Fix;
 use std::alloc::{AllocError, Global};
 use std::test::Fail;
 
-/// The events of the lists: nodes are begun by several numbers, and one number is always too high.
-static EVENTS: [Event; 8] = [
+/// The events of the lists. The number by which the second lane begins is too high where one node alone may be chosen.
+static EVENTS: [Event; 6] = [
     Event::Begin(1, 0),
-    Event::Begin(1, 2),
     Event::Begin(2, 1),
-    Event::Begin(2, 4),
     Event::Turn(1),
     Event::Turn(2),
     Event::Finish(1),
     Event::Finish(2),
 ];
 
-/// How many lists of five there are.
-const LISTS: u32 = 32768;
+/// How many lists of so many events there are.
+fn list_count(length: u8) -> u32 {
+    let mut count = 1u32;
+    for _ in 0..length {
+        count = count.saturating_mul(6);
+    }
+    count
+}
 
 /// The events by which a lane works the first four nodes.
 static FOUR: [Event; 18] = [
@@ -103,11 +107,11 @@ fn agree(alloc: Global, session: &mut Session<'_>, plain: &mut Plain, events: &[
     Ok(true)
 }
 
-/// Whether the list of a number does: its events are the number's digits in base 8.
-fn agrees_on(alloc: Global, session: &mut Session<'_>, plain: &mut Plain, number: u32) -> Result<bool, AllocError> {
+/// Whether the list of a number does: its events are the number's digits in base 6.
+fn agrees_on(alloc: Global, session: &mut Session<'_>, plain: &mut Plain, length: u8, number: u32) -> Result<bool, AllocError> {
     let mut left = number;
-    for _ in 0..5u8 {
-        match EVENTS.get(left as usize % 8) {
+    for _ in 0..length {
+        match EVENTS.get(left as usize % 6) {
             Some(event) => {
                 if !agrees(alloc, session, plain, *event)? {
                     return Ok(false);
@@ -115,30 +119,39 @@ fn agrees_on(alloc: Global, session: &mut Session<'_>, plain: &mut Plain, number
             }
             None => return Ok(false),
         }
-        left /= 8;
+        left /= 6;
     }
     Ok(true)
 }
 
-/// Whether the list of a number does, after some first events, with so many lanes.
-fn agrees_after(alloc: Global, game: &Game, lanes: u8, first: &[Event], second: &[Event], number: u32) -> Result<bool, AllocError> {
-    let mut plain = Plain::new(lanes);
-    match Session::new(alloc, game, lanes, 100, 1000)? {
+/// Events before a list, with so many lanes, and how many events the list has.
+#[derive(Clone, Copy)]
+struct After<'a> {
+    lanes: u8,
+    first: &'a [Event],
+    second: &'a [Event],
+    length: u8,
+}
+
+/// Whether the list of a number does, after some first events.
+fn agrees_after(alloc: Global, game: &Game, after: After<'_>, number: u32) -> Result<bool, AllocError> {
+    let mut plain = Plain::new(after.lanes);
+    match Session::new(alloc, game, after.lanes, 100, 1000)? {
         Some(session) => {
             let mut session = session;
-            Ok(agree(alloc, &mut session, &mut plain, first)?
-                && agree(alloc, &mut session, &mut plain, second)?
-                && agrees_on(alloc, &mut session, &mut plain, number)?)
+            Ok(agree(alloc, &mut session, &mut plain, after.first)?
+                && agree(alloc, &mut session, &mut plain, after.second)?
+                && agrees_on(alloc, &mut session, &mut plain, after.length, number)?)
         }
         None => Ok(false),
     }
 }
 
-/// The number of the first list of five that doesn't, after some first events, with so many lanes.
-fn first_wrong(alloc: Global, lanes: u8, first: &[Event], second: &[Event]) -> Result<Option<u32>, Fail> {
+/// The number of the first list that doesn't, after some first events.
+fn first_wrong(alloc: Global, after: After<'_>) -> Result<Option<u32>, Fail> {
     let game = read_game(alloc, TWO_TYPES.as_bytes())?;
-    for number in 0..LISTS {
-        if !agrees_after(alloc, &game, lanes, first, second, number)? {
+    for number in 0..list_count(after.length) {
+        if !agrees_after(alloc, &game, after, number)? {
             return Ok(Some(number));
         }
     }
@@ -146,15 +159,29 @@ fn first_wrong(alloc: Global, lanes: u8, first: &[Event], second: &[Event]) -> R
 }
 
 #[test]
-fn lists_of_events_from_the_start(rt: HostRuntime) -> Result<(), Fail> {
-    assert_eq!(rt; first_wrong(rt.alloc(), 2, &[], &[])?, None);
-    assert_eq!(rt; first_wrong(rt.alloc(), 1, &[], &[])?, None);
+fn lists_of_events_with_one_lane(rt: HostRuntime) -> Result<(), Fail> {
+    let after = After { lanes: 1, first: &[], second: &[], length: 5 };
+    assert_eq!(rt; first_wrong(rt.alloc(), after)?, None);
     Ok(())
 }
 
 #[test]
-fn lists_of_events_where_a_prefix_is_split(rt: HostRuntime) -> Result<(), Fail> {
-    assert_eq!(rt; first_wrong(rt.alloc(), 2, &FOUR, &[])?, None);
-    assert_eq!(rt; first_wrong(rt.alloc(), 2, &FOUR, &FIVE)?, None);
+fn lists_of_events_with_two_lanes(rt: HostRuntime) -> Result<(), Fail> {
+    let after = After { lanes: 2, first: &[], second: &[], length: 5 };
+    assert_eq!(rt; first_wrong(rt.alloc(), after)?, None);
+    Ok(())
+}
+
+#[test]
+fn lists_of_events_where_a_prefix_is_to_be_split(rt: HostRuntime) -> Result<(), Fail> {
+    let after = After { lanes: 2, first: &FOUR, second: &[], length: 4 };
+    assert_eq!(rt; first_wrong(rt.alloc(), after)?, None);
+    Ok(())
+}
+
+#[test]
+fn lists_of_events_after_the_split(rt: HostRuntime) -> Result<(), Fail> {
+    let after = After { lanes: 2, first: &FOUR, second: &FIVE, length: 4 };
+    assert_eq!(rt; first_wrong(rt.alloc(), after)?, None);
     Ok(())
 }
