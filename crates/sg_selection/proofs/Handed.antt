@@ -1,5 +1,5 @@
 -- What a selection is handed, as what may happen in a search.
-use Rattle.std.proofs.Common.{◌≡◌, ◌↔◌, ℕ, zero, suc, ◌+◌, ◌-◌, ◌*◌, ◌<◌, ◌≤◌, ◌%◌, Bool, true, false, true≢false, List, [], ◌∷◌, length, take, count_by, Option, Some, None, sym, ◌∙◌, ap, subst, refl, arith, ⊎_elim, Contains, pos, ◌≤ℤ◌}
+use Rattle.std.proofs.Common.{◌≡◌, ℕ, ◌+◌, ◌-◌, ◌<◌, ◌≤◌, ◌%◌, true, true≢false, List, length, take, count_by, Some, None, sym, ◌∙◌, ap, subst, refl, arith, Contains}
 use Rattle.std.specs.Prelude.{slice_get, slice_index_or}
 use Rattle.std.proofs.Math.Nat.{mod-lt}
 use Rattle.rand_chacha.specs.ChaCha.{ChaCha}
@@ -12,7 +12,7 @@ use Rattle.sg_search.specs.declared.event.Event.{Event}
 use Rattle.sg_search.specs.declared.event.Event.TheVariants.{Begin, Turn, Finish}
 use Rattle.sg_search.specs.declared.event.Ready.{Ready}
 use Rattle.sg_search.specs.Searches.{Task, Search}
-use Rattle.sg_search.specs.Events.{Allows, AreChoices, IsChoice, IsEnabled, IsEnd, IsRank, MayChoose, Tells, lane_of}
+use Rattle.sg_search.specs.Events.{Allows, AreChoices, IsEnabled, IsEnd, IsRank, MayChoose, Tells, lane_of}
 use Rattle.sg_search.proofs.Chosen.{choice-at}
 use Rattle.sg_search.proofs.Told.{at-in, choices_are_there, enabled_means, told-begin, told_once}
 use Rattle.sg_selection.specs.Selections.{AreReadyLanes, HasEvent, IsBestChoice, IsChoiceBy, IsChosenBy, IsDrawnLane, IsLaneBy, IsNextLane, SelectionState, Selects, after_event, lanes_on, word_drawn, words_after, words_behind}
@@ -97,12 +97,12 @@ module _ (is_rank : ℕ → Fraction → Type 0) (ready : List Ready) (p : Task)
     rising = lanes-rise 1 ready;
     each = λ lane. (
       λ at. let q = lane-in 1 ready lane at in
-      let is = q.lane_is in
-      let e : q.place + 1 ≡ lane = omega (arith, is) in
-      subst (HasEvent p s) e (ready-has q.place q.within q.ready),
+          let is = q.lane_is in
+          let e : q.place + 1 ≡ lane = omega (arith, is) in
+          subst (HasEvent p s) e (ready-has q.place q.within q.ready),
       λ has. let q = has-ready lane has in
-      let at = lane-at 1 ready q.place q.within q.ready in
-      subst (Contains (lanes_from 1 ready)) (sym q.lane_is) (in-list (lanes_from 1 ready) (count_by is_ready (take q.place ready)) (1 + q.place) at),
+          let at = lane-at 1 ready q.place q.within q.ready in
+          subst (Contains (lanes_from 1 ready)) (sym q.lane_is) (in-list (lanes_from 1 ready) (count_by is_ready (take q.place ready)) (1 + q.place) at),
     );
   }
     where
@@ -113,11 +113,11 @@ module _ (is_rank : ℕ → Fraction → Type 0) (ready : List Ready) (p : Task)
   next-lane before place n = record {
     has = ready-has place n.0 n.1;
     next = λ other has.
-    let q = has-ready other has in
-    let is = q.lane_is in
-    let e : q.place + 1 ≡ other = omega (arith, is) in
-    subst (λ (k : ℕ). lanes_on k before (place + 1) ≤ lanes_on k before other) h.lanes
-    (subst (λ (k : ℕ). lanes_on (length ready) before (place + 1) ≤ lanes_on (length ready) before k) e (n.2 q.place q.within q.ready));
+        let q = has-ready other has in
+        let is = q.lane_is in
+        let e : q.place + 1 ≡ other = omega (arith, is) in
+        subst (λ (k : ℕ). lanes_on k before (place + 1) ≤ lanes_on k before other) h.lanes
+        (subst (λ (k : ℕ). lanes_on (length ready) before (place + 1) ≤ lanes_on (length ready) before k) e (n.2 q.place q.within q.ready));
   }
 
   drawn-lane : (word place : ℕ) → IsReadyOfNumber ready (word % count_by is_ready ready) (Some place) → IsDrawnLane p s word (place + 1)

@@ -1,5 +1,5 @@
 -- The first of the greatest ranks, one number after the other.
-use Rattle.std.proofs.Common.{◌≡◌, ◌⊎◌, ℕ, zero, suc, ◌+◌, ◌<◌, ◌≤◌, sym, subst, arith, pos, ◌≤ℤ◌, inl, inr, ⊎_elim}
+use Rattle.std.proofs.Common.{◌≡◌, ◌⊎◌, ℕ, zero, suc, ◌+◌, ◌<◌, sym, subst, arith, pos, ◌≤ℤ◌, inl, inr, ⊎_elim}
 use Rattle.std.proofs.lemmas.Int.{by_lt_z, ints}
 use Rattle.std.specs.Prelude.{◌*ℤ◌}
 use Rattle.sg_frac.specs.Fractions.{Fraction}

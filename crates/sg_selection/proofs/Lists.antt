@@ -1,5 +1,5 @@
 -- Places and members of lists, the least of a list, and lists of rising numbers.
-use Rattle.std.proofs.Common.{◌≡◌, ◌⊎◌, ℕ, zero, suc, ◌<◌, ◌≤◌, List, [], ◌∷◌, length, get_or, Option, Some, None, sym, ◌∙◌, ap, ap₂, subst, refl, arith, inl, inr, ⊎_elim, Contains, AllPairs}
+use Rattle.std.proofs.Common.{◌≡◌, ◌⊎◌, ℕ, zero, suc, ◌<◌, ◌≤◌, List, [], ◌∷◌, length, get_or, Some, None, sym, ◌∙◌, ap, ap₂, subst, refl, arith, inl, inr, ⊎_elim, Contains, AllPairs}
 use Rattle.std.specs.Prelude.{slice_get}
 use Rattle.sg_search.proofs.Listing.{either-in, here-in, later-in, none-in}
 

@@ -1,10 +1,8 @@
 -- Lists of named events are runs of a search.
-use Rattle.std.proofs.Common.{◌≡◌, List, [], ◌∷◌, ◌++◌, sym, ◌∙◌, ap, subst, refl}
-use Rattle.sg_search.specs.Searches.{Task, Search}
-use Rattle.sg_search.specs.Changes.{Goes, Runs}
-use Rattle.sg_search.specs.Events.{IsOf}
-use Rattle.sg_selection.specs.Selections.{SelectionState, Selects, after_event}
-use Rattle.sg_selection.specs.SelectedRuns.{MadeEvent, SelectedRuns, after_events, changes_of}
+use Rattle.std.proofs.Common.{[], ◌∷◌, sym, ◌∙◌, ap, subst, refl}
+use Rattle.sg_search.specs.Searches.{Search}
+use Rattle.sg_selection.specs.Selections.{SelectionState}
+use Rattle.sg_selection.specs.SelectedRuns.{SelectedRuns, after_events}
 use Rattle.sg_selection.specs.SelectionLaws.{SelectedAreRuns, SelectedGoOn, SelectionIsOfEvents}
 
 pub selected-runs : SelectedAreRuns

@@ -1,5 +1,5 @@
 -- At each state at which an event is enabled an order names one.
-use Rattle.std.proofs.Common.{◌≡◌, ◌⊎◌, ℕ, zero, suc, ◌+◌, ◌-◌, ◌<◌, ◌≤◌, ◌%◌, nat_lt, Bool, true, false, cond, List, [], ◌∷◌, length, get_or, Some, None, sym, ◌∙◌, ap, ap₂, subst, refl, arith, inl, inr, ⊎_elim, Contains, pos, ◌≤ℤ◌}
+use Rattle.std.proofs.Common.{◌≡◌, ◌⊎◌, ℕ, zero, suc, ◌+◌, ◌-◌, ◌<◌, ◌≤◌, ◌%◌, nat_lt, Bool, true, false, cond, List, [], ◌∷◌, length, get_or, Some, None, sym, ◌∙◌, ap, ap₂, subst, refl, arith, inl, inr, ⊎_elim, pos, ◌≤ℤ◌}
 use Rattle.std.specs.Prelude.{slice_get}
 use Rattle.std.proofs.Math.Nat.{mod-lt}
 use Rattle.std.proofs.lemmas.Bool.{cases_Bool, lt-ltb, ltb-true}
@@ -20,8 +20,6 @@ use Rattle.sg_search.proofs.Chosen.{choice-at, choices_are_one}
 use Rattle.sg_search.proofs.Listing.{none-in}
 use Rattle.sg_search.proofs.Told.{at-in, choices_are_there, enabled-begin, enabled_means, lanes_are_told}
 use Rattle.sg_selection.specs.Selections.{AreReadyLanes, HasEvent, IsBestChoice, IsChoiceBy, IsChosenBy, IsDrawnLane, IsLaneBy, IsNextLane, SelectionState, Selects, after_event, lanes_on, word_drawn, words_behind}
-use Rattle.sg_selection.specs.Handing.{IsHanded}
-use Rattle.sg_selection.specs.Ranking.{IsLeader}
 use Rattle.sg_selection.specs.SelectionLaws.{EventIsNamed, NamedOnce, NoneAtTheEnd}
 use Rattle.sg_selection.proofs.Handed.{lane-range, lanes-ready}
 use Rattle.sg_selection.proofs.Leading.{leader-there}

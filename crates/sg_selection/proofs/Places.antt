@@ -1,11 +1,11 @@
 -- The lanes that are told that something may happen in them, as a list.
-use Rattle.std.proofs.Common.{◌≡◌, ℕ, zero, suc, ◌+◌, ◌<◌, ◌≤◌, Bool, true, false, true≢false, cond, List, [], ◌∷◌, length, take, count_by, Option, Some, sym, ◌∙◌, ap, subst, refl, arith, ⊎_elim, All, AllPairs, Contains}
+use Rattle.std.proofs.Common.{◌≡◌, ℕ, zero, suc, ◌+◌, ◌<◌, Bool, true, false, true≢false, cond, List, [], ◌∷◌, length, take, count_by, Some, sym, ◌∙◌, ap, refl, arith, ⊎_elim, All, Contains}
 use Rattle.std.specs.Prelude.{slice_get}
 use Rattle.std.proofs.lemmas.List.Elements.{All-nil, All-cons}
 use Rattle.std.proofs.lemmas.List.Kept.{AllPairs-cons}
 use Rattle.std.proofs.lemmas.List.Sums.{sum_by-cons}
 use Rattle.sg_search.specs.declared.event.Ready.{Ready}
-use Rattle.sg_search.proofs.Listing.{either-in, here-in, later-in, none-in}
+use Rattle.sg_search.proofs.Listing.{either-in, none-in}
 use Rattle.sg_selection.specs.Readiness.{is_ready, is_ready_at}
 use Rattle.sg_selection.proofs.Lists.{Rises}
 

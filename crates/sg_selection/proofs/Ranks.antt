@@ -1,15 +1,12 @@
 -- Each choice has one rank.
-use Rattle.std.proofs.Common.{◌≡◌, ◌≢◌, ◌⊎◌, ℕ, ◌≤◌, Bool, true, false, true≢false, List, [], ◌∷◌, Option, Some, None, sym, ◌∙◌, ap, subst, refl, arith, inl, inr, ⊎_elim, pos, ◌≤ℤ◌}
-use Rattle.sg_model.specs.Games.{Game}
+use Rattle.std.proofs.Common.{◌≡◌, ◌≢◌, ℕ, true, true≢false, List, [], ◌∷◌, Option, Some, None, sym, ◌∙◌, ap, subst, refl, arith, inl, inr, ⊎_elim, pos, ◌≤ℤ◌}
 use Rattle.sg_model.specs.Payoffs.{IsPeopled}
 use Rattle.sg_model.proofs.Values.{prior_total-positive}
 use Rattle.sg_frac.specs.Fractions.{Fraction}
 use Rattle.sg_tree.specs.declared.fix.Fix.{Fix}
-use Rattle.sg_bounds.specs.Regions.{prefix}
 use Rattle.sg_bounds.specs.Leaves.{root_bound}
-use Rattle.sg_search.specs.Searches.{Task, Search, IsPartOf, IsCapNode}
+use Rattle.sg_search.specs.Searches.{Task, Search, IsCapNode}
 use Rattle.sg_search.specs.Bounding.{inherited, is_over, own_bound}
-use Rattle.sg_search.specs.Changes.{MaySplit, MayTake}
 use Rattle.sg_search.specs.Events.{IsRank, MayBranch, MayChoose}
 use Rattle.sg_search.specs.TreeLaws.{AreFacts}
 use Rattle.sg_search.proofs.Placed.{part-no_cap, part-one}

@@ -1,19 +1,16 @@
 -- Where the programs of nodes answer the same, the same events are named.
 use Rattle.std.proofs.Common.{◌≡◌, ℕ, Bool, true, false, List, [], ◌∷◌, ◌++◌, Some, None, sym, ◌∙◌, ap, ap₂, subst, refl}
-use Rattle.std.specs.Prelude.{slice_get}
 use Rattle.sg_tree.specs.declared.fix.Fix.{Fix}
 use Rattle.sg_bounds.specs.Regions.{prefix}
 use Rattle.sg_search.specs.declared.held.Held.{Held}
-use Rattle.sg_search.specs.declared.held.Stuck.{Stuck}
-use Rattle.sg_tree.specs.declared.worked.Worked.{Worked}
 use Rattle.sg_search.specs.declared.event.Event.{Event}
 use Rattle.sg_search.specs.declared.event.Event.TheVariants.{Begin, Turn, Finish}
 use Rattle.sg_search.specs.Searches.{Task, Search}
-use Rattle.sg_search.specs.Changes.{Change, takes, branches, moves, ends, works, sticks, Goes, Holds, begun, first_part, with_lane}
+use Rattle.sg_search.specs.Changes.{Change, takes, branches, moves, ends, works, sticks, Goes, Holds, with_lane}
 use Rattle.sg_search.specs.Events.{IsChoice, IsOf}
 use Rattle.sg_search.proofs.Chosen.{choice-at}
-use Rattle.sg_selection.specs.Selections.{SelectionState, Selects}
-use Rattle.sg_selection.specs.SelectedRuns.{HaveSameAnswers, IsAnswered, MadeEvent, SelectedRuns}
+use Rattle.sg_selection.specs.Selections.{SelectionState}
+use Rattle.sg_selection.specs.SelectedRuns.{IsAnswered, MadeEvent, SelectedRuns}
 use Rattle.sg_selection.specs.SelectionLaws.{SameAnswersSameRun}
 use Rattle.sg_selection.proofs.Lists.{place-one}
 use Rattle.sg_selection.proofs.Named.{named_once}

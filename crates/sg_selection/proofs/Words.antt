@@ -1,9 +1,8 @@
 -- The words of a seed are drawn one after the other.
-use Rattle.std.proofs.Common.{◌≡◌, ℕ, zero, suc, ◌+◌, ◌%◌, ◌^◌, List, [], ◌∷◌, sym, ◌∙◌, ap, refl, arith}
+use Rattle.std.proofs.Common.{◌≡◌, ℕ, ◌+◌, ◌%◌, ◌^◌, List, [], ◌∷◌, ◌∙◌, ap, refl, arith}
 use Rattle.std.proofs.Math.Nat.{mod-add-mod}
 use Rattle.rand_chacha.specs.ChaCha.{ChaCha, key_of, word_at}
 use Rattle.sg_seed.specs.Seeds.{key_of_seed}
-use Rattle.sg_options.specs.declared.order.Order.{Order}
 use Rattle.sg_options.specs.declared.order.Walk.{Walk}
 use Rattle.sg_options.specs.declared.order.Walk.TheVariants.{File, Best, Seeded}
 use Rattle.sg_search.specs.declared.event.Event.{Event}

@@ -6,7 +6,7 @@ use Rattle.sg_options.specs.declared.order.Order.{Order}
 use Rattle.sg_model.specs.Payoffs.{IsPeopled}
 use Rattle.sg_search.specs.declared.event.Event.{Event}
 use Rattle.sg_search.specs.Searches.{Task, Search}
-use Rattle.sg_search.specs.Changes.{Change, Goes, Runs}
+use Rattle.sg_search.specs.Changes.{Goes, Runs}
 use Rattle.sg_search.specs.Events.{IsEnabled, IsEnd, IsOf}
 use Rattle.sg_search.specs.TreeLaws.{AreFacts}
 use Rattle.sg_selection.specs.Selections.{SelectionState, Selects, first_selection, word_drawn}

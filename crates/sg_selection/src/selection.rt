@@ -18,10 +18,12 @@ use sg_search::{Event, Ready};
 use sg_seed::generator;
 use std::marker::Model;
 
-/// Names the events of a search, one after the other.
+/// Names the events of a search, one after the other, seen as its walk, the lane of the event before and the words of the
+/// seed that are left.
 #[derive(Drop)]
 pub struct Selection {
     walk: Walk,
+    // The lane of the event before, and 0 at first.
     lane: u8,
     words: ChaCha20Rng,
 }

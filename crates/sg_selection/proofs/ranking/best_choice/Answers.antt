@@ -1,4 +1,4 @@
-use Rattle.std.proofs.Common.{◌≡◌, ◌+◌, ℕ, sym, subst, arith, true, false, true≢false, ◌∙◌}
+use Rattle.std.proofs.Common.{◌≡◌, ◌+◌, ℕ, sym, subst, arith, true≢false, ◌∙◌}
 use Rattle.sg_frac.specs.Fractions.{Fraction}
 use Rattle.sg_selection.specs.Ranking.{IsLeader}
 use Rattle.sg_selection.proofs.Leading.{leader-alone, leader-kept, leader-new}

@@ -1,4 +1,4 @@
-use Rattle.std.proofs.Common.{◌≡◌, ◌∙◌, ◌+◌, is_some, true, false, true≢false, sym, ap, subst, refl, Some, None}
+use Rattle.std.proofs.Common.{◌≡◌, ◌∙◌, ◌+◌, is_some, true≢false, ap, subst, refl, None}
 use Rattle.rand_chacha.specs.ChaCha.{ChaCha}
 use Rattle.sg_options.specs.declared.order.Walk.{Walk}
 use Rattle.sg_search.specs.declared.event.Event.{Event}
