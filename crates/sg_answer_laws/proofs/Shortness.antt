@@ -17,7 +17,7 @@ use Rattle.sg_tree.specs.declared.report.Cap.{Cap}
 use Rattle.sg_tree.specs.declared.report.Report.{Report}
 use Rattle.sg_tree.specs.declared.worked.Worked.{Worked}
 use Rattle.sg_cert.specs.Ranges.{IsCap, IsFact, IsReport}
-use Rattle.sg_cert.specs.Text.{cap_rows, fact_rows, head_rows, node_rows, tail_rows, text_of}
+use Rattle.sg_cert.specs.Text.{cap_rows, fact_rows, head_rows, node_rows, report_text, tail_rows, text_of}
 use Rattle.sg_bounds.specs.PlayRows.{comparisons}
 use Rattle.sg_bounds.specs.Regions.{IsFix, IsNode}
 use Rattle.sg_rows.specs.Rows.{place}
@@ -25,6 +25,7 @@ use Rattle.sg_search.specs.Searches.{Task, Search}
 use Rattle.sg_search.specs.Bounding.{cap_at, caps_of, fact_of}
 use Rattle.sg_search.proofs.Counted.{budget_kept}
 use Rattle.sg_search.proofs.Ranges.{fact-source}
+use Rattle.sg_programs.specs.Enough.{node_budget}
 use Rattle.sg_programs.specs.Marks.{marks_of}
 use Rattle.sg_programs.specs.NodeTests.{ClosesNode, Method}
 use Rattle.sg_programs.proofs.Heights.{comparisons-count, limit, part-le, types-sum}
@@ -74,5 +75,65 @@ room-most rows worked x y le all few =
     let up = mul-le-mul_left (58 + 60 * rows) le in
     omega (arith, up, all, few)
 
+module _ (b : Budget) (p : Task) (m : Method) (s : Search) (r : Report) (a : IsAnswerOf b p m s r) where
+  abbrev g : Game
+  g = p.game
+
+  rows : ℕ
+  rows = program_rows p.game
+
+  fact-long : (x : Fix) (f : Fact) → fact_of s.worked x ≡ Some f → length (text_of (fact_rows f)) ≤ 40 + 55 * program_rows p.game
+  fact-long x f e =
+      let P : Worked → Type 0 = λ (w : Worked). length (text_of (fact_rows w.fact)) ≤ 40 + 55 * program_rows p.game in
+      let src = fact-source P s.worked
+      (λ i d lt. let w : Worked = slice_index_or s.worked i d in closed-long g a.task.game a.task.unscaled w.fix (nodes b p m s r a i d lt) m w.fact w.point (a.reached.worked i d lt)) x f e in
+      subst (λ (h : Fact). length (text_of (fact_rows h)) ≤ 40 + 55 * program_rows p.game) src.fact src.holds
+
+  -- worked nodes are no more than may be worked
+  worked-few : (length s.worked ≤ 1000000) × (length s.worked * program_rows p.game ≤ 6000000)
+  worked-few =
+      let kept = (budget_kept p (peopled g a.task.game) a.reached.changes s a.reached.run).nodes in
+      let is = a.task.nodes in
+      let range = budget-range g a.task.game a.task.unscaled b.nodes a.budget.some_nodes a.budget.most_nodes in
+      let most = range.1 in
+      let few : length s.worked ≤ node_budget p.game b.nodes = omega (arith, kept, is) in
+      let all = budget-rows g a.task.game b.nodes in
+      let le = mul-le-mul_left (program_rows p.game) few in
+      (omega (arith, few, most), omega (arith, le, all))
+
+  caps-long : length (text_of (flat_map cap_rows r.caps)) ≤ 560 + (58 + 60 * program_rows p.game) * sum_from (first_count s) 2 (length p.game.types - 1)
+  caps-long =
+      let types = few-types g a.task.game in
+      let are : AllByRecursion IsCap (caps_of g s) = subst (AllByRecursion IsCap) a.report.caps (ranges b p m s r a).caps in
+      let long = caps-short g s (58 + 60 * program_rows p.game) (λ x f e. let h = fact-long x f e in omega (arith, h)) 2 (length p.game.types - 1) are in
+      subst (λ (cs : List Cap). length (text_of (flat_map cap_rows cs)) ≤ 560 + (58 + 60 * program_rows p.game) * sum_from (first_count s) 2 (length p.game.types - 1)) (sym a.report.caps) (omega (arith, long, types))
+
+  tree-long : length (text_of (node_rows r.tree)) ≤ 23 + 5 * program_rows p.game + (58 + 60 * program_rows p.game) * under_count s []
+  tree-long =
+      let most = limit g a.task.game a.task.unscaled in
+      tree-short p s (splits b p m s r a) (program_rows p.game) (40 + 55 * program_rows p.game) (58 + 60 * program_rows p.game) (omega arith)
+      (actions-within g a.task.game) (omega (arith, most)) (few-types g a.task.game) fact-long r.tree a.report.tree
+
+  short : length (report_text r) ≤ 2 ^ 29
+  short =
+      let is : IsReport r = ranges b p m s r a in
+      let few = (told b p m s r a).few in
+      let most = limit g a.task.game a.task.unscaled in
+      let counted = all-counted s (length p.game.types - 1) in
+      let room = room-most (program_rows p.game) (length s.worked) (sum_from (first_count s) 2 (length p.game.types - 1)) (under_count s []) counted worked-few.1 worked-few.0 in
+      omega (
+        arith,
+        length-both (head_rows r) (flat_map cap_rows r.caps ++ (node_rows r.tree ++ tail_rows r)),
+        length-both (flat_map cap_rows r.caps) (node_rows r.tree ++ tail_rows r),
+        length-both (node_rows r.tree) (tail_rows r),
+        head_long r is (omega (arith, few)),
+        caps-long,
+        tree-long,
+        tail_long r is,
+        few,
+        most,
+        room,
+      )
+
 pub answers_are_short : AnswersAreShort
-answers_are_short b p m s r a = ?
+answers_are_short b p m s r a = short b p m s r a
