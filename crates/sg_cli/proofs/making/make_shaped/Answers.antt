@@ -1,4 +1,4 @@
-use Rattle.std.proofs.Common.{refl, sym, ◌∙◌}
+use Rattle.std.proofs.Common.{refl}
 use Rattle.sg_cli.proofs.MakingStatus.{made_of}
 use Rattle.sg_cli.proofs.making.make_shaped.Goals as goal
 
