@@ -2,3 +2,8 @@ pub mod Few
 pub mod Formed
 pub mod Reports
 pub mod Unique
+pub mod Going
+pub mod Left
+pub mod Asked
+pub mod Advanced
+pub mod Started

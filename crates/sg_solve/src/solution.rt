@@ -53,7 +53,7 @@ fn value_of(game: &Game, commitment: &Commitment) -> Frac
 /// # Errors
 ///
 /// Want of memory, and nothing else.
-pub fn solve(alloc: Global, game: &Game) -> Result<Report, AllocError>
+pub(crate) fn level_solution(alloc: Global, game: &Game) -> Result<Report, AllocError>
     requires { is_scaled game.now ≡ true }
     ensures { IfOk result (IsOptimalReport game.now) }
 {

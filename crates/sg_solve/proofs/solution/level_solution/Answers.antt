@@ -1,5 +1,5 @@
 use Rattle.sg_solve.proofs.Reports.{one_length, right_report, small_total}
-use Rattle.sg_solve.proofs.solution.solve.Goals as goal
+use Rattle.sg_solve.proofs.solution.level_solution.Goals as goal
 
 pub value_of-value-requires-clause-small : goal.value_of-value-requires-clause-small
 value_of-value-requires-clause-small c =
