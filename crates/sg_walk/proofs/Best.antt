@@ -1,6 +1,6 @@
 -- The most that resources can add, one schedule and one resource after the other, and where more is covered.
-use Rattle.std.proofs.Common.{◌≡◌, ◌⊎◌, ◌∙◌, ℕ, ◌+◌, ◌-◌, ◌<◌, ◌≤◌, ◌^◌, Bool, List, [], ◌∷◌, ◌++◌, length, map, get_or, ℤ, ap, subst, sym, refl, arith, inl, inr, slice_index_or}
-use Rattle.std.specs.Prelude.{max, min, slice_set}
+use Rattle.std.proofs.Common.{◌≡◌, ◌⊎◌, ℕ, ◌+◌, ◌<◌, ◌≤◌, Bool, List, [], ◌∷◌, ◌++◌, length, map, ℤ, subst, sym, refl, arith, inl, inr, slice_index_or}
+use Rattle.std.specs.Prelude.{max, slice_set}
 use Rattle.std.specs.List.{Contains, fold}
 use Rattle.std.proofs.lemmas.List.{get_or-set_other, get_or-set_same}
 use Rattle.std.proofs.lemmas.List.Elements.{Contains-append_left, Contains-append_right}

@@ -1,16 +1,13 @@
 -- The start of a walk, and its end.
-use Rattle.std.proofs.Common.{◌≡◌, ◌∙◌, ℕ, zero, suc, ◌+◌, ◌-◌, ◌<◌, ◌≤◌, Bool, true, false, cond, not, List, [], length, ℤ, pos, ap, subst, sym, refl, arith, eqb, Option, Some, None}
-use Rattle.std.specs.Prelude.{int_lt}
+use Rattle.std.proofs.Common.{◌≡◌, ◌∙◌, ℕ, ◌+◌, ◌-◌, ◌<◌, false, not, List, [], length, ℤ, pos, ap, subst, sym, refl, arith, eqb, Some}
 use Rattle.std.specs.List.{find}
-use Rattle.std.proofs.lemmas.List.Elements.{All-contains}
 use Rattle.sg_model.specs.Games.{Game, is_matrix, resource_count}
 use Rattle.sg_model.specs.Plays.{covers}
-use Rattle.sg_model.specs.Sums.{nth, numbers}
-use Rattle.sg_model.proofs.Numbers.{All-numbers}
+use Rattle.sg_model.specs.Sums.{numbers}
 use Rattle.sg_model.proofs.Sums.{total-zero}
 use Rattle.sg_walk.specs.declared.trail.Trail.{Trail}
 use Rattle.sg_walk.specs.Laws.{IsFirstAbove}
-use Rattle.sg_walk.specs.Marks.{IsMarked, mark_of}
+use Rattle.sg_walk.specs.Marks.{mark_of}
 use Rattle.sg_walk.specs.Partials.{IsPartial, first_play, is_play_above, looks_of, partials}
 use Rattle.sg_walk.specs.Stages.{EntersAt, GoesPast, IsLookedAt, from_here}
 use Rattle.sg_walk.specs.Sums.{HasAbsoluteSum}

@@ -1,6 +1,6 @@
 -- The first play above mu among the partial plays is the first among the legal ones.
-use Rattle.std.proofs.Common.{◌≡◌, ◌∙◌, ◌⊎◌, ℕ, zero, suc, ◌+◌, ◌<◌, Bool, true, false, cond, List, [], ◌∷◌, ◌++◌, length, map, ℤ, ◌≤ℤ◌, ap, sym, refl, subst, arith, eqb, Option, Some, None, inl, inr}
-use Rattle.std.specs.Prelude.{◌<ℤ◌, int_lt, MatchOption}
+use Rattle.std.proofs.Common.{◌≡◌, ◌∙◌, ◌⊎◌, ℕ, zero, suc, ◌+◌, Bool, true, false, cond, List, [], ◌∷◌, ◌++◌, length, map, ℤ, ◌≤ℤ◌, ap, sym, refl, subst, arith, eqb, Option, Some, None, inl, inr}
+use Rattle.std.specs.Prelude.{int_lt, MatchOption}
 use Rattle.std.specs.List.{All, AllPairs, Contains, find, flat_map}
 use Rattle.std.proofs.lemmas.Int.{ints}
 use Rattle.std.proofs.lemmas.Bool.Decides.{nat_tests}

@@ -1,5 +1,5 @@
 -- A trail, one choice further and back.
-use Rattle.std.proofs.Common.{◌≡◌, ◌∙◌, ℕ, ◌+◌, ◌<◌, ◌≤◌, Bool, ◌||◌, slice_index, List, [], ◌∷◌, ◌++◌, length, take, ℤ, ap, subst, sym, refl, arith}
+use Rattle.std.proofs.Common.{◌≡◌, ◌∙◌, ℕ, ◌+◌, ◌<◌, Bool, ◌||◌, slice_index, List, [], ◌∷◌, ◌++◌, length, take, ℤ, ap, subst, sym, arith}
 use Rattle.std.proofs.lemmas.List.{length-append}
 use Rattle.std.proofs.Math.Seq.{take-append_seam}
 use Rattle.sg_model.specs.Games.{Game}

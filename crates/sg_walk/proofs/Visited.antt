@@ -1,5 +1,5 @@
 -- From a partial play that is looked at to one with one more choice.
-use Rattle.std.proofs.Common.{◌≡◌, ◌∙◌, ℕ, ◌+◌, ◌<◌, ◌≤◌, Bool, true, List, [], ◌∷◌, ◌++◌, length, ℤ, pos, ◌+ℤ◌, ap, subst, sym, arith, slice_index_or, inl, inr}
+use Rattle.std.proofs.Common.{◌≡◌, ◌∙◌, ℕ, ◌+◌, ◌<◌, ◌≤◌, Bool, true, List, [], ◌∷◌, length, ℤ, pos, ◌+ℤ◌, ap, subst, sym, arith, slice_index_or, inl, inr}
 use Rattle.std.specs.Prelude.{int_lt}
 use Rattle.std.proofs.lemmas.List.{length-append}
 use Rattle.sg_model.specs.Games.{Game, resource_count, resource_schedules}

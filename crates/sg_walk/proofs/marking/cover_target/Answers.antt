@@ -1,7 +1,6 @@
-use Rattle.std.proofs.Common.{rules, arith, ◌≡◌, ◌∙◌, ◌≤◌, ◌-◌, eqb, ℕ, Bool, false, true, not, cond, length, ap, refl, sym, List, ℤ, ◌+ℤ◌, pos, to_z, of_z}
+use Rattle.std.proofs.Common.{rules, arith, ◌≡◌, ◌∙◌, ◌≤◌, ◌-◌, eqb, ℕ, Bool, false, cond, length, ap, refl, List, ℤ, ◌+ℤ◌, pos, to_z, of_z}
 use Rattle.std.specs.Int.{w128}
 use Rattle.std.specs.Prelude.{FitsSigned, slice_set}
-use Rattle.std.proofs.lemmas.Bool.Decides.{nat_tests}
 use Rattle.std.proofs.lemmas.Int.{ints, to_z-of_z}
 use Rattle.sg_walk.specs.Marks.{IsMarkable, has_mark, mark_of}
 use Rattle.sg_walk.specs.Weights.{sum_where}
