@@ -12,3 +12,4 @@ pub mod Lengths
 pub mod Counting
 pub mod Short
 pub mod Shortness
+pub mod WorkedAnswers

@@ -5,6 +5,8 @@
 //! of `specs/Laws.antt`.
 #![tactic(auto)]
 
+mod examples;
 mod laws;
 
+pub use examples::worked_answers;
 pub use laws::{answers_are_reports, answers_are_short, answers_are_texts};
