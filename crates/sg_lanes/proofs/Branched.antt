@@ -93,17 +93,17 @@ module _ (p : Task) (s : Search) (f : Frontier) (h : IsFrontier p s f) (lane : �
     in_order = parts-order acts 2 (count - 1);
     each = λ y. (
       λ at.
-      let q = keyed-in (part_by acts) (numbers_from 2 (count - 1)) y at in
-      let r = number-in 2 (count - 1) q.0 q.1 in
-      let low = r.0 in
-      let high = r.1 in
-      let some = h.peopled.actions (length acts + 1) (omega arith) (let l = split.short in omega (arith, l)) in
-      let of : IsPartOf p.game acts y = record { act = q.0; from_one = omega (arith, low); in_range = omega (arith, high, some); node_is = sym q.2 } in
-      let other : same y (first_part acts) ≡ false = not-one (first_part acts) y (λ e. let z = part-acts acts q.0 1 (q.2 ∙ e) in omega (arith, z, low)) in
-      let m = more y in
-      let z = fresh y of in
-      let o : one_if (same y (first_part acts)) ≡ 0 = ap one_if other in
-      (of, omega (arith, m, z, o)),
+          let q = keyed-in (part_by acts) (numbers_from 2 (count - 1)) y at in
+          let r = number-in 2 (count - 1) q.0 q.1 in
+          let low = r.0 in
+          let high = r.1 in
+          let some = h.peopled.actions (length acts + 1) (omega arith) (let l = split.short in omega (arith, l)) in
+          let of : IsPartOf p.game acts y = record { act = q.0; from_one = omega (arith, low); in_range = omega (arith, high, some); node_is = sym q.2 } in
+          let other : same y (first_part acts) ≡ false = not-one (first_part acts) y (λ e. let z = part-acts acts q.0 1 (q.2 ∙ e) in omega (arith, z, low)) in
+          let m = more y in
+          let z = fresh y of in
+          let o : one_if (same y (first_part acts)) ≡ 0 = ap one_if other in
+          (of, omega (arith, m, z, o)),
       λ k. by y k.0 k.0.act refl k.1,
     );
   }
@@ -146,14 +146,17 @@ module _ (p : Task) (s : Search) (f : Frontier) (h : IsFrontier p s f) (lane : �
       let differ : bytes_eq k.0 acts ≡ false = ⊎_elim
       (λ yes. absurd (true≢false (sym (subst (λ (z : Fix). same (prefix acts) z ≡ true) (ap prefix (sym ((bytes_eq-Decides k.0 acts).0 yes)) ∙ sym k.1 ∙ sym pass.key_is) (same-self (prefix acts))) ∙ not-is (same (prefix acts) pass.item.node) pass.passes)))
       (λ n. n)
-      (cases_Bool (bytes_eq k.0 acts)) in
-      (k.0, k.1, record {
-        some = k.2.some;
-        worked = k.2.worked;
-        unsplit = split-more k.0 ∙ ap (λ (c : Bool). c || bytes_eq k.0 acts) k.2.unsplit ∙ differ;
-        short = k.2.short;
-        over = k.2.over;
-      })
+      (cases_Bool (bytes_eq k.0 acts)) in (
+        k.0,
+        k.1,
+        record {
+          some = k.2.some;
+          worked = k.2.worked;
+          unsplit = split-more k.0 ∙ ap (λ (c : Bool). c || bytes_eq k.0 acts) k.2.unsplit ∙ differ;
+          short = k.2.short;
+          over = k.2.over;
+        },
+      )
     where
       not-is : (c : Bool) → not c ≡ true → c ≡ false
       not-is true e = absurd (true≢false (sym e))

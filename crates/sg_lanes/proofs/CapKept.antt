@@ -23,7 +23,7 @@ use Rattle.sg_lanes.specs.declared.ripe.Ripe.{Ripe}
 use Rattle.sg_lanes.specs.Bounds.{Stands}
 use Rattle.sg_lanes.specs.Rises.{IsRise, best_after, value_after}
 use Rattle.sg_lanes.specs.ProvedCaps.{only_worked}
-use Rattle.sg_lanes.specs.Ripenings.{AreTops}
+use Rattle.sg_lanes.specs.Ripenings.{AreTopEntries}
 use Rattle.sg_lanes.specs.Frontiers.{Frontier, IsFrontier, IsRipe}
 use Rattle.sg_lanes.specs.Machines.{Machine}
 use Rattle.sg_lanes.proofs.Glued.{seen}
@@ -36,10 +36,10 @@ use Rattle.sg_lanes.proofs.TopsRipe.{tops-are, tops-bounds}
 
 -- the caps stay and the prefixes that may be split are sifted, or these are the prefixes of one action
 abbrev pub IsRenewed : Game → List Worked → Fraction → List Cap → List Ripe → List Cap → List Ripe → Type 0
-IsRenewed g ws value caps ripe new_caps new_ripe = ((new_caps ≡ caps) × (new_ripe ≡ filter (λ (r : Ripe). exceeds r.bound value) ripe)) ⊎ AreTops g (only_worked ws) value (action_count g 1) new_ripe
+IsRenewed g ws value caps ripe new_caps new_ripe = ((new_caps ≡ caps) × (new_ripe ≡ filter (λ (r : Ripe). exceeds r.bound value) ripe)) ⊎ AreTopEntries g (only_worked ws) value (action_count g 1) new_ripe
 
 module _ (p : Task) (s : Search) (f : Frontier) (h : IsFrontier p s f) (lane : ℕ) (node : Fix) (fact : Fact) (point : Option Committed) (holds : Holds s lane node true)
-  (result : IsResult p.game (record { fix = node; fact = fact; point = point })) (two : 2 ≤ node.first) where
+    (result : IsResult p.game (record { fix = node; fact = fact; point = point })) (two : 2 ≤ node.first) where
   abbrev t : Search
   t = worked_search s lane node fact point
 

@@ -110,9 +110,3 @@ module _ (g : Game) (peopled : IsPeopled g) (s : Search) (results : All (IsResul
         fits = prior-fits g l (1 + i) f holds size;
         under = (cap-least g peopled s results first is_first l low high long PAYOFF_LIMIT).1 (omega (arith, ints, top, most)) i d lt;
       }
-
--- ---- the greatest
-
-abbrev pub greatest_from : Option ℤ → List ℤ → ℤ
-greatest_from None ys = greatest ys
-greatest_from (Some x) ys = fold int_max x ys

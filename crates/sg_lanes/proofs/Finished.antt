@@ -26,7 +26,7 @@ module _ (g : Game) (loads : List (Option Load)) (closes : Fix → Fact → Opti
   finding-gives (Ended.Stuck cause) f held = (held.0, held.1, tt)
 
   module _ (g2 : Game) (after : List (Option Load)) (stop1 stop2 : Fix → ℕ → Type 0) (closes2 : Fix → Fact → Option Committed → Type 0) (stops2 : Fix → Cause → Type 0) (t : Machine)
-    (same_game : g2 ≡ g) (tests : AreSameTests stop1 closes stops stop2 closes2 stops2) (task : t.task ≡ m.task) (cleared : after ≡ with_load loads lane None) where
+      (same_game : g2 ≡ g) (tests : AreSameTests stop1 closes stops stop2 closes2 stops2) (task : t.task ≡ m.task) (cleared : after ≡ with_load loads lane None) where
     pub closed-together : (e : Ended) → IsFinding g closes stops loads lane e → Goes m.task m.search (change_of lane e) t.search → IsTogether g2 after closes2 stops2 t
     closed-together (Ended.Worked fact point) f goes =
         let n = load-node loads m.search lane goes.0 true f.0 h.same_lanes goes.1 f.1 in

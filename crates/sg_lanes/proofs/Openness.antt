@@ -74,9 +74,6 @@ module _ (p : Task) (s : Search) (f : Frontier) (h : IsFrontier p s f) (root : F
   root-over : exceeds root f.value ≡ is_over p s (inherited p.game s [])
   root-over = exceeds-alike root (root_bound p.game) f.value (lower p s) is_root h.value (inherited-positive p.game h.peopled s (are_facts p.game s h.results) [] (root_bound p.game) refl) (value-positive p s f h)
 
-
-
-
   -- a prefix that may be split is kept
   ripe-some : (acts : List ℕ) → MaySplit p s acts → is_some_list f.ripe ≡ true
   ripe-some acts may =

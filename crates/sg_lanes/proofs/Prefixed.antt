@@ -47,7 +47,7 @@ all-insert P [] (suc n) e h k = All-cons P e [] k (All-nil P)
 all-insert P (r ∷ rs) (suc n) e h k = All-cons P r (insert rs n e) (All-head P r rs h) (all-insert P rs n e (All-tail P r rs h) k)
 
 module _ (p : Task) (s : Search) (f : Frontier) (h : IsFrontier p s f) (lane : ℕ) (node : Fix) (fact : Fact) (point : Option Committed) (holds : Holds s lane node true)
-  (result : IsResult p.game (record { fix = node; fact = fact; point = point })) (first : node.first ≡ 1) where
+    (result : IsResult p.game (record { fix = node; fact = fact; point = point })) (first : node.first ≡ 1) where
   abbrev t : Search
   t = worked_search s lane node fact point
 
@@ -94,14 +94,17 @@ module _ (p : Task) (s : Search) (f : Frontier) (h : IsFrontier p s f) (lane : �
     some-entry : (e : Ripe) → IsEntry p s node fact value (Some e) → IsRipe p t node
     some-entry e k =
         let m = worked-more s w node in
-        let y : one_if (same node node) ≡ 1 = ap one_if (same-self node) in
-        (node.acts, node-is, record {
-          some = result.node.is_fix.some;
-          worked = subst (λ (x : Fix). 1 ≤ worked_count t x) node-is (omega (arith, m, y));
-          unsplit = ⊎_elim (λ yes. absurd (split-no yes)) (λ n. n) (cases_Bool (is_split s.splits node.acts));
-          short = k.0;
-          over = sym (test-is (Some e.bound) k.2) ∙ k.3;
-        })
+        let y : one_if (same node node) ≡ 1 = ap one_if (same-self node) in (
+          node.acts,
+          node-is,
+          record {
+            some = result.node.is_fix.some;
+            worked = subst (λ (x : Fix). 1 ≤ worked_count t x) node-is (omega (arith, m, y));
+            unsplit = ⊎_elim (λ yes. absurd (split-no yes)) (λ n. n) (cases_Bool (is_split s.splits node.acts));
+            short = k.0;
+            over = sym (test-is (Some e.bound) k.2) ∙ k.3;
+          },
+        )
       where
         split-no : is_split s.splits node.acts ≡ true → ⊥
         split-no shown = ⊎_elim

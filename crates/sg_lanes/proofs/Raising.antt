@@ -20,7 +20,7 @@ use Rattle.sg_lanes.specs.Frontiers.{Frontier, IsFrontier}
 use Rattle.sg_lanes.proofs.Recorded.{incumbent-after, worked_search}
 
 module _ (p : Task) (s : Search) (f : Frontier) (h : IsFrontier p s f) (lane : ℕ) (node : Fix) (fact : Fact) (point : Option Committed) (holds : Holds s lane node true)
-  (result : IsResult p.game (record { fix = node; fact = fact; point = point })) where
+    (result : IsResult p.game (record { fix = node; fact = fact; point = point })) where
   abbrev t : Search
   t = worked_search s lane node fact point
 

@@ -37,7 +37,7 @@ abbrev pub worked_search : Search → ℕ → Fix → Fact → Option Committed 
 worked_search s lane node fact point = record (with_lane s lane None) { worked = s.worked ++ (record { fix = node; fact = fact; point = point } ∷ []) }
 
 module _ (p : Task) (s : Search) (f : Frontier) (h : IsFrontier p s f) (lane : ℕ) (node : Fix) (fact : Fact) (point : Option Committed) (holds : Holds s lane node true)
-  (result : IsResult p.game (record { fix = node; fact = fact; point = point })) where
+    (result : IsResult p.game (record { fix = node; fact = fact; point = point })) where
   abbrev t : Search
   t = worked_search s lane node fact point
 

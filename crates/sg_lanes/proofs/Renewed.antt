@@ -55,7 +55,7 @@ plain-at g s l missing =
     (ne_eqb (length (cap_facts g s l)) (action_count g l) missing)
 
 module _ (p : Task) (s : Search) (f : Frontier) (h : IsFrontier p s f) (lane : ℕ) (node : Fix) (fact : Fact) (point : Option Committed) (holds : Holds s lane node true)
-  (result : IsResult p.game (record { fix = node; fact = fact; point = point })) (two : 2 ≤ node.first) where
+    (result : IsResult p.game (record { fix = node; fact = fact; point = point })) (two : 2 ≤ node.first) where
   abbrev t : Search
   t = worked_search s lane node fact point
 

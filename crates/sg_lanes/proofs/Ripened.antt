@@ -68,7 +68,7 @@ all-from P [] h = All-nil P
 all-from P (r ∷ rs) h = All-cons P r rs (h r (here-in r rs)) (all-from P rs (λ x at. h x (later-in r rs x at)))
 
 module _ (p : Task) (s : Search) (f : Frontier) (h : IsFrontier p s f) (lane : ℕ) (node : Fix) (fact : Fact) (point : Option Committed) (holds : Holds s lane node true)
-  (result : IsResult p.game (record { fix = node; fact = fact; point = point })) (same_caps : caps_of p.game (worked_search s lane node fact point) ≡ caps_of p.game s) (value : Fraction) where
+    (result : IsResult p.game (record { fix = node; fact = fact; point = point })) (same_caps : caps_of p.game (worked_search s lane node fact point) ≡ caps_of p.game s) (value : Fraction) where
   abbrev t : Search
   t = worked_search s lane node fact point
 
@@ -104,13 +104,17 @@ module _ (p : Task) (s : Search) (f : Frontier) (h : IsFrontier p s f) (lane : �
         let before = k.2.worked in
         let m = worked-more s w (prefix k.0) in
         let differ : y ≢ node = λ e. let u = unworked p s f h lane node fact point holds result in let c : worked_count s (prefix k.0) ≡ worked_count s node = ap (worked_count s) (sym k.1 ∙ e) in omega (arith, u, c, before) in (
-          (k.0, k.1, record {
-            some = k.2.some;
-            worked = omega (arith, m, before);
-            unsplit = k.2.unsplit;
-            short = k.2.short;
-            over = sym (test-is pass.item k.0 (pass.key_is ∙ k.1) pass.at k.2.some before) ∙ pass.passes;
-          }),
+          (
+            k.0,
+            k.1,
+            record {
+              some = k.2.some;
+              worked = omega (arith, m, before);
+              unsplit = k.2.unsplit;
+              short = k.2.short;
+              over = sym (test-is pass.item k.0 (pass.key_is ∙ k.1) pass.at k.2.some before) ∙ pass.passes;
+            },
+          ),
           differ,
         )
 

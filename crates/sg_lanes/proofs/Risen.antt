@@ -45,7 +45,7 @@ module _ (g : Game) (node : Fix) (fact : Fact) (k : Committed) (r : IsResult g (
   point-fits = r.narrow.value
 
 module _ (p : Task) (s : Search) (f : Frontier) (h : IsFrontier p s f) (node : Fix) (fact : Fact) (k : Committed) (r : IsResult p.game (record { fix = node; fact = fact; point = Some k })) (new : Fraction)
-  (is_new : Stands new (value_fraction p.game k.tickets)) where
+    (is_new : Stands new (value_fraction p.game k.tickets)) where
   test-alike : exceeds new f.value ≡ exceeds (value_fraction p.game k.tickets) (lower p s)
   test-alike = exceeds-alike new (value_fraction p.game k.tickets) f.value (lower p s) is_new h.value (positive-value p.game h.peopled k.tickets r.point.2.commitment) (value-positive p s f h)
 

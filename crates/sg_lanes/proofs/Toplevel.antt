@@ -28,7 +28,7 @@ use Rattle.sg_search.proofs.Listing.{here-in, either-in, keyed-in, none-in, orde
 use Rattle.sg_search.proofs.Ranges.{fact-source}
 use Rattle.sg_lanes.specs.declared.ripe.Ripe.{Ripe}
 use Rattle.sg_lanes.specs.Choices.{ripe_nodes}
-use Rattle.sg_lanes.specs.Ripenings.{AreTops, IsTop}
+use Rattle.sg_lanes.specs.Ripenings.{AreTopEntries, IsTopEntry}
 use Rattle.sg_lanes.proofs.Sifted.{part-first}
 
 -- ---- what the bound of a worked prefix asks for
@@ -58,7 +58,7 @@ set-back (x ∷ xs) (suc i) a b d e = ap (λ (cs : List Cap). x ∷ cs) (set-bac
 -- ---- one action after another
 
 module _ (g : Game) (s : Search) (value : Fraction) where
-  pub tops-start : AreTops g s value 0 []
+  pub tops-start : AreTopEntries g s value 0 []
   tops-start = record {
     in_order = order-nil;
     each = λ r at. absurd (none-in at);
@@ -72,24 +72,24 @@ module _ (g : Game) (s : Search) (value : Fraction) where
       by zero e = inl (omega (arith, e))
       by (suc k) e = inr (omega (arith, e, le))
 
-  pub tops-none : (n : ℕ) (rs : List Ripe) → AreTops g s value n rs → IsTop g s value (n + 1) None → AreTops g s value (n + 1) rs
+  pub tops-none : (n : ℕ) (rs : List Ripe) → AreTopEntries g s value n rs → IsTopEntry g s value (n + 1) None → AreTopEntries g s value (n + 1) rs
   tops-none n rs h out = record {
     in_order = h.in_order;
     each = λ r at. let k = h.each r at in let le = k.2 in (k.0, k.1, omega (arith, le), k.3);
-    all = λ a low high. ⊎_elim (λ le. h.all a low le) (λ e. inl (subst (λ (b : ℕ). IsTop g s value b None) (sym e) out)) (either-top n a high);
+    all = λ a low high. ⊎_elim (λ le. h.all a low le) (λ e. inl (subst (λ (b : ℕ). IsTopEntry g s value b None) (sym e) out)) (either-top n a high);
   }
 
-  pub tops-more : (n : ℕ) (rs : List Ripe) (e : Ripe) → AreTops g s value n rs → IsTop g s value (n + 1) (Some e) → AreTops g s value (n + 1) (rs ++ (e ∷ []))
+  pub tops-more : (n : ℕ) (rs : List Ripe) (e : Ripe) → AreTopEntries g s value n rs → IsTopEntry g s value (n + 1) (Some e) → AreTopEntries g s value (n + 1) (rs ++ (e ∷ []))
   tops-more n rs e h one = record {
     in_order = subst InOrder (sym (map-append (λ (r : Ripe). r.node) rs (e ∷ [])))
         (order-append (ripe_nodes rs) (e.node ∷ []) h.in_order (order-cons e.node [] (λ y at. absurd (none-in at)) order-nil) cross);
     each = λ r at. ⊎_elim
         (λ old. let k = h.each r old in let le = k.2 in (k.0, k.1, omega (arith, le), k.3))
-        (λ new. (n + 1, omega arith, omega arith, subst (λ (x : Ripe). IsTop g s value (n + 1) (Some x)) (last-is r new) one))
+        (λ new. (n + 1, omega arith, omega arith, subst (λ (x : Ripe). IsTopEntry g s value (n + 1) (Some x)) (last-is r new) one))
         (Contains-append_cases rs (e ∷ []) r at);
     all = λ a low high. ⊎_elim
         (λ le. ⊎_elim (λ out. inl out) (λ k. inr (k.0, Contains-append_left rs (e ∷ []) k.0 k.1, k.2)) (h.all a low le))
-        (λ is. inr (e, Contains-append_right rs (e ∷ []) e (here-in e []), subst (λ (b : ℕ). IsTop g s value b (Some e)) (sym is) one))
+        (λ is. inr (e, Contains-append_right rs (e ∷ []) e (here-in e []), subst (λ (b : ℕ). IsTopEntry g s value b (Some e)) (sym is) one))
         (either-top n a high);
   }
     where

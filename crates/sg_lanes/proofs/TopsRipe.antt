@@ -22,7 +22,7 @@ use Rattle.sg_lanes.specs.Bounds.{Stands, StandsFor}
 use Rattle.sg_lanes.specs.Choices.{is_over_by, ripe_nodes}
 use Rattle.sg_lanes.specs.Frontiers.{IsRipe}
 use Rattle.sg_lanes.specs.ProvedCaps.{only_worked}
-use Rattle.sg_lanes.specs.Ripenings.{AreTops, IsTop}
+use Rattle.sg_lanes.specs.Ripenings.{AreTopEntries, IsTopEntry}
 use Rattle.sg_lanes.proofs.Fractions.{over-alike}
 use Rattle.sg_lanes.proofs.Picked.{stands-some}
 use Rattle.sg_lanes.proofs.Ripened.{all-from}
@@ -39,20 +39,23 @@ own-worked g s acts x = by (fact_of s.worked (prefix acts)) refl
     by (Some f) e bound = fact-worked s.worked (prefix acts) f e
 
 module _ (p : Task) (t : Search) (peopled : IsPeopled p.game) (results : All (IsResult p.game) t.worked) (placed : ArePlaced p.game t) (root : t.splits ≡ [] ∷ []) (more : 1 < length p.game.types)
-  (value : Fraction) (stands : Stands value (lower p t)) (positive : pos 1 ≤ℤ (lower p t).den) (rs : List Ripe) (tops : AreTops p.game (only_worked t.worked) value (action_count p.game 1) rs) where
+    (value : Fraction) (stands : Stands value (lower p t)) (positive : pos 1 ≤ℤ (lower p t).den) (rs : List Ripe) (tops : AreTopEntries p.game (only_worked t.worked) value (action_count p.game 1) rs) where
   test-is : (a : ℕ) (o : Option Fraction) → StandsFor o (own_bound p.game t (a ∷ [])) → is_over_by o value ≡ is_over p t (own_bound p.game t (a ∷ []))
   test-is a o k = over-alike p t o (own_bound p.game t (a ∷ [])) value k stands (λ x e. inherited-positive p.game peopled t (are_facts p.game t results) (a ∷ []) x e) positive
 
-  top-ripe : (r : Ripe) (a : ℕ) → IsTop p.game (only_worked t.worked) value a (Some r) → IsRipe p t r.node
+  top-ripe : (r : Ripe) (a : ℕ) → IsTopEntry p.game (only_worked t.worked) value a (Some r) → IsRipe p t r.node
   top-ripe r a top =
-      let bound = stands-some r.bound (own_bound p.game t (a ∷ [])) top.1 in
-      (a ∷ [], top.0, record {
-        some = λ e. cc;
-        worked = own-worked p.game t (a ∷ []) bound.0 bound.1;
-        unsplit = subst (λ (splits : List (List ℕ)). is_split splits (a ∷ []) ≡ false) (sym root) refl;
-        short = more;
-        over = sym (test-is a (Some r.bound) top.1) ∙ top.2;
-      })
+      let bound = stands-some r.bound (own_bound p.game t (a ∷ [])) top.1 in (
+        a ∷ [],
+        top.0,
+        record {
+          some = λ e. cc;
+          worked = own-worked p.game t (a ∷ []) bound.0 bound.1;
+          unsplit = subst (λ (splits : List (List ℕ)). is_split splits (a ∷ []) ≡ false) (sym root) refl;
+          short = more;
+          over = sym (test-is a (Some r.bound) top.1) ∙ top.2;
+        },
+      )
 
   -- a prefix that was worked fixes one type
   one-action : (acts : List ℕ) → 1 ≤ worked_count t (prefix acts) → (a : ℕ) × (1 ≤ a) × (a ≤ action_count p.game 1) × (acts ≡ a ∷ [])
@@ -77,7 +80,7 @@ module _ (p : Task) (t : Search) (peopled : IsPeopled p.game) (results : All (Is
       let k = one-action acts may.worked in
       by k.0 k.3 (tops.all k.0 k.1 k.2)
     where
-      by : (a : ℕ) → acts ≡ a ∷ [] → IsTop p.game (only_worked t.worked) value a None ⊎ ((r : Ripe) × Contains rs r × IsTop p.game (only_worked t.worked) value a (Some r)) → Contains (ripe_nodes rs) x
+      by : (a : ℕ) → acts ≡ a ∷ [] → IsTopEntry p.game (only_worked t.worked) value a None ⊎ ((r : Ripe) × Contains rs r × IsTopEntry p.game (only_worked t.worked) value a (Some r)) → Contains (ripe_nodes rs) x
       by a e (inl out) =
           let over = subst (λ (xs : List ℕ). is_over p t (own_bound p.game t xs) ≡ true) e may.over in
           absurd (true≢false (sym over ∙ sym (test-is a out.0 out.1) ∙ out.2))

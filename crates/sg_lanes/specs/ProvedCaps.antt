@@ -1,6 +1,5 @@
 -- The cap of a type, once all its nodes are worked.
 use Rattle.std.specs.Prelude.{◌≡◌, ◌≢◌, ℕ, List, [], length, ℤ, pos, ◌*ℤ◌, ◌≤ℤ◌, Option, Some, None}
-use Rattle.std.specs.Int.{int_max}
 use Rattle.sg_model.specs.Games.{Game, action_count, attacker}
 use Rattle.sg_model.specs.declared.limit.TheConstants.{PAYOFF_LIMIT}
 use Rattle.sg_num.specs.Exact.{Fits}
@@ -31,9 +30,3 @@ pub record IsCapFact (g : Game) (l : ℕ) (f : Fact) : Type 0 where
   pub rho : pos 1 ≤ℤ rho_of f
   pub fits : Fits (rho_of f *ℤ (attacker g l).prior)
   pub under : IsUnderCap g l PAYOFF_LIMIT f
-
--- the greater of two numbers that may be missing
-abbrev pub greater_of : Option ℤ → Option ℤ → Option ℤ
-greater_of None b = b
-greater_of (Some a) None = Some a
-greater_of (Some a) (Some b) = Some (int_max a b)

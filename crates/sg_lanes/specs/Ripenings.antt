@@ -36,12 +36,12 @@ IsEntry p s node fact value (Some e) =
 -- ---- the prefixes of one type
 
 -- the prefix of one action with its bound, where that is there and above a value
-abbrev pub IsTop : Game → Search → Fraction → ℕ → Option Ripe → Type 0
-IsTop g s value a None = (b : Option Fraction) × StandsFor b (own_bound g s (a ∷ [])) × (is_over_by b value ≡ false)
-IsTop g s value a (Some e) = (e.node ≡ prefix (a ∷ [])) × StandsFor (Some e.bound) (own_bound g s (a ∷ [])) × (exceeds e.bound value ≡ true)
+abbrev pub IsTopEntry : Game → Search → Fraction → ℕ → Option Ripe → Type 0
+IsTopEntry g s value a None = (b : Option Fraction) × StandsFor b (own_bound g s (a ∷ [])) × (is_over_by b value ≡ false)
+IsTopEntry g s value a (Some e) = (e.node ≡ prefix (a ∷ [])) × StandsFor (Some e.bound) (own_bound g s (a ∷ [])) × (exceeds e.bound value ≡ true)
 
 -- those of the first n actions, in order
-pub record AreTops (g : Game) (s : Search) (value : Fraction) (n : ℕ) (rs : List Ripe) : Type 0 where
+pub record AreTopEntries (g : Game) (s : Search) (value : Fraction) (n : ℕ) (rs : List Ripe) : Type 0 where
   pub in_order : AllPairs (λ a b. comes_first a b ≡ true) (ripe_nodes rs)
-  pub each : (r : Ripe) → Contains rs r → (a : ℕ) × (1 ≤ a) × (a ≤ n) × IsTop g s value a (Some r)
-  pub all : (a : ℕ) → 1 ≤ a → a ≤ n → IsTop g s value a None ⊎ ((r : Ripe) × Contains rs r × IsTop g s value a (Some r))
+  pub each : (r : Ripe) → Contains rs r → (a : ℕ) × (1 ≤ a) × (a ≤ n) × IsTopEntry g s value a (Some r)
+  pub all : (a : ℕ) → 1 ≤ a → a ≤ n → IsTopEntry g s value a None ⊎ ((r : Ripe) × Contains rs r × IsTopEntry g s value a (Some r))

@@ -38,7 +38,10 @@ pub(crate) fn put_best(commitment: &mut Commitment, value: &mut Frac, best: Opti
 {
     match best {
         Some(best) => {
-            let Best { commitment: new, value: new_value } = best;
+            let Best {
+                commitment: new,
+                value: new_value,
+            } = best;
             *commitment = new;
             *value = new_value;
         }
@@ -48,7 +51,11 @@ pub(crate) fn put_best(commitment: &mut Commitment, value: &mut Frac, best: Opti
 
 impl<'a> Lanes<'a> {
     /// A point that is better than the incumbent, with its value; an equal one doesn't replace it.
-    pub(crate) fn rise(&self, alloc: Global, point: &Option<Commitment>) -> Result<Option<Best>, AllocError>
+    pub(crate) fn rise(
+        &self,
+        alloc: Global,
+        point: &Option<Commitment>,
+    ) -> Result<Option<Best>, AllocError>
         requires { (node : Fix) × (fact : Fact) × IsResult self.now.task.game (record { fix = node; fact = fact; point = point.now }) }
         ensures { IfOk result (λ best. IsRise self.now.task self.now.search point.now best) }
     {

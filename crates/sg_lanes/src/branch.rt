@@ -19,10 +19,10 @@ use crate::lanes::Lanes;
 use crate::nodes::{is_same, part_of};
 use crate::ripe::Ripe;
 use crate::take::give;
-use sg_work::Work;
 use sg_frac::Frac;
 use sg_game::Game;
 use sg_tree::Fix;
+use sg_work::Work;
 use sqlite_items::Items;
 use std::alloc::{AllocError, Global};
 
@@ -44,9 +44,11 @@ fn later_parts(alloc: Global, game: &Game, acts: &[u16]) -> Result<Vec<Fix>, All
 fn take_ripe(ripe: &mut Vec<Ripe>, node: &Fix)
     ensures { ripe.new.items ≡ filter (λ (r : Ripe). not (same node.now r.node)) ripe.old.items }
 {
-    ripe.retain(|other| -> bool
-        ensures { result ≡ not (same node.entry.now other.now.node) }
-    { !is_same(node, &other.node) });
+    ripe.retain(
+        |other| -> bool
+            ensures { result ≡ not (same node.entry.now other.now.node) }
+        { !is_same(node, &other.node) },
+    );
 }
 
 impl<'a> Lanes<'a> {

@@ -48,7 +48,12 @@ pub(crate) fn plain_cap(alloc: Global, game: &Game, l: u8) -> Cap
 }
 
 /// The facts of a type's cap nodes, copied, where all are worked.
-fn all_facts(alloc: Global, game: &Game, worked: &[Worked], l: u8) -> Result<Option<Items<Fact>>, AllocError>
+fn all_facts(
+    alloc: Global,
+    game: &Game,
+    worked: &[Worked],
+    l: u8,
+) -> Result<Option<Items<Fact>>, AllocError>
     requires { IsTypeOf game.now l }
     ensures { IfOk result (λ facts. AreAllFacts game.now (only_worked worked.now) l facts) }
 {
@@ -99,9 +104,9 @@ fn least_of(game: &Game, shift: i64, l: u8, fact: &Fact) -> Option<i64>
     Some(unshifted(rounded_up(mu, den), shift))
 }
 
-/// The greater of two numbers that may be missing.
+/// The greater of two numbers that may be missing: among others it has the same greatest as both.
 fn greater(left: Option<i64>, right: Option<i64>) -> Option<i64>
-    ensures { result ≡ greater_of left right }
+    ensures { (others : List ℤ) → greatest (option_to_list result ++ others) ≡ greatest (option_to_list left ++ (option_to_list right ++ others)) }
 {
     match (left, right) {
         (None, right) => right,
@@ -128,7 +133,13 @@ fn greatest_least(game: &Game, shift: i64, l: u8, facts: &[Fact]) -> i64
 }
 
 /// The cap of a type, once all its nodes are worked: the least whole number that none of their facts exceeds.
-pub(crate) fn proved_cap(alloc: Global, game: &Game, shift: i64, worked: &[Worked], l: u8) -> Result<Option<Cap>, AllocError>
+pub(crate) fn proved_cap(
+    alloc: Global,
+    game: &Game,
+    shift: i64,
+    worked: &[Worked],
+    l: u8,
+) -> Result<Option<Cap>, AllocError>
     requires known { IsTypeOf game.now l }
     requires later { 2 ≤ l }
     requires shift { shift ≡ shift_of game.now }

@@ -12,8 +12,8 @@ ghost use Rattle.sg_work.specs.Works.{AreSameTests, Load, load_at};
 
 use crate::choose::Choice;
 use crate::lanes::Lanes;
-use sg_work::{Ended, Step, Work};
 use sg_search::{Event, Outcome, Ready};
+use sg_work::{Ended, Step, Work};
 use std::alloc::{AllocError, Global};
 
 /// Among how many nodes a lane may choose that is told this: none, where it may not begin.

@@ -21,4 +21,3 @@ mod tops;
 
 pub use lanes::Lanes;
 pub use ripe::Ripe;
-

@@ -32,9 +32,11 @@ pub(crate) fn precedes(a: &Fix, b: &Fix) -> bool
 pub(crate) fn take_out(nodes: &mut Vec<Fix>, node: &Fix)
     ensures { nodes.new.items ≡ filter (λ y. not (same node.now y)) nodes.old.items }
 {
-    nodes.retain(|other| -> bool
-        ensures { result ≡ not (same node.entry.now other.now) }
-    { !is_same(node, other) });
+    nodes.retain(
+        |other| -> bool
+            ensures { result ≡ not (same node.entry.now other.now) }
+        { !is_same(node, other) },
+    );
 }
 
 /// A part of a prefix, by its action.

@@ -50,7 +50,13 @@ fn has_other(undone: &[Fix], node: &Fix) -> bool
 
 impl<'a> Lanes<'a> {
     /// The entry of a prefix that was worked, with its bound, where it may be split.
-    fn entry(&self, alloc: Global, node: &Fix, fact: &Fact, value: Frac) -> Result<Option<Ripe>, AllocError>
+    fn entry(
+        &self,
+        alloc: Global,
+        node: &Fix,
+        fact: &Fact,
+        value: Frac,
+    ) -> Result<Option<Ripe>, AllocError>
         requires prefix { node.now.first ≡ 1 }
         requires result { (point : Option Committed) × IsResult self.now.task.game (record { fix = node.now; fact = fact.now; point = point }) }
         ensures { IfOk result (λ o. IsEntry self.now.task self.now.search node.now fact.now value o) }
@@ -72,7 +78,15 @@ impl<'a> Lanes<'a> {
     }
 
     /// A prefix was worked.
-    fn record_prefix(&mut self, alloc: Global, lane: u8, node: Fix, fact: Fact, point: Option<Commitment>, best: Option<Best>) -> Result<(), AllocError>
+    fn record_prefix(
+        &mut self,
+        alloc: Global,
+        lane: u8,
+        node: Fix,
+        fact: Fact,
+        point: Option<Commitment>,
+        best: Option<Best>,
+    ) -> Result<(), AllocError>
         requires held { Holds self.old.search lane node true }
         requires form { node.first ≡ 1 }
         requires result { IsResult self.old.task.game (record { fix = node; fact = fact; point = point }) }
@@ -89,13 +103,25 @@ impl<'a> Lanes<'a> {
         put_in(&mut self.ripe, entry);
         take_out(&mut self.tops, &node);
         let _held = let_go(&mut self.lanes, lane);
-        self.worked.push_reserved(Worked { fix: node, fact, point });
+        self.worked.push_reserved(Worked {
+            fix: node,
+            fact,
+            point,
+        });
         put_best(&mut self.best, &mut self.value, best);
         Ok(())
     }
 
     /// A cap node was worked.
-    fn record_cap(&mut self, alloc: Global, lane: u8, node: Fix, fact: Fact, point: Option<Commitment>, best: Option<Best>) -> Result<(), AllocError>
+    fn record_cap(
+        &mut self,
+        alloc: Global,
+        lane: u8,
+        node: Fix,
+        fact: Fact,
+        point: Option<Commitment>,
+        best: Option<Best>,
+    ) -> Result<(), AllocError>
         requires held { Holds self.old.search lane node true }
         requires form { 2 ≤ node.first }
         requires result { IsResult self.old.task.game (record { fix = node; fact = fact; point = point }) }
@@ -109,7 +135,11 @@ impl<'a> Lanes<'a> {
         let more = has_other(self.undone.as_slice(), &node);
         let out = node.copy(alloc)?;
         self.worked.reserve(1)?;
-        self.worked.push_reserved(Worked { fix: node, fact, point });
+        self.worked.push_reserved(Worked {
+            fix: node,
+            fact,
+            point,
+        });
         match renew(
             alloc,
             self.game,

@@ -26,9 +26,11 @@ pub(crate) fn sift(ripe: &mut Vec<Ripe>, value: Frac)
     ensures len { vec_len ripe.new ≤ vec_len ripe.old }
     ensures capacity { vec_capacity ripe.new ≡ vec_capacity ripe.old }
 {
-    ripe.retain(|r| -> bool
-        ensures { result ≡ exceeds r.now.bound value }
-    { is_above(r.bound, value) });
+    ripe.retain(
+        |r| -> bool
+            ensures { result ≡ exceeds r.now.bound value }
+        { is_above(r.bound, value) },
+    );
 }
 
 /// Before which place a node stands among these: before the first that doesn't come before it.

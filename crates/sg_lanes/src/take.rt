@@ -17,10 +17,7 @@ pub(crate) fn give(lanes: &mut Vec<Option<Held>>, lane: u8, node: Fix)
     requires in_range { lane ≤ length lanes.old.items }
     ensures { lanes.new.items ≡ set lanes.old.items (lane - 1) (begun node) }
 {
-    lanes[lane as usize - 1] = Some(Held {
-        node,
-        ended: false,
-    });
+    lanes[lane as usize - 1] = Some(Held { node, ended: false });
 }
 
 /// Takes what a lane holds from it.

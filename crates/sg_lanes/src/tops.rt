@@ -10,7 +10,7 @@ ghost use Rattle.sg_search.specs.Bounding.{cap_at, cap_facts, caps_of, exceeds};
 ghost use Rattle.sg_search.specs.Results.{IsResult};
 ghost use Rattle.sg_lanes.specs.declared.ripe.Ripe.{Ripe};
 ghost use Rattle.sg_lanes.specs.ProvedCaps.{only_worked};
-ghost use Rattle.sg_lanes.specs.Ripenings.{AreTops, IsTop};
+ghost use Rattle.sg_lanes.specs.Ripenings.{AreTopEntries, IsTopEntry};
 
 use crate::bound::{bound_of, is_above};
 use crate::cap::{fact_at, proved_cap};
@@ -23,13 +23,21 @@ use std::alloc::{AllocError, Global};
 use std::mem;
 
 /// The prefix of one action with its bound, where it is worked and may be split.
-fn top_entry(alloc: Global, game: &Game, shift: i64, caps: &[Cap], worked: &[Worked], value: Frac, act: u16) -> Result<Option<Ripe>, AllocError>
+fn top_entry(
+    alloc: Global,
+    game: &Game,
+    shift: i64,
+    caps: &[Cap],
+    worked: &[Worked],
+    value: Frac,
+    act: u16,
+) -> Result<Option<Ripe>, AllocError>
     requires shift { shift ≡ shift_of game.now }
     requires peopled { IsPeopled game.now }
     requires results { All (IsResult game.now) worked.now }
     requires first { (k : List Ticket) × IsCommitment game.now k }
     requires caps { caps.now ≡ caps_of game.now (only_worked worked.now) }
-    ensures { IfOk result (λ entry. IsTop game.now (only_worked worked.now) value act entry) }
+    ensures { IfOk result (λ entry. IsTopEntry game.now (only_worked worked.now) value act entry) }
 {
     match fact_at(worked, 1, act) {
         None => Ok(None),
@@ -47,13 +55,20 @@ fn top_entry(alloc: Global, game: &Game, shift: i64, caps: &[Cap], worked: &[Wor
 }
 
 /// The prefixes of one action that may be split, in order.
-fn ripe_tops(alloc: Global, game: &Game, shift: i64, caps: &[Cap], worked: &[Worked], value: Frac) -> Result<Vec<Ripe>, AllocError>
+fn ripe_tops(
+    alloc: Global,
+    game: &Game,
+    shift: i64,
+    caps: &[Cap],
+    worked: &[Worked],
+    value: Frac,
+) -> Result<Vec<Ripe>, AllocError>
     requires shift { shift ≡ shift_of game.now }
     requires peopled { IsPeopled game.now }
     requires results { All (IsResult game.now) worked.now }
     requires first { (k : List Ticket) × IsCommitment game.now k }
     requires caps { caps.now ≡ caps_of game.now (only_worked worked.now) }
-    ensures { IfOk result (λ ripe. AreTops game.now (only_worked worked.now) value (action_count game.now 1) ripe.items) }
+    ensures { IfOk result (λ ripe. AreTopEntries game.now (only_worked worked.now) value (action_count game.now 1) ripe.items) }
 {
     let _types = game.types();
     let count = game.actions(1);
@@ -68,7 +83,15 @@ fn ripe_tops(alloc: Global, game: &Game, shift: i64, caps: &[Cap], worked: &[Wor
 }
 
 /// Puts a cap in its place, and gives the prefixes that may be split under it. After want of memory the caps are as before.
-fn put_cap(alloc: Global, game: &Game, shift: i64, caps: &mut Vec<Cap>, worked: &[Worked], value: Frac, cap: Cap) -> Result<Vec<Ripe>, AllocError>
+fn put_cap(
+    alloc: Global,
+    game: &Game,
+    shift: i64,
+    caps: &mut Vec<Cap>,
+    worked: &[Worked],
+    value: Frac,
+    cap: Cap,
+) -> Result<Vec<Ripe>, AllocError>
     requires later { 2 ≤ cap.l }
     requires within { cap.l ≤ length caps.old.items + 1 }
     requires shift { shift ≡ shift_of game.now }
@@ -76,7 +99,7 @@ fn put_cap(alloc: Global, game: &Game, shift: i64, caps: &mut Vec<Cap>, worked: 
     requires results { All (IsResult game.now) worked.now }
     requires first { (k : List Ticket) × IsCommitment game.now k }
     requires caps { set caps.old.items (cap.l - 2) cap ≡ caps_of game.now (only_worked worked.now) }
-    ensures ripe { IfOk result (λ ripe. AreTops game.now (only_worked worked.now) value (action_count game.now 1) ripe.items) }
+    ensures ripe { IfOk result (λ ripe. AreTopEntries game.now (only_worked worked.now) value (action_count game.now 1) ripe.items) }
     ensures caps { OnOk result (caps.new.items ≡ caps_of game.now (only_worked worked.now)) }
     ensures kept { OnErr result (caps.new.items ≡ caps.old.items) }
 {
@@ -117,7 +140,7 @@ pub(crate) fn renew(
     requires plain { length (cap_facts game.now (only_worked worked.now) l) ≢ action_count game.now l → caps.old.items ≡ caps_of game.now (only_worked worked.now) }
     requires proved { set caps.old.items (l - 2) (cap_at game.now (only_worked worked.now) l) ≡ caps_of game.now (only_worked worked.now) }
     ensures caps { OnOk result (caps.new.items ≡ caps_of game.now (only_worked worked.now)) }
-    ensures ripe { OnOk result (((caps.new.items ≡ caps.old.items) × (ripe.new.items ≡ filter (λ (r : Ripe). exceeds r.bound value) ripe.old.items)) ⊎ AreTops game.now (only_worked worked.now) value (action_count game.now 1) ripe.new.items) }
+    ensures ripe { OnOk result (((caps.new.items ≡ caps.old.items) × (ripe.new.items ≡ filter (λ (r : Ripe). exceeds r.bound value) ripe.old.items)) ⊎ AreTopEntries game.now (only_worked worked.now) value (action_count game.now 1) ripe.new.items) }
     ensures caps_kept { OnErr result (caps.new.items ≡ caps.old.items) }
     ensures ripe_kept { OnErr result (ripe.new.items ≡ ripe.old.items) }
 {

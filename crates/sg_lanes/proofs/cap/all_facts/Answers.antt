@@ -22,6 +22,6 @@ loop-i-preserved c =
     let k = length_push xs f in
     record {
       whole = ap (λ (ys : List Fact). ys ++ filter_map h (numbers_from (i + 1 + 1) (n - (i + 1)))) c.in_ok-push-in-Some.ensures.ok
-      ∙ facts-step h xs (filter_map h (numbers n)) f i n c.loop-i-test.true c.loop-i.invariant.whole (sym c.in-Some.ensures ∙ ap (λ (x : Fact). Some x) (sym c.in_ok-copy-in-Some.ensures));
+          ∙ facts-step h xs (filter_map h (numbers n)) f i n c.loop-i-test.true c.loop-i.invariant.whole (sym c.in-Some.ensures ∙ ap (λ (x : Fact). Some x) (sym c.in_ok-copy-in-Some.ensures));
       long = ap (λ (ys : List Fact). length ys) c.in_ok-push-in-Some.ensures.ok ∙ omega (arith, k, c.loop-i.invariant.long);
     }

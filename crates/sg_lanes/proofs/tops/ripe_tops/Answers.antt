@@ -1,7 +1,7 @@
 use Rattle.std.proofs.Common.{◌≡◌, ◌∙◌, ◌+◌, ◌++◌, ◌∷◌, [], ap, sym, subst, List, Option, Some, None}
 use Rattle.sg_lanes.specs.declared.ripe.Ripe.{Ripe}
 use Rattle.sg_lanes.specs.ProvedCaps.{only_worked}
-use Rattle.sg_lanes.specs.Ripenings.{AreTops, IsTop}
+use Rattle.sg_lanes.specs.Ripenings.{AreTopEntries, IsTopEntry}
 use Rattle.sg_lanes.proofs.Toplevel.{tops-more, tops-none}
 use Rattle.sg_lanes.proofs.tops.ripe_tops.Goals as goal
 use Rattle.sg_lanes.proofs.tops.ripe_tops.Goals.{in-None, in-Some+in_ok-push-in-Some}
@@ -13,7 +13,7 @@ loop-i-preserved c =
     let v = c.args.value in
     let i = c.loop-i.i in
     elim c.match-branch-2.branch [
-    | in-None w ↦ subst (λ (rs : List Ripe). AreTops g s v (i + 1) rs) (sym (ap (λ (r : _). r.items) w.ripe-is)) (tops-none g s v i c.loop-i.ripe.items c.loop-i.invariant (subst (λ (o : Option Ripe). IsTop g s v (i + 1) o) w.in-None.is c.in_ok-top_entry.ensures))
-    | in-Some+in_ok-push-in-Some w ↦ subst (λ (rs : List Ripe). AreTops g s v (i + 1) rs) (sym (ap (λ (r : _). r.items) w.ripe-is ∙ w.in_ok-push-in-Some.ensures.items))
-        (tops-more g s v i c.loop-i.ripe.items w.in-Some.entry c.loop-i.invariant (subst (λ (o : Option Ripe). IsTop g s v (i + 1) o) w.in-Some.is c.in_ok-top_entry.ensures))
+      | in-None w ↦ subst (λ (rs : List Ripe). AreTopEntries g s v (i + 1) rs) (sym (ap (λ (r : _). r.items) w.ripe-is)) (tops-none g s v i c.loop-i.ripe.items c.loop-i.invariant (subst (λ (o : Option Ripe). IsTopEntry g s v (i + 1) o) w.in-None.is c.in_ok-top_entry.ensures))
+      | in-Some+in_ok-push-in-Some w ↦ subst (λ (rs : List Ripe). AreTopEntries g s v (i + 1) rs) (sym (ap (λ (r : _). r.items) w.ripe-is ∙ w.in_ok-push-in-Some.ensures.items))
+          (tops-more g s v i c.loop-i.ripe.items w.in-Some.entry c.loop-i.invariant (subst (λ (o : Option Ripe). IsTopEntry g s v (i + 1) o) w.in-Some.is c.in_ok-top_entry.ensures))
     ]
