@@ -19,17 +19,7 @@ greatest-holds : (f : ℕ → ℕ) (xs : List ℕ) (x : ℕ) → Contains xs x �
 greatest-holds f xs x h = subst (λ (y : ℕ). f y ≤ fold max 0 (map f xs)) h.2 (greatest-at f 0 xs h.0 x h.1)
 
 module _ (g : Game) (ws : List ℤ) (covered : ℕ → Bool) where
-  pub best-none : IsBestSchedule g ws covered [] no_schedule
-  best-none = record { weight = refl; reached = inl refl }
-
-  -- one more schedule adds no more
-  pub best-stays : (xs : List ℕ) (best : BestSchedule) (s weight : ℕ) → IsBestSchedule g ws covered xs best → weight ≡ saturated (schedule_weight g ws covered s) → weight ≤ best.weight → IsBestSchedule g ws covered (xs ++ s ∷ []) best
-  best-stays xs best s weight h is le = record {
-    weight = omega (arith, h.weight, is, le, greatest-append (schedule_weight g ws covered) 0 xs s);
-    reached = elim h.reached [ inl none ↦ inl none | inr r ↦ inr (Contains-append_left xs (s ∷ []) best.schedule r.0, r.1, r.2) ];
-  }
-
-  -- it adds more
+  -- a schedule that adds more
   pub best-rises : (xs : List ℕ) (best : BestSchedule) (s weight : ℕ) → IsBestSchedule g ws covered xs best → IsScheduleOf g s → weight ≡ saturated (schedule_weight g ws covered s) → best.weight < weight
       → IsBestSchedule g ws covered (xs ++ s ∷ []) (record { schedule = s; weight = weight })
   best-rises xs best s weight h known is lt = record {
@@ -37,7 +27,7 @@ module _ (g : Game) (ws : List ℤ) (covered : ℕ → Bool) where
     reached = inr (Contains-append_right xs (s ∷ []) s (0, omega arith, refl), known, is);
   }
 
--- where more is covered, a best stays while its schedule adds as much
+-- where more is covered, the best schedule stays while it adds as much
 pub best-still : (g : Game) (ws : List ℤ) (before after : ℕ → Bool) (xs : List ℕ) (best : BestSchedule) → StaysCovered before after → IsBestSchedule g ws before xs best
     → (best.weight ≡ 0) ⊎ (best.weight ≡ saturated (schedule_weight g ws after best.schedule)) → IsBestSchedule g ws after xs best
 best-still g ws before after xs best stays h same =
@@ -53,7 +43,7 @@ best-still g ws before after xs best stays h same =
       ]
     ]
 
--- best set one after the other
+-- best schedules set one after the other
 pub best-set : (P : ℕ → BestSchedule → Type 0) (best : List BestSchedule) (a i : ℕ) (x : BestSchedule) → i < length best → ((j : ℕ) → a ≤ j → j < i → P j (slice_index_or best j no_schedule)) → P i x
     → (j : ℕ) → a ≤ j → j < i + 1 → P j (slice_index_or (slice_set best i x) j no_schedule)
 best-set P best a i x lt before here j low high = elim (le_or_lt i j) [
