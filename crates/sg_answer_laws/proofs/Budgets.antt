@@ -1,5 +1,5 @@
 -- How many nodes may be worked of a game, beside the rows of its largest program.
-use Rattle.std.proofs.Common.{◌≡◌, ℕ, zero, suc, ◌+◌, ◌-◌, ◌*◌, ◌/◌, ◌≤◌, ◌<◌, min, pos, arith}
+use Rattle.std.proofs.Common.{◌≡◌, ℕ, ◌*◌, ◌/◌, ◌≤◌, pos, arith}
 use Rattle.std.proofs.Math.Nat.{le-div_iff_mul-le, le-min, min-le_left, min-le_right}
 use Rattle.std.proofs.lemmas.Nat.{le-div}
 use Rattle.sg_model.specs.Games.{Game}

@@ -1,13 +1,13 @@
 -- The caps of a search's report lie in the ranges of a report's text.
-use Rattle.std.proofs.Common.{◌≡◌, ℕ, zero, suc, ◌+◌, ◌-◌, ◌≤◌, ◌<◌, ◌^◌, Bool, true, false, cond, nat_eq, List, [], ◌∷◌, map, flat_map, length, filter_map, ℤ, pos, negsuc, ◌-ℤ◌, ◌≤ℤ◌, sym, ◌∙◌, ap, subst, refl, arith, Option, Some, None, slice_index_or}
+use Rattle.std.proofs.Common.{◌≡◌, ℕ, zero, suc, ◌+◌, ◌-◌, ◌≤◌, ◌<◌, ◌^◌, Bool, true, false, cond, nat_eq, List, [], flat_map, length, filter_map, ℤ, pos, negsuc, ◌≤ℤ◌, refl, arith, Option, Some, None}
 use Rattle.std.specs.List.{All, AllByRecursion, cons_option}
 use Rattle.std.proofs.lemmas.Int.{ints}
 use Rattle.std.proofs.lemmas.List.Elements.{All-map, recursion_from_All}
 use Rattle.sg_model.specs.declared.ticket.Ticket.{Ticket}
-use Rattle.sg_model.specs.Sums.{greatest, least, numbers, numbers_from}
+use Rattle.sg_model.specs.Sums.{greatest, numbers, numbers_from}
 use Rattle.sg_model.specs.Games.{Game, action_count}
 use Rattle.sg_model.specs.Limits.{IsGame}
-use Rattle.sg_model.specs.Payoffs.{IsPeopled, greatest_of, payoffs_of, shift_of}
+use Rattle.sg_model.specs.Payoffs.{greatest_of, payoffs_of}
 use Rattle.sg_model.specs.Commitments.{IsCommitment}
 use Rattle.sg_model.proofs.Numbers.{All-numbers_from}
 use Rattle.sg_model.proofs.Promises.{peopled}

@@ -1,10 +1,9 @@
 -- The causes that stop nodes lie in the ranges of a report's text.
-use Rattle.std.proofs.Common.{◌≡◌, ◌≢◌, ◌⊎◌, ℕ, zero, suc, ◌+◌, ◌-◌, ◌*◌, ◌/◌, ◌≤◌, ◌<◌, ◌^◌, Bool, true, false, cond, List, [], ◌∷◌, ◌++◌, length, sym, ◌∙◌, ap, subst, refl, arith, inl, inr, Option, Some, None, slice_index_or}
+use Rattle.std.proofs.Common.{◌≡◌, ◌≢◌, ◌⊎◌, ℕ, ◌+◌, ◌≤◌, ◌<◌, ◌^◌, Bool, true, false, cond, List, [], ◌∷◌, ◌++◌, length, sym, subst, refl, arith, inl, inr, Option, Some, None}
 use Rattle.std.specs.List.{All, AllByRecursion, zip}
 use Rattle.std.specs.Prelude.{pos}
-use Rattle.std.proofs.lemmas.List.Elements.{All-append, All-cons, All-head, All-map, All-nil, All-tail, recursion_from_All}
+use Rattle.std.proofs.lemmas.List.Elements.{All-append, All-head, All-map, All-tail}
 use Rattle.sg_num.specs.declared.step.Wide.{Wide}
-use Rattle.sg_num.specs.Exact.{Fits}
 use Rattle.sg_num.specs.Operations.{is_formed, times}
 use Rattle.sg_model.specs.Sums.{numbers, numbers_from}
 use Rattle.sg_model.specs.Commitments.{weight_total}
@@ -14,19 +13,19 @@ use Rattle.sg_tree.specs.declared.fix.Fix.{Fix}
 use Rattle.sg_tree.specs.declared.report.Cause.{Cause}
 use Rattle.sg_tree.specs.declared.report.Cause.TheVariants as cause
 use Rattle.sg_cert.specs.Ranges.{IsCause, IsFrom, IsRangedFix}
-use Rattle.sg_bounds.specs.Regions.{IsFix, IsNode, fixed}
+use Rattle.sg_bounds.specs.Regions.{IsNode}
 use Rattle.sg_bounds.specs.SizeSteps.{size_steps}
 use Rattle.sg_commit.specs.SumSteps.{worth_steps}
 use Rattle.sg_lp.specs.declared.column.Enter.{Enter}
 use Rattle.sg_lp.specs.Moves.{NamedStep, first_shown, gap_of, gap_steps, move_steps, multiplier_steps, products_of, row_product_steps, row_steps, under_name}
-use Rattle.sg_lp.specs.Pricing.{AnswerMeans, wide}
+use Rattle.sg_lp.specs.Pricing.{AnswerMeans}
 use Rattle.sg_lp.specs.States.{Tableau}
 use Rattle.sg_lp.proofs.Runs.{run-state}
-use Rattle.sg_simplex.specs.Turns.{HasCause, IsPriced, IsWideMove}
+use Rattle.sg_simplex.specs.Turns.{HasCause}
 use Rattle.sg_simplex.specs.declared.turn.Turn.{Turn}
 use Rattle.sg_simplex.specs.declared.turn.Turn.TheVariants as turn
 use Rattle.sg_programs.specs.NodeLaws.{IsMethodAt}
-use Rattle.sg_programs.specs.NodeTests.{CauseSays, EndsNode, IsNodeEnd, Method, StopsNode}
+use Rattle.sg_programs.specs.NodeTests.{IsNodeEnd, Method, StopsNode}
 use Rattle.sg_programs.specs.Plays.{plays_program}
 use Rattle.sg_programs.specs.Points.{point_steps}
 use Rattle.sg_programs.specs.Shown.{CommitmentShows, EndShows, PointShows, ShowsOr, both_bounds, commitment_values, fact_at, fact_values}

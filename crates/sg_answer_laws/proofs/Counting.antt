@@ -1,5 +1,5 @@
 -- Worked nodes counted by what they fix: by the actions in front of a prefix, and by the type of a cap.
-use Rattle.std.proofs.Common.{◌≡◌, ℕ, zero, suc, ◌+◌, ◌-◌, ◌*◌, ◌≤◌, ◌<◌, Bool, true, false, true≢false, cond, nat_eq, ◌&&◌, List, [], ◌∷◌, ◌++◌, length, bytes_eq, sym, ◌∙◌, ap, subst, refl, arith, ⊎_elim, Option, Some, None}
+use Rattle.std.proofs.Common.{◌≡◌, ℕ, zero, suc, ◌+◌, ◌≤◌, ◌<◌, Bool, true, false, cond, nat_eq, ◌&&◌, List, [], ◌∷◌, ◌++◌, bytes_eq, sym, ◌∙◌, ap, subst, refl, arith, ⊎_elim}
 use Rattle.std.proofs.lemmas.Bool.{cases_Bool, eq-eqb, eqb-true}
 use Rattle.std.proofs.lemmas.Slice.Eq.{bytes_eq-Decides}
 use Rattle.sg_tree.specs.declared.fix.Fix.{Fix}

@@ -1,20 +1,20 @@
 -- The facts of worked nodes lie in the ranges of a report's text.
-use Rattle.std.proofs.Common.{◌≡◌, ◌≢◌, ℕ, suc, ◌+◌, ◌≤◌, ◌<◌, ◌^◌, Bool, true, List, [], ◌∷◌, map, flat_map, length, Contains, ℤ, pos, ◌+ℤ◌, ◌*ℤ◌, ◌≤ℤ◌, ◌<ℤ◌, sym, ◌∙◌, ap, subst, refl, arith, inl, inr, Option, Some, None, ◌||◌, ◌&&◌, ◌==◌, nat_lt, slice_index_or, ◌⊎◌, cond, drop, ◌-◌, ◌++◌, false, zero}
+use Rattle.std.proofs.Common.{◌≡◌, ◌≢◌, ℕ, suc, ◌+◌, ◌≤◌, ◌<◌, ◌^◌, Bool, true, List, [], ◌∷◌, map, flat_map, length, Contains, ℤ, pos, ◌+ℤ◌, ◌*ℤ◌, ◌≤ℤ◌, sym, subst, refl, arith, inl, inr, Option, Some, None, ◌||◌, ◌&&◌, ◌==◌, nat_lt, slice_index_or, ◌⊎◌, cond, drop, ◌-◌, ◌++◌, false}
 use Rattle.std.specs.List.{All, AllPairs, zip}
 use Rattle.std.specs.Prelude.{int_lt}
 use Rattle.std.proofs.lemmas.Int.{ints}
 use Rattle.std.proofs.lemmas.Bool.{and_from, eq-eqb, lt-ltb}
-use Rattle.std.proofs.lemmas.List.Elements.{All-append, All-contains, All-cons, All-head, All-map, All-nil, All-tail, All-weaker}
+use Rattle.std.proofs.lemmas.List.Elements.{All-contains, All-head, All-map, All-tail}
 use Rattle.sg_model.specs.declared.ticket.Ticket.{Ticket}
 use Rattle.sg_model.specs.Sums.{greatest, least, numbers, numbers_from, total}
 use Rattle.sg_model.specs.Games.{Game, action_count, attacker}
 use Rattle.sg_model.specs.Plays.{IsLegal, pay_d}
 use Rattle.sg_model.specs.Payoffs.{IsPeopled, greatest_of, payoffs_at, payoffs_of, shift_of}
 use Rattle.sg_model.specs.Commitments.{IsCommitment, sum_d, weight_total}
-use Rattle.sg_model.proofs.Best.{All-from_map, greatest-bounds, greatest-reached}
+use Rattle.sg_model.proofs.Best.{greatest-bounds, greatest-reached}
 use Rattle.sg_model.proofs.Greatest.{or-left, or-right}
 use Rattle.sg_model.proofs.Covers.{weight_total-positive}
-use Rattle.sg_model.proofs.Ints.{v, n, plus, times, same_by, le_by, le_from, same_from, mul-le, cancel-le}
+use Rattle.sg_model.proofs.Ints.{v, plus, times, le_by, le_from, same_from, mul-le, cancel-le}
 use Rattle.sg_model.proofs.Payoffs.{Contains-flat_map, Contains-numbers, least-bounds, listed}
 use Rattle.sg_model.proofs.Sums.{total-le, total-scaled}
 use Rattle.sg_tree.specs.declared.fix.Fix.{Fix}
@@ -27,7 +27,7 @@ use Rattle.sg_bounds.specs.PlayRows.{comparisons}
 use Rattle.sg_bounds.specs.Regions.{IsNode}
 use Rattle.sg_bounds.specs.Sizes.{attacker_most, running, size_list, size_sum, size_sums}
 use Rattle.sg_commit.specs.Committed.{Committed}
-use Rattle.sg_commit.proofs.Standing.{All-back, All-front}
+use Rattle.sg_commit.proofs.Standing.{All-front}
 use Rattle.sg_tree.specs.declared.fact.Fact.{Fact}
 use Rattle.sg_tree.specs.declared.fact.Fact.TheVariants.{Plays}
 use Rattle.sg_tree.specs.declared.fact.Mark.{Mark}
@@ -37,13 +37,12 @@ use Rattle.sg_model.proofs.Before.{pairs-head, pairs-tail}
 use Rattle.sg_model.proofs.Promises.{peopled}
 use Rattle.sg_model.proofs.Sizes.{short_lists, small_counts}
 use Rattle.sg_cert.specs.LineReading.{mark_follows}
-use Rattle.sg_cert.specs.Ranges.{IsFact, IsHeader, IsMark, Rises}
+use Rattle.sg_cert.specs.Ranges.{IsFact, IsMark, Rises}
 use Rattle.sg_rows.specs.Rows.{place}
-use Rattle.sg_search.specs.Results.{IsPointOf, IsResult}
+use Rattle.sg_search.specs.Results.{IsPointOf}
 use Rattle.sg_programs.specs.Laws.{ComesBefore}
 use Rattle.sg_programs.specs.Marks.{marks_of}
 use Rattle.sg_programs.specs.NodeTests.{ClosesNode, Method}
-use Rattle.sg_programs.specs.Shown.{fact_at}
 use Rattle.sg_programs.proofs.Heights.{height-few}
 use Rattle.sg_programs.proofs.Multipliers.{marks_rise}
 use Rattle.sg_programs.proofs.NodeEnds.{closed_is_result}

@@ -1,8 +1,8 @@
 -- How long the lines of a report's text are at most.
-use Rattle.std.proofs.Common.{◌≡◌, ℕ, zero, suc, ◌+◌, ◌-◌, ◌*◌, ◌<◌, ◌≤◌, ◌^◌, List, [], ◌∷◌, ◌++◌, length, map, length-append, ℤ, pos, negsuc, ap, ◌∙◌, refl, arith, Option, Some, None}
+use Rattle.std.proofs.Common.{◌≡◌, ℕ, suc, ◌+◌, ◌-◌, ◌*◌, ◌<◌, ◌≤◌, ◌^◌, List, [], ◌∷◌, ◌++◌, length, map, length-append, ℤ, pos, negsuc, ap, ◌∙◌, refl, arith, Option, Some, None}
 use Rattle.std.specs.Prelude.{codes, decimal}
 use Rattle.std.specs.Fmt.{signed_decimal}
-use Rattle.std.specs.List.{AllByRecursion, flat_map}
+use Rattle.std.specs.List.{AllByRecursion}
 use Rattle.std.proofs.lemmas.Bool.{ltb-true}
 use Rattle.std.proofs.lemmas.Fmt.{length-decimal-le_wide}
 use Rattle.sg_num.specs.declared.step.Op.{Op}
@@ -13,7 +13,7 @@ use Rattle.sg_model.specs.declared.ticket.Ticket.{Ticket}
 use Rattle.sg_tree.specs.Claims.{Claimed}
 use Rattle.sg_tree.specs.declared.fact.Mark.{Mark}
 use Rattle.sg_tree.specs.declared.fact.Fact.{Fact}
-use Rattle.sg_tree.specs.declared.fact.Fact.TheVariants.{Plays, Cover, Water}
+use Rattle.sg_tree.specs.declared.fact.Fact.TheVariants.{Plays}
 use Rattle.sg_tree.specs.declared.fix.Fix.{Fix}
 use Rattle.sg_tree.specs.declared.report.Cap.{Cap}
 use Rattle.sg_tree.specs.declared.report.Cause.{Cause}
@@ -21,7 +21,7 @@ use Rattle.sg_tree.specs.declared.report.Cause.TheVariants as cause
 use Rattle.sg_tree.specs.declared.report.Ending.{Ending}
 use Rattle.sg_tree.specs.declared.report.Ending.TheVariants.{Optimal, Gap}
 use Rattle.sg_tree.specs.declared.report.Report.{Report}
-use Rattle.sg_cert.specs.Ranges.{IsCap, IsCause, IsClaim, IsEnding, IsFact, IsFraction, IsFrom, IsHeader, IsMark, IsRangedFix, IsReport, IsTicket, Rises}
+use Rattle.sg_cert.specs.Ranges.{IsCap, IsCause, IsClaim, IsEnding, IsFact, IsFraction, IsFrom, IsMark, IsRangedFix, IsReport, IsTicket, Rises}
 use Rattle.sg_cert.specs.Text.{FieldRow, cap_row, cause_fields, claim_rows, fact_rows, fix_fields, fraction_row, head_rows, mark_row, op_word, spaced, spell, split_row, tail_rows, text_of, ticket_row, verdict_row}
 use Rattle.sg_cert.proofs.Rows.{text_then}
 use Rattle.sg_search.proofs.Fitting.{fits-between}

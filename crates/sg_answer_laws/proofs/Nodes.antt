@@ -1,15 +1,15 @@
 -- The nodes of a search are nodes of its game, and its worked nodes have results.
-use Rattle.std.proofs.Common.{◌≡◌, ◌≢◌, ◌⊎◌, ℕ, zero, suc, ◌+◌, ◌-◌, ◌≤◌, ◌<◌, Bool, true, false, List, [], ◌∷◌, ◌++◌, length, sym, ◌∙◌, ap, subst, refl, arith, inl, inr, ⊎_elim, Contains, cond, count_by, slice_index_or}
+use Rattle.std.proofs.Common.{◌≡◌, ◌≢◌, ◌⊎◌, ℕ, zero, suc, ◌+◌, ◌≤◌, ◌<◌, Bool, true, List, [], ◌∷◌, ◌++◌, length, sym, ap, subst, refl, arith, inl, inr, cond, count_by, slice_index_or}
 use Rattle.std.specs.List.{All, zip}
 use Rattle.std.proofs.lemmas.List.{length_push}
 use Rattle.std.proofs.lemmas.List.Sums.{get_or-le-sum_by}
-use Rattle.std.proofs.lemmas.List.Elements.{All-cons, All-nil, All-weaker}
+use Rattle.std.proofs.lemmas.List.Elements.{All-cons, All-nil}
 use Rattle.sg_model.specs.Sums.{numbers_from}
 use Rattle.sg_model.specs.Games.{Game, action_count}
 use Rattle.sg_tree.specs.declared.fix.Fix.{Fix}
 use Rattle.sg_tree.specs.declared.worked.Worked.{Worked}
-use Rattle.sg_bounds.specs.Regions.{IsFix, IsNode, alone, prefix}
-use Rattle.sg_search.specs.Searches.{Task, Search, ArePlaced, IsCapNode, IsKnown, IsPartOf, same, stuck_count, worked_count}
+use Rattle.sg_bounds.specs.Regions.{IsNode, prefix}
+use Rattle.sg_search.specs.Searches.{Task, Search, ArePlaced, IsKnown, IsPartOf, same, worked_count}
 use Rattle.sg_search.specs.declared.held.Stuck.{Stuck}
 use Rattle.sg_search.proofs.Placed.{one_if, same-self}
 use Rattle.sg_search.proofs.Grown.{AreSplits, last-of, worked-parent}

@@ -1,31 +1,27 @@
 -- The report of a search is a report text's report.
-use Rattle.std.proofs.Common.{◌≡◌, ℕ, zero, suc, ◌+◌, ◌*◌, ◌/◌, ◌-◌, ◌≤◌, ◌<◌, ◌^◌, Bool, true, false, cond, List, length, min, ℤ, pos, sym, ◌∙◌, ap, subst, refl, arith, Option, Some, Contains, slice_index_or}
+use Rattle.std.proofs.Common.{◌≡◌, ℕ, ◌<◌, ◌^◌, false, pos, sym, ap, subst, refl, arith, Some, Contains, slice_index_or}
 use Rattle.std.specs.List.{All, AllByRecursion}
 use Rattle.std.specs.Prelude.{int_lt}
 use Rattle.std.proofs.lemmas.Int.{ints}
 use Rattle.std.proofs.lemmas.List.Elements.{All-contains}
 use Rattle.sg_options.specs.declared.budget.Budget.{Budget}
-use Rattle.sg_options.specs.Options.{IsBudget}
 use Rattle.sg_num.specs.Exact.{Fits}
-use Rattle.sg_model.specs.declared.ticket.Ticket.{Ticket}
 use Rattle.sg_model.specs.Games.{Game, action_count}
-use Rattle.sg_model.specs.Limits.{IsGame, is_scaled, program_rows}
+use Rattle.sg_model.specs.Limits.{IsGame, is_scaled}
 use Rattle.sg_model.specs.Payoffs.{IsPeopled}
 use Rattle.sg_model.specs.Commitments.{weight_total}
 use Rattle.sg_model.proofs.Promises.{peopled}
 use Rattle.sg_model.proofs.Sizes.{short_lists, small_counts}
 use Rattle.sg_tree.specs.declared.fact.Fact.{Fact}
 use Rattle.sg_tree.specs.declared.fix.Fix.{Fix}
-use Rattle.sg_tree.specs.declared.report.Cap.{Cap}
 use Rattle.sg_tree.specs.declared.report.Cause.{Cause}
 use Rattle.sg_tree.specs.declared.report.Cause.TheVariants as cause
 use Rattle.sg_tree.specs.declared.report.Ending.{Ending}
 use Rattle.sg_tree.specs.declared.report.Ending.TheVariants.{Optimal, Gap}
 use Rattle.sg_tree.specs.declared.report.Report.{Report}
 use Rattle.sg_tree.specs.declared.worked.Worked.{Worked}
-use Rattle.sg_cert.specs.Ranges.{IsCap, IsCause, IsClaim, IsEnding, IsFact, IsFrom, IsReport}
+use Rattle.sg_cert.specs.Ranges.{IsCap, IsCause, IsClaim, IsEnding, IsFact, IsReport}
 use Rattle.sg_cert.proofs.WholeAgain.{whole_again}
-use Rattle.sg_bounds.specs.Accepted.{IsAccepted}
 use Rattle.sg_bounds.specs.Regions.{IsNode}
 use Rattle.sg_search.specs.declared.held.Stuck.{Stuck}
 use Rattle.sg_search.specs.Searches.{Task, Search, ArePlaced}
@@ -35,7 +31,7 @@ use Rattle.sg_search.proofs.Grown.{AreSplits, are_splits}
 use Rattle.sg_search.proofs.Placed.{known_in_one_place}
 use Rattle.sg_search.proofs.Ranges.{fact-source}
 use Rattle.sg_search.proofs.Reported.{report_is_accepted}
-use Rattle.sg_programs.specs.NodeTests.{ClosesNode, Method, StopsNode}
+use Rattle.sg_programs.specs.NodeTests.{Method, StopsNode}
 use Rattle.sg_programs.proofs.NodeEnds.{closed_is_result}
 use Rattle.sg_programs.proofs.Sized.{few-types}
 use Rattle.sg_answer_laws.specs.Answers.{HasOperands, HasOperandsAt, IsAnswerOf, IsCauseOf, IsEndingOf}

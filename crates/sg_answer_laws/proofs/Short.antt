@@ -1,12 +1,12 @@
 -- The text of a search's report is short, since each of its facts is that of a worked node.
-use Rattle.std.proofs.Common.{◌≡◌, ℕ, zero, suc, ◌+◌, ◌-◌, ◌*◌, ◌≤◌, ◌<◌, ◌^◌, Bool, true, false, true≢false, cond, nat_eq, List, [], ◌∷◌, ◌++◌, map, length, filter_map, flat_map, find, option_map, count_by, bytes_eq, drop, sum_by, sym, ◌∙◌, ap, subst, refl, arith, ⊎_elim, inl, inr, Option, Some, None, slice_index_or, Contains}
-use Rattle.std.specs.List.{All, AllByRecursion, cons_option}
+use Rattle.std.proofs.Common.{◌≡◌, ℕ, zero, suc, ◌+◌, ◌*◌, ◌≤◌, Bool, true, false, cond, nat_eq, List, [], ◌∷◌, ◌++◌, map, length, filter_map, flat_map, find, option_map, sym, ◌∙◌, ap, refl, arith, ⊎_elim, Option, Some, None}
+use Rattle.std.specs.List.{AllByRecursion, cons_option}
 use Rattle.std.proofs.Math.Nat.{mul-le-mul_left}
 use Rattle.std.proofs.lemmas.Bool.{cases_Bool}
 use Rattle.std.proofs.lemmas.List.{length_push}
 use Rattle.std.proofs.lemmas.Map.Views.{Contains-from_any}
 use Rattle.std.proofs.lemmas.Slice.Eq.{bytes_eq-Decides}
-use Rattle.sg_model.specs.Sums.{greatest, numbers, numbers_from}
+use Rattle.sg_model.specs.Sums.{greatest, numbers_from}
 use Rattle.sg_model.specs.Games.{Game, action_count}
 use Rattle.sg_model.specs.Payoffs.{greatest_of}
 use Rattle.sg_tree.specs.declared.fact.Fact.{Fact}
@@ -16,7 +16,7 @@ use Rattle.sg_tree.specs.declared.tree.Tree.TheVariants.{Unproved, Closed, Split
 use Rattle.sg_tree.specs.declared.worked.Worked.{Worked}
 use Rattle.sg_tree.specs.declared.report.Cap.{Cap}
 use Rattle.sg_cert.specs.Ranges.{IsCap}
-use Rattle.sg_cert.specs.Text.{FieldRow, base_rows, cap_row, cap_rows, fact_rows, node_rows, split_row, text_of}
+use Rattle.sg_cert.specs.Text.{base_rows, cap_row, cap_rows, fact_rows, node_rows, split_row, text_of}
 use Rattle.sg_cert.proofs.Trees.{rows_closed, rows_open, rows_split}
 use Rattle.sg_bounds.specs.Regions.{alone, prefix}
 use Rattle.sg_bounds.specs.Trees.{node_of}

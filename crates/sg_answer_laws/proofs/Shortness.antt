@@ -1,10 +1,9 @@
 -- The text of a search's report is within the limit of a report's file.
-use Rattle.std.proofs.Common.{◌≡◌, ℕ, zero, suc, ◌+◌, ◌-◌, ◌*◌, ◌≤◌, ◌<◌, ◌^◌, List, [], ◌∷◌, ◌++◌, map, length, flat_map, drop, sum_by, pos, sym, ◌∙◌, ap, subst, refl, arith, Option, Some, slice_index_or}
-use Rattle.std.specs.List.{All, AllByRecursion}
+use Rattle.std.proofs.Common.{◌≡◌, ℕ, ◌+◌, ◌-◌, ◌*◌, ◌≤◌, ◌^◌, List, [], ◌++◌, length, flat_map, drop, pos, sym, subst, arith, Option, Some, slice_index_or}
+use Rattle.std.specs.List.{AllByRecursion}
 use Rattle.std.proofs.Math.Nat.{mul-le-mul_left}
 use Rattle.std.proofs.lemmas.List.Sums.{sum_by-cons}
 use Rattle.sg_options.specs.declared.budget.Budget.{Budget}
-use Rattle.sg_model.specs.Sums.{numbers, numbers_from}
 use Rattle.sg_model.specs.Games.{Game, action_count}
 use Rattle.sg_model.specs.Limits.{IsGame, program_rows}
 use Rattle.sg_model.proofs.Promises.{peopled}
@@ -22,7 +21,7 @@ use Rattle.sg_bounds.specs.PlayRows.{comparisons}
 use Rattle.sg_bounds.specs.Regions.{IsFix, IsNode}
 use Rattle.sg_rows.specs.Rows.{place}
 use Rattle.sg_search.specs.Searches.{Task, Search}
-use Rattle.sg_search.specs.Bounding.{cap_at, caps_of, fact_of}
+use Rattle.sg_search.specs.Bounding.{caps_of, fact_of}
 use Rattle.sg_search.proofs.Counted.{budget_kept}
 use Rattle.sg_search.proofs.Ranges.{fact-source}
 use Rattle.sg_programs.specs.Enough.{node_budget}

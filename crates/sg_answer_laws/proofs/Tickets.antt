@@ -1,21 +1,19 @@
 -- The tickets of the incumbent are those of a report's text: in order, in their ranges, and few.
-use Rattle.std.proofs.Common.{◌≡◌, ◌≢◌, ℕ, zero, suc, ◌+◌, ◌-◌, ◌≤◌, ◌<◌, ◌^◌, Bool, true, false, cond, List, [], ◌∷◌, ◌++◌, map, length, filter, ℤ, pos, ◌+ℤ◌, ◌*ℤ◌, ◌≤ℤ◌, ◌<ℤ◌, sym, ◌∙◌, ap, subst, refl, arith, inl, inr, Option, Some, None, slice_index, slice_index_or}
-use Rattle.std.specs.List.{All, AllByRecursion, AllPairs, range_with_len}
+use Rattle.std.proofs.Common.{◌≡◌, ℕ, suc, ◌≤◌, ◌<◌, ◌^◌, Bool, true, false, cond, List, [], ◌∷◌, length, filter, ℤ, pos, ◌≤ℤ◌, ap, refl, arith, inl, inr, Option, Some, None, slice_index_or}
+use Rattle.std.specs.List.{All, AllByRecursion, range_with_len}
 use Rattle.std.specs.Prelude.{MatchBool, IfSome}
 use Rattle.std.proofs.lemmas.Int.{ints}
 use Rattle.std.proofs.lemmas.List.{length-map}
 use Rattle.std.proofs.lemmas.List.FromFn.{length-range_with_len}
-use Rattle.std.proofs.lemmas.List.Elements.{All-cons, All-head, All-nil, All-tail, All-weaker, recursion_from_All}
+use Rattle.std.proofs.lemmas.List.Elements.{All-head, All-tail, All-weaker, recursion_from_All}
 use Rattle.sg_num.specs.Exact.{Fits}
 use Rattle.sg_model.specs.declared.ticket.Ticket.{Ticket}
-use Rattle.sg_model.specs.Games.{Game, is_matrix, resource_count, prior_total}
+use Rattle.sg_model.specs.Games.{Game, is_matrix, resource_count}
 use Rattle.sg_model.specs.Limits.{IsDefended, IsGame, is_scaled}
 use Rattle.sg_model.specs.Plays.{IsLegal, IsLegalJoint, IsRow}
-use Rattle.sg_model.specs.Payoffs.{IsPeopled}
 use Rattle.sg_model.specs.Commitments.{IsCommitment, weight_total}
 use Rattle.sg_model.proofs.Covers.{weight_total-nonneg}
-use Rattle.sg_model.proofs.Forms.{no_matrix}
-use Rattle.sg_model.proofs.Promises.{game_cases, yes_matrix}
+use Rattle.sg_model.proofs.Promises.{game_cases}
 use Rattle.sg_model.proofs.Sizes.{short_lists, small_counts}
 use Rattle.sg_commit.specs.Committed.{Committed, IsCommitted, is_rising}
 use Rattle.sg_commit.specs.Parts.{AreMultiple}
@@ -23,7 +21,6 @@ use Rattle.sg_split.proofs.Few.{few_plays}
 use Rattle.sg_tree.specs.Claims.{HaveOneLength, is_claim}
 use Rattle.sg_tree.proofs.Committing.{claim_of}
 use Rattle.sg_cert.specs.Ranges.{IsTicket}
-use Rattle.sg_tree.specs.declared.fact.Fact.{Fact}
 use Rattle.sg_tree.specs.declared.fix.Fix.{Fix}
 use Rattle.sg_tree.specs.declared.worked.Worked.{Worked}
 use Rattle.sg_bounds.specs.Regions.{IsNode}

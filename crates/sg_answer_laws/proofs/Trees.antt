@@ -1,5 +1,5 @@
 -- The tree of a search's report, node by node.
-use Rattle.std.proofs.Common.{◌≡◌, ℕ, zero, suc, ◌+◌, ◌-◌, ◌≤◌, ◌<◌, ◌^◌, Bool, true, false, cond, List, [], ◌∷◌, ◌++◌, map, length, sym, ◌∙◌, ap, subst, refl, arith, Option, Some, None}
+use Rattle.std.proofs.Common.{◌≡◌, ℕ, zero, suc, ◌+◌, ◌≤◌, ◌<◌, ◌^◌, Bool, true, false, cond, List, [], ◌∷◌, ◌++◌, map, length, sym, ◌∙◌, ap, subst, refl, arith, Option, Some, None}
 use Rattle.std.specs.List.{AllByRecursion}
 use Rattle.std.proofs.lemmas.List.{length_push}
 use Rattle.sg_model.specs.Sums.{numbers, numbers_from}
@@ -11,7 +11,7 @@ use Rattle.sg_tree.specs.declared.tree.Tree.{Tree}
 use Rattle.sg_tree.specs.declared.tree.Tree.TheVariants.{Unproved, Closed, Split}
 use Rattle.sg_tree.specs.declared.tree.Tree.TheOpen.{Tree-F}
 use Rattle.sg_tree.specs.declared.tree.Tree.TheViews.{out-Tree}
-use Rattle.sg_cert.specs.Ranges.{IsFact, IsFrom, IsLayer, IsRangedBase, IsRangedNode}
+use Rattle.sg_cert.specs.Ranges.{IsFact, IsLayer, IsRangedBase, IsRangedNode}
 use Rattle.sg_cert.proofs.Trees.{out_closed, out_is, out_open, tree_cases}
 use Rattle.sg_bounds.specs.Regions.{prefix}
 use Rattle.sg_bounds.specs.Trees.{Node, Parts, closed, end, node_of, part, parts_of, split, unproved}

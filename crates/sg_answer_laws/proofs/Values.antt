@@ -1,5 +1,5 @@
 -- The value and the upper bound of an accepted report are fractions of 128 bits.
-use Rattle.std.proofs.Common.{◌≡◌, ◌≢◌, ℕ, zero, suc, ◌+◌, ◌-◌, ◌*◌, ◌≤◌, ◌<◌, ◌^◌, Bool, true, false, cond, List, [], ◌∷◌, ◌++◌, length, ℤ, pos, negsuc, ◌+ℤ◌, ◌-ℤ◌, ◌*ℤ◌, ◌≤ℤ◌, sym, ◌∙◌, ap, subst, refl, arith, Option, Some, None, slice_index_or}
+use Rattle.std.proofs.Common.{◌≡◌, ℕ, zero, suc, ◌+◌, ◌*◌, ◌≤◌, ◌^◌, Bool, true, false, cond, List, [], ◌∷◌, ◌++◌, length, ℤ, pos, negsuc, ◌+ℤ◌, ◌-ℤ◌, ◌*ℤ◌, ◌≤ℤ◌, sym, ◌∙◌, ap, subst, refl, arith, Option, Some, None, slice_index_or}
 use Rattle.std.specs.List.{All}
 use Rattle.std.specs.Prelude.{IfSome, MatchBool, int_lt}
 use Rattle.std.proofs.lemmas.Int.{ints}
@@ -15,8 +15,8 @@ use Rattle.sg_model.specs.Limits.{IsGame, IsPay, is_scaled}
 use Rattle.sg_model.specs.Payoffs.{IsPeopled, greatest_of, payoffs_at, payoffs_of}
 use Rattle.sg_model.specs.Commitments.{IsCommitment, IsValue, take_of, weight_total, worth}
 use Rattle.sg_model.proofs.Best.{greatest-reached}
-use Rattle.sg_model.proofs.Covers.{weight_total-nonneg, weight_total-positive}
-use Rattle.sg_model.proofs.Ints.{v, n, times, less, same_by, le_by, le_from, same_from, mul-le}
+use Rattle.sg_model.proofs.Covers.{weight_total-positive}
+use Rattle.sg_model.proofs.Ints.{v, n, times, less, same_by}
 use Rattle.sg_model.proofs.Lists.{All-flat_map}
 use Rattle.sg_model.proofs.Numbers.{All-numbers, length-numbers_from}
 use Rattle.sg_model.proofs.Promises.{peopled}
@@ -29,7 +29,7 @@ use Rattle.sg_tree.specs.declared.report.Report.{Report}
 use Rattle.sg_cert.specs.Ranges.{IsFraction}
 use Rattle.sg_bounds.specs.Regions.{prefix}
 use Rattle.sg_bounds.specs.Facts.{HoldsFor, mu_of, rho_of}
-use Rattle.sg_bounds.specs.Trees.{ArePartsOf, IsBase, IsRoot, IsTreeOf, Node, Parts, closed, end, node_of, part, split, unproved}
+use Rattle.sg_bounds.specs.Trees.{ArePartsOf, IsBase, IsTreeOf, Node, Parts, closed, end, node_of, part, split, unproved}
 use Rattle.sg_bounds.specs.Leaves.{base_bound, fact_bound, leaf_bounds, listed, part_bounds, rest_of, root_bound, tree_bounds_of}
 use Rattle.sg_bounds.specs.Sizes.{bound_sums, size_sums, value_sums, weight_sums, worth_sums, take_sums}
 use Rattle.sg_bounds.specs.Accepted.{IsAccepted, IsGreatest, IsSplitTree, IsWaterTree, base_sums, cap_sums, fact_sums, part_sums, tree_sums}

@@ -1,8 +1,6 @@
 -- The worked search and its reports, by computing.
-use Rattle.std.proofs.Common.{◌≡◌, ℕ, ◌≤◌, ◌^◌, true, List, [], ◌∷◌, length, ℤ, pos, ◌++◌, flat_map, ◌∙◌, refl, arith, ap, ap₂, Option, Some, None, Contains}
-use Rattle.std.specs.List.{All}
+use Rattle.std.proofs.Common.{◌≡◌, ℕ, ◌^◌, true, List, [], ◌∷◌, length, ℤ, pos, ◌++◌, flat_map, ◌∙◌, refl, arith, ap, ap₂, Option, Some, None, Contains}
 use Rattle.std.proofs.lemmas.List.Elements.{All-cons, All-nil}
-use Rattle.std.proofs.lemmas.Int.{ints}
 use Rattle.std.proofs.lemmas.List.Sums.{AllPass-from_list_all}
 use Rattle.std.specs.Prelude.{codes}
 use Rattle.std.specs.Fmt.{digits}
@@ -20,17 +18,13 @@ use Rattle.sg_cert.specs.Text.{FieldRow, base_rows, cap_rows, fact_rows, head_ro
 use Rattle.sg_cert.proofs.Trees.{rows_closed, rows_open, rows_split}
 use Rattle.sg_bounds.specs.Examples.{mark, nested_report, one_alone, over_plays}
 use Rattle.sg_bounds.proofs.Worked.{open_pair, right, unproved_node}
-use Rattle.sg_tree.specs.declared.report.Ending.TheVariants.{Optimal, Gap}
 use Rattle.sg_tree.specs.declared.worked.Worked.{Worked}
 use Rattle.sg_bounds.specs.Sizes.{value_sums}
 use Rattle.sg_search.specs.declared.held.Stuck.{Stuck}
-use Rattle.sg_search.specs.Searches.{first_search}
-use Rattle.sg_search.specs.Examples.{after_all, task}
 use Rattle.sg_search.specs.Results.{IsFirst}
 use Rattle.sg_programs.specs.NodeTests.{ClosesNode, StopsNode, listed_plays}
 use Rattle.sg_programs.proofs.ListedPlays.{listing_is_method}
-use Rattle.sg_answer_laws.specs.Answers.{HasOperandsAt, IsAnswerOf, IsEndingOf}
-use Rattle.sg_answer_laws.specs.Examples.{WorkedAnswers, hundred_nodes, start_report}
+use Rattle.sg_answer_laws.specs.Examples.{WorkedAnswers, start_report}
 
 -- ---- the game
 
