@@ -118,9 +118,6 @@ fixed-ranged g types small fix node =
     some-acts [] h = absurd (h refl)
     some-acts (a ∷ acts) h = omega arith
 
-    IsAct : ℕ × ℕ → Type 0
-    IsAct p = (1 ≤ p.1) × (p.1 ≤ action_count g p.0)
-
     acts-ranged : (r : ℕ) (acts : List ℕ) → All (λ (p : ℕ × ℕ). (1 ≤ p.1) × (p.1 ≤ action_count g p.0)) (zip (numbers_from r (length acts)) acts) → AllByRecursion (λ a. IsFrom 1 65535 a) acts
     acts-ranged r [] all = tt
     acts-ranged r (a ∷ acts) all =

@@ -51,9 +51,6 @@ use Rattle.sg_answer_laws.proofs.Fitting.{each-fits, factor-below, fits-below}
 
 -- ---- priors
 
-abbrev IsAct : Game → ℕ × ℕ → Type 0
-IsAct g p = (1 ≤ p.1) × (p.1 ≤ action_count g p.0)
-
 priors-from : (g : Game) → IsPeopled g → (r : ℕ) (acts : List ℕ) → 1 ≤ r → r + length acts ≤ length g.types + 1
     → pos (length acts) ≤ℤ total (λ (p : ℕ × ℕ). (attacker g p.0).prior) (zip (numbers_from r (length acts)) acts)
 priors-from g peopled r [] low high = omega (arith, ints)

@@ -54,10 +54,7 @@ resources-few g h = elim (game_cases g h) [
     defended (Some n) e d = let is : resource_count g ≡ n = rw e refl in omega (arith, is, either (is_scaled g) n d.few)
     defended None e d = let is : resource_count g ≡ length g.resources = rw e refl in omega (arith, is, d.resources.few)
 
--- how long each legal play is
-play-length : Game → ℕ
-play-length g = cond (is_matrix g) 1 (resource_count g)
-
+-- all legal plays are alike in length
 legal-length : (g : Game) (play : List ℕ) → IsLegal g play → length play ≡ cond (is_matrix g) 1 (resource_count g)
 legal-length g play = elim (is_matrix g) as (λ (b : Bool). MatchBool b (IsRow g play) (IsLegalJoint g play) → length play ≡ cond b 1 (resource_count g)) [ true ↦ (λ r. r.one) | false ↦ (λ j. j.one_each) ]
 
