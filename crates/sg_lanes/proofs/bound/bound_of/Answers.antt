@@ -1,11 +1,8 @@
-use Rattle.std.proofs.Common.{◌≡◌, ◌∙◌, ap, ap₂, arith, rules, of_z, to_z, subst, sym, pos, true, ◌+ℤ◌, ◌*ℤ◌, ◌≤ℤ◌, ℤ}
-use Rattle.std.specs.Prelude.{int_lt}
+use Rattle.std.proofs.Common.{◌≡◌, ◌∙◌, ap₂, arith, rules, of_z, to_z, subst, sym, pos, ◌+ℤ◌, ◌≤ℤ◌, ℤ}
 use Rattle.std.specs.Int.{w64, w128}
 use Rattle.std.proofs.lemmas.Int.{ints, to_z-of_z}
-use Rattle.sg_model.specs.Games.{prior_total}
 use Rattle.sg_num.specs.Exact.{Fits}
 use Rattle.sg_bounds.specs.Facts.{mu_of, rho_of}
-use Rattle.sg_bounds.specs.Leaves.{rest_of}
 use Rattle.sg_lanes.proofs.Bounded.{above-none, bound-parts, bound-stands}
 use Rattle.sg_lanes.proofs.Fractions.{product-positive}
 use Rattle.sg_lanes.proofs.Totals.{product-same}

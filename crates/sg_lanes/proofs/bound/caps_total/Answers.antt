@@ -1,4 +1,4 @@
-use Rattle.std.proofs.Common.{◌≡◌, ◌∙◌, ℕ, ◌+◌, ◌-◌, ◌*◌, ◌^◌, ap, arith, refl, pos, ◌+ℤ◌, ◌*ℤ◌, sym, length, get_or, rules, of_z, to_z, FitsSigned}
+use Rattle.std.proofs.Common.{◌≡◌, ◌∙◌, ℕ, ◌+◌, ◌-◌, ap, arith, ◌+ℤ◌, ◌*ℤ◌, sym, length, get_or, rules, of_z, to_z, FitsSigned}
 use Rattle.std.specs.Int.{w64, w128}
 use Rattle.std.proofs.lemmas.Int.{ints, to_z-of_z}
 use Rattle.sg_model.specs.Sums.{total, numbers_from}

@@ -1,11 +1,10 @@
-use Rattle.std.proofs.Common.{◌≡◌, ◌∙◌, ap, ap₂, arith, rules, of_z, to_z, FitsSigned, pos, ◌-ℤ◌, ◌*ℤ◌, ◌+◌, ◌-◌, ℕ, ℤ, sym, length}
+use Rattle.std.proofs.Common.{◌≡◌, ◌∙◌, ap₂, arith, rules, of_z, to_z, FitsSigned, ◌-ℤ◌, ◌*ℤ◌, ℕ, ℤ}
 use Rattle.std.specs.Int.{w64, w128}
 use Rattle.std.proofs.lemmas.Int.{ints, to_z-of_z}
 use Rattle.sg_model.proofs.Ints.{same_by, times, v}
-use Rattle.sg_model.specs.Sums.{total, numbers, numbers_from}
+use Rattle.sg_model.specs.Sums.{total, numbers}
 use Rattle.sg_model.specs.Games.{attacker}
 use Rattle.sg_model.specs.Payoffs.{shift_of}
-use Rattle.sg_bounds.specs.Caps.{cap_of}
 use Rattle.sg_lanes.proofs.Totals.{product-same}
 use Rattle.sg_lanes.proofs.bound.rest.Goals as goal
 

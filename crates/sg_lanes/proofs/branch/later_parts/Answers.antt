@@ -1,4 +1,4 @@
-use Rattle.std.proofs.Common.{◌≡◌, ◌∙◌, ◌+◌, ◌-◌, ◌++◌, ◌∷◌, [], ap, arith, refl, map, List}
+use Rattle.std.proofs.Common.{◌∙◌, ◌+◌, ◌-◌, ◌++◌, ◌∷◌, [], ap, map, List}
 use Rattle.sg_model.specs.Sums.{numbers_from}
 use Rattle.sg_tree.specs.declared.fix.Fix.{Fix}
 use Rattle.sg_lanes.proofs.Branched.{later-end, later-step, part_by}

@@ -1,4 +1,4 @@
-use Rattle.std.proofs.Common.{◌≡◌, ◌≤◌, ◌+◌, ◌-◌, ◌++◌, map}
+use Rattle.std.proofs.Common.{◌≡◌, ◌+◌, ◌-◌, ◌++◌, map}
 use Rattle.sg_model.specs.Sums.{numbers_from}
 use Rattle.sg_lanes.proofs.Branched.{part_by}
 use Rattle.sg_lanes.proofs.branch.later_parts.Given as goal

@@ -1,4 +1,4 @@
-use Rattle.std.proofs.Common.{◌≡◌, ◌∙◌, ◌+◌, ◌-◌, ◌++◌, ◌∷◌, [], ℕ, sym, ap, arith, filter_map, length, List, Some, Option}
+use Rattle.std.proofs.Common.{◌∙◌, ◌+◌, ◌-◌, ◌++◌, ℕ, sym, ap, arith, filter_map, length, List, Some}
 use Rattle.std.proofs.lemmas.List.{length_push}
 use Rattle.sg_model.specs.Sums.{numbers, numbers_from}
 use Rattle.sg_tree.specs.declared.fact.Fact.{Fact}

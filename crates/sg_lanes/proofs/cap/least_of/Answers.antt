@@ -1,7 +1,6 @@
-use Rattle.std.proofs.Common.{Some, ◌≡◌, ◌∙◌, ◌≤ℤ◌, ◌-ℤ◌, ◌+ℤ◌, ◌*ℤ◌, ℤ, pos, ap, arith, of_z, rules, subst, sym, to_z, FitsSigned}
+use Rattle.std.proofs.Common.{Some, ◌≡◌, ◌∙◌, ◌≤ℤ◌, ℤ, pos, ap, arith, of_z, rules, subst, sym, to_z}
 use Rattle.std.specs.Int.{w64, w128}
 use Rattle.std.proofs.lemmas.Int.{ints, to_z-of_z}
-use Rattle.sg_model.specs.Games.{attacker}
 use Rattle.sg_bounds.specs.Facts.{mu_of, rho_of}
 use Rattle.sg_lanes.proofs.Bounded.{above-none}
 use Rattle.sg_lanes.proofs.Capping.{least-high, least-is}

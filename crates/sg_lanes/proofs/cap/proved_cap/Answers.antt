@@ -1,4 +1,4 @@
-use Rattle.std.proofs.Common.{◌≡◌, ◌∙◌, ap, sym, subst, ◌≤ℤ◌, ℤ, All, List, Option, Some}
+use Rattle.std.proofs.Common.{◌∙◌, sym, subst, ◌≤ℤ◌, ℤ, All, List, Option, Some}
 use Rattle.sg_model.specs.declared.limit.TheConstants.{PAYOFF_LIMIT}
 use Rattle.sg_tree.specs.declared.fact.Fact.{Fact}
 use Rattle.sg_lanes.specs.ProvedCaps.{AreAllFacts, IsCapFact, only_worked}

@@ -1,5 +1,5 @@
-use Rattle.std.proofs.Common.{rules, ◌≡◌, ◌∙◌, ◌+ℤ◌, ◌-ℤ◌, ◌≤ℤ◌, ap, arith, pos, sym, subst, ℤ, FitsSigned, to_z, of_z}
-use Rattle.std.specs.Int.{w128, int_div_euclid}
+use Rattle.std.proofs.Common.{rules, ◌∙◌, ◌+ℤ◌, ◌-ℤ◌, ◌≤ℤ◌, ap, arith, pos, sym, subst, ℤ, FitsSigned}
+use Rattle.std.specs.Int.{w128}
 use Rattle.std.proofs.lemmas.Int.{ints, to_z-of_z}
 use Rattle.sg_lanes.proofs.Rounded.{rounded-least, rounded-same}
 use Rattle.sg_lanes.proofs.cap.rounded_up.Goals as goal

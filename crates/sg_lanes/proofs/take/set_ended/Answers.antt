@@ -1,4 +1,4 @@
-use Rattle.std.proofs.Common.{◌∙◌, ◌-◌, sym}
+use Rattle.std.proofs.Common.{◌∙◌, ◌-◌}
 use Rattle.sg_lanes.proofs.Lanewise.{ended-again}
 use Rattle.sg_lanes.proofs.take.set_ended.Goals as goal
 

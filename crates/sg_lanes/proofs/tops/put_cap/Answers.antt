@@ -1,4 +1,4 @@
-use Rattle.std.proofs.Common.{◌≡◌, ◌∙◌, ◌-◌}
+use Rattle.std.proofs.Common.{◌∙◌, ◌-◌}
 use Rattle.sg_lanes.proofs.Toplevel.{set-back}
 use Rattle.sg_lanes.proofs.tops.put_cap.Goals as goal
 

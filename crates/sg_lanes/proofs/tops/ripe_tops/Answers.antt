@@ -1,4 +1,4 @@
-use Rattle.std.proofs.Common.{◌≡◌, ◌∙◌, ◌+◌, ◌++◌, ◌∷◌, [], ap, sym, subst, List, Option, Some, None}
+use Rattle.std.proofs.Common.{◌∙◌, ◌+◌, ap, sym, subst, List, Option}
 use Rattle.sg_lanes.specs.declared.ripe.Ripe.{Ripe}
 use Rattle.sg_lanes.specs.ProvedCaps.{only_worked}
 use Rattle.sg_lanes.specs.Ripenings.{AreTopEntries, IsTopEntry}

@@ -1,4 +1,4 @@
-use Rattle.std.proofs.Common.{◌≡◌, ◌∙◌, ◌+◌, ap, sym, subst, length, All, List}
+use Rattle.std.proofs.Common.{◌∙◌, ◌+◌, ap, sym, subst, length, All, List}
 use Rattle.sg_num.specs.Exact.{Fits}
 use Rattle.sg_tree.specs.declared.report.Cap.{Cap}
 use Rattle.sg_bounds.specs.Sizes.{bound_sums}

@@ -1,5 +1,5 @@
-use Rattle.std.proofs.Common.{◌<◌, ◌∙◌, length, arith}
-use Rattle.sg_lanes.proofs.Picked.{group-there, rank-lone, rank-part, rank-ripe, ripe-within}
+use Rattle.std.proofs.Common.{◌<◌, length, arith}
+use Rattle.sg_lanes.proofs.Picked.{rank-lone, rank-part, rank-ripe, ripe-within}
 use Rattle.sg_lanes.proofs.lanes.Lanes.bound.Goals as goal
 
 pub returns-then-n-takes : goal.returns-then-n-takes

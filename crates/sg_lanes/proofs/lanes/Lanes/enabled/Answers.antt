@@ -1,4 +1,4 @@
-use Rattle.std.proofs.Common.{◌≡◌, ◌∙◌, sym, arith, true≢false, true, false, refl}
+use Rattle.std.proofs.Common.{◌∙◌, sym, arith, true≢false, true, false}
 use Rattle.sg_lanes.proofs.Joined.{is-held, not-held}
 use Rattle.sg_lanes.proofs.Telling.{no-choice, one-choice, told-count, told-finish, told-none, told-turn}
 use Rattle.sg_lanes.proofs.lanes.Lanes.enabled.Goals as goal

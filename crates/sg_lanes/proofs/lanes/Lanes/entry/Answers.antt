@@ -1,5 +1,4 @@
-use Rattle.std.proofs.Common.{◌≡◌, ◌∙◌, sym, ap, arith, length, Some, Option}
-use Rattle.sg_frac.specs.Fractions.{Fraction}
+use Rattle.std.proofs.Common.{◌∙◌, sym, ap, arith, length, Some}
 use Rattle.sg_lanes.specs.Machines.{Machine}
 use Rattle.sg_lanes.proofs.Entered.{bound-for, caps-long, entry-fits}
 use Rattle.sg_lanes.proofs.lanes.Lanes.entry.Goals as goal

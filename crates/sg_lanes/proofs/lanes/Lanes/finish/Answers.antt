@@ -1,4 +1,4 @@
-use Rattle.std.proofs.Common.{◌≡◌, true}
+use Rattle.std.proofs.Common.{true}
 use Rattle.sg_lanes.proofs.Finished.{closed-answer, closed-together, finding-gives}
 use Rattle.sg_lanes.proofs.Joined.{is-held, loaded}
 use Rattle.sg_lanes.proofs.lanes.Lanes.finish.Goals as goal

@@ -1,4 +1,4 @@
-use Rattle.std.proofs.Common.{arith, ◌≡◌, ◌∙◌, ◌++◌, ◌∷◌, [], ap, sym, List}
+use Rattle.std.proofs.Common.{arith, ◌∙◌, ◌++◌, ◌∷◌, [], ap, List}
 use Rattle.sg_tree.specs.declared.worked.Worked.{Worked}
 use Rattle.sg_lanes.proofs.CapKept.{Asked, asked, cap-kept, kept-back}
 use Rattle.sg_lanes.proofs.lanes.Lanes.record_cap.Goals as goal

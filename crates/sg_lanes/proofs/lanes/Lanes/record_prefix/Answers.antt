@@ -1,4 +1,4 @@
-use Rattle.std.proofs.Common.{◌≡◌, ◌∙◌, ◌++◌, ◌∷◌, [], ap, List}
+use Rattle.std.proofs.Common.{◌∙◌, ◌++◌, ◌∷◌, [], ap, List}
 use Rattle.std.specs.Prelude.{filter}
 use Rattle.sg_tree.specs.declared.worked.Worked.{Worked}
 use Rattle.sg_search.specs.Bounding.{exceeds}

@@ -1,4 +1,4 @@
-use Rattle.std.proofs.Common.{◌≡◌, ◌∙◌, sym}
+use Rattle.std.proofs.Common.{◌∙◌, sym}
 use Rattle.sg_lanes.proofs.Risen.{no-rise-of, not-wide, rise-of}
 use Rattle.sg_lanes.proofs.lanes.Lanes.rise.Goals as goal
 

@@ -1,5 +1,4 @@
-use Rattle.std.proofs.Common.{◌≡◌, ◌++◌, ◌∷◌, [], ap, ◌∙◌}
-use Rattle.sg_search.specs.declared.held.Stuck.{Stuck}
+use Rattle.std.proofs.Common.{◌++◌, ◌∷◌, [], ap, ◌∙◌}
 use Rattle.sg_lanes.proofs.Glued.{stick-kept}
 use Rattle.sg_lanes.proofs.lanes.Lanes.stick.Goals as goal
 
