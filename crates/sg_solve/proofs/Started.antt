@@ -15,7 +15,7 @@ use Rattle.sg_search.specs.declared.held.Held.{Held}
 use Rattle.sg_search.specs.declared.held.Stuck.{Stuck}
 use Rattle.sg_search.specs.Searches.{Search, Task, first_search}
 use Rattle.sg_search.specs.Events.{IsEnd}
-use Rattle.sg_search.specs.Results.{IsResult}
+use Rattle.sg_search.specs.Results.{IsFirst, IsResult}
 use Rattle.sg_programs.specs.NodeTests.{ClosesNode, EndsNode, StopsNode}
 use Rattle.sg_work.specs.Works.{AreSameTests, Load, held_by, load_at}
 use Rattle.sg_desk.specs.Desks.{DeskView}
@@ -88,13 +88,14 @@ module _ (g : Game) (b : Budget) (o : Order) where
       subst (λ (x : Search). IsUnderWay g b o c (record { task = m.task; search = x }) d) (sym s)
       (subst (λ (x : Task). IsUnderWay g b o c (record { task = x; search = first_search (task_of g b o) }) d) (sym t) w)
 
-  handed-end : (c : SelectionState) (m : Machine) (d : DeskView) → IsUnderWay g b o c m d → IsEnd m.task m.search → (e : End) → IsEndOf m.task m.search e → IsEndHanded g b o e
-  handed-end c m d w at_end e reads = record {
+  handed-end : (c : SelectionState) (m : Machine) (d : DeskView) → IsUnderWay g b o c m d → IsFirst m.task.game m.task.first → IsEnd m.task m.search → (e : End) → IsEndOf m.task m.search e → IsEndHanded g b o e
+  handed-end c m d w first at_end e reads = record {
+    first = subst (λ (p : Task). IsFirst p.game p.first) w.about first;
     state = m.search;
     ended = record { events = w.events; selection = c; come = w.come; end = subst (λ (p : Task). IsEnd p m.search) w.about at_end };
     reads = subst (λ (p : Task). IsEndOf p m.search e) w.about reads;
   }
 
-  pub handed-result : {F : Type 0} (c : SelectionState) (m : Machine) (d : DeskView) → IsUnderWay g b o c m d → IsEnd m.task m.search → (r : Result End F) → IfOk r (λ e. IsEndOf m.task m.search e) → IfOk r (λ e. IsEndHanded g b o e)
-  handed-result c m d w at_end (Ok e) reads = handed-end c m d w at_end e reads
-  handed-result c m d w at_end (Err f) reads = tt
+  pub handed-result : {F : Type 0} (c : SelectionState) (m : Machine) (d : DeskView) → IsUnderWay g b o c m d → IsFirst m.task.game m.task.first → IsEnd m.task m.search → (r : Result End F) → IfOk r (λ e. IsEndOf m.task m.search e) → IfOk r (λ e. IsEndHanded g b o e)
+  handed-result c m d w first at_end (Ok e) reads = handed-end c m d w first at_end e reads
+  handed-result c m d w first at_end (Err f) reads = tt
