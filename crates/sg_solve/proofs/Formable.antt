@@ -1,7 +1,8 @@
 -- The bounds of a search's tree can be formed, and its tickets have lists of one length.
 use Rattle.std.proofs.Common.{◌≡◌, ◌∙◌, ℕ, ◌+◌, ◌≤◌, Bool, true, false, List, [], ◌∷◌, ◌++◌, length, map, ℤ, pos, ◌≤ℤ◌, sym, ap, subst, refl, arith, Option, Some, None, All, length-append, cond}
 use Rattle.std.specs.Prelude.{MatchBool}
-use Rattle.std.proofs.lemmas.List.Elements.{All-head, All-tail, All-front, All-back, All-weaker}
+use Rattle.std.proofs.lemmas.List.Elements.{All-head, All-tail, All-weaker}
+use Rattle.sg_commit.proofs.Standing.{All-back, All-front}
 use Rattle.sg_num.specs.declared.step.Wide.{Wide}
 use Rattle.sg_num.specs.Exact.{Fits}
 use Rattle.sg_num.specs.Operations.{first_wide, value_of_step}

@@ -7,3 +7,5 @@ pub mod Left
 pub mod Asked
 pub mod Advanced
 pub mod Started
+pub mod Formable
+pub mod Closing

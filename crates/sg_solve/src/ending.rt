@@ -1,15 +1,12 @@
 //! The report of the end of a search.
 
-ghost use Rattle.std.specs.Prelude.{◌≡◌, pos, false};
+ghost use Rattle.std.specs.Prelude.{◌≡◌, pos};
 ghost use Rattle.sg_options.specs.Options.{IsBudget, IsOrder};
 ghost use Rattle.sg_solve.specs.Answers.{IsSearchAnswer};
 ghost use Rattle.sg_solve.specs.Ending.{IsEndHanded};
 ghost use Rattle.sg_solve.specs.Searching.{task_of};
-ghost use Rattle.sg_bounds.specs.Accepted.{IsSame};
-ghost use Rattle.std.specs.Prelude.{◌↔◌, IsTrue, ◌≤ℤ◌, ◌≢◌};
-ghost use Rattle.sg_tree.specs.declared.report.Ending.{Ending};
-ghost use Rattle.sg_tree.specs.declared.report.Cause.{Cause};
-ghost use Rattle.std.specs.Prelude.{Option, unwrap_or};
+ghost use Rattle.sg_solve.specs.Ending.{EndsBy};
+ghost use Rattle.sg_answer_laws.specs.Answers.{HasOperandsAt};
 
 use crate::answer::Answer;
 use sg_frac::Frac;
@@ -21,8 +18,7 @@ use sg_upper::upper;
 
 /// How a report ends: optimal where its bounds meet, and else with the cause of the first stuck node, or where there is none with the node budget.
 fn ending_of(value: Frac, upper: Frac, stuck: Option<Cause>, nodes: u64) -> Ending
-    ensures meets { value ≡ upper → result ≡ Ending.Optimal }
-    ensures differs { value ≢ upper → result ≡ Ending.Gap (unwrap_or stuck (Cause.Nodes nodes)) }
+    ensures { EndsBy value upper stuck nodes result }
 {
     if value == upper {
         return Ending::Optimal;
@@ -30,6 +26,16 @@ fn ending_of(value: Frac, upper: Frac, stuck: Option<Cause>, nodes: u64) -> Endi
     match stuck {
         Some(cause) => Ending::Gap(cause),
         None => Ending::Gap(Cause::Nodes(nodes)),
+    }
+}
+
+/// The operands of the operation that an ending names.
+fn operands_of(ending: &Ending) -> Option<(i128, i128)>
+    ensures { HasOperandsAt ending.now }
+{
+    match ending {
+        Ending::Gap(Cause::Wide { wide, .. }) => Some((wide.left, wide.right)),
+        _ => None,
     }
 }
 
@@ -55,13 +61,15 @@ pub(crate) fn answer_of(game: &Game, budget: &Budget, order: &Order, nodes: u64,
         Ok(top) => top,
         Err(_) => unreachable!(),
     };
+    let ending = ending_of(value, top, stuck, nodes);
+    let _operands = operands_of(&ending);
     let report = Report {
         tickets: Claim::of(tickets),
         value,
         caps,
         tree,
         upper: top,
-        ending: ending_of(value, top, stuck, nodes),
+        ending,
     };
     Answer { report, worked }
 }
