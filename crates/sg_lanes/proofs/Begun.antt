@@ -60,7 +60,7 @@ pub branch-loads : (loads after : List (Option Load)) (lane : ℕ) (acts : List 
 branch-loads loads after lane acts node e same = e ∙ ap (λ (x : Fix). with_load loads lane (begun_load x)) (sym same)
 
 module _ (g g2 : Game) (loads after : List (Option Load)) (stop1 stop2 : Fix → ℕ → Type 0) (closes closes2 : Fix → Fact → Option Committed → Type 0) (stops stops2 : Fix → Cause → Type 0) (m t : Machine) (lane : ℕ)
-  (h : IsTogether g loads closes stops m) (same_game : g2 ≡ g) (tests : AreSameTests stop1 closes stops stop2 closes2 stops2) (task : t.task ≡ m.task) where
+    (h : IsTogether g loads closes stops m) (same_game : g2 ≡ g) (tests : AreSameTests stop1 closes stops stop2 closes2 stops2) (task : t.task ≡ m.task) where
   pub took-together : (node held : Fix) → held ≡ node → Goes m.task m.search (takes lane held) t.search → after ≡ with_load loads lane (begun_load node) → IsTogether g2 after closes2 stops2 t
   took-together node held same goes e =
       together-after g g2 loads after stop1 stop2 closes closes2 stops stops2 m t h same_game tests task

@@ -5,3 +5,4 @@ pub mod Choices
 pub mod Rises
 pub mod Ripenings
 pub mod ProvedCaps
+pub mod Ends

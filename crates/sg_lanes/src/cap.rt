@@ -1,38 +1,43 @@
 //! The caps of types.
 
-ghost use Rattle.std.specs.Prelude.{◌≡◌, ◌≤◌, ◌+◌, [], length};
-ghost use Rattle.sg_model.specs.Payoffs.{greatest_of};
+ghost use Rattle.std.specs.Prelude.{◌≡◌, ◌≤◌, ◌+◌, ◌++◌, ◌-ℤ◌, ◌+ℤ◌, ◌*ℤ◌, ◌≤ℤ◌, ℤ, List, [], All, IfOk, filter_map, int_div, length, option_map, pos};
+ghost use Rattle.std.specs.Option.{option_to_list};
+ghost use Rattle.sg_model.specs.Sums.{greatest};
+ghost use Rattle.sg_model.specs.Commitments.{IsCommitment};
+ghost use Rattle.sg_model.specs.Payoffs.{IsPeopled, greatest_of, shift_of};
+ghost use Rattle.sg_model.specs.declared.limit.TheConstants.{PAYOFF_LIMIT};
+ghost use Rattle.sg_model.specs.declared.ticket.Ticket.{Ticket};
 ghost use Rattle.sg_game.specs.Counts.{IsTypeOf};
+ghost use Rattle.sg_tree.specs.declared.fact.Fact.{Fact};
+ghost use Rattle.sg_bounds.specs.Regions.{alone};
+ghost use Rattle.sg_search.specs.Searches.{same};
+ghost use Rattle.sg_search.specs.Bounding.{fact_of, least_cap};
+ghost use Rattle.sg_search.specs.Results.{IsResult};
+ghost use Rattle.sg_lanes.specs.ProvedCaps.{AreAllFacts, IsCapFact, IsProvedCap, only_worked};
 
-use crate::bound::{mu, rho};
+use crate::bound::{mu, rho, times};
 use sg_game::{Game, greatest};
-use sg_tree::{Cap, Fact, Worked};
+use sg_tree::{Cap, Fact, Fix, Worked};
 use sqlite_items::Items;
 use std::alloc::{AllocError, Global};
 
-/// The fact of a type's cap node, where it is worked.
-pub(crate) fn fact_at<'b>(worked: &'b [Worked], l: u8, a: u16) -> Option<&'b Fact> {
+/// Whether a node fixes this type alone, to this action.
+fn is_alone(node: &Fix, l: u8, act: u16) -> bool
+    ensures { result ≡ same (alone l act) node.now }
+{
+    node.first == l && [act].as_slice() == node.acts.as_slice()
+}
+
+/// The fact of the node that fixes a type alone to an action, where it is worked.
+pub(crate) fn fact_at<'b>(worked: &'b [Worked], l: u8, act: u16) -> Option<&'b Fact>
+    ensures { option_map (λ fact. fact.now) result ≡ fact_of worked.now (alone l act) }
+{
     for w in worked {
-        let acts = w.fix.acts.as_slice();
-        if w.fix.first == l && acts.len() == 1 && acts[0] == a {
+        if is_alone(&w.fix, l, act) {
             return Some(&w.fact);
         }
     }
     None
-}
-
-/// Whether all cap nodes of a type are worked.
-pub(crate) fn are_worked(game: &Game, worked: &[Worked], l: u8) -> bool
-    requires { IsTypeOf game.now l }
-{
-    let count = game.actions(l);
-    for i in 0..count {
-        match fact_at(worked, l, i + 1) {
-            Some(_) => {}
-            None => return false,
-        }
-    }
-    true
 }
 
 /// The plain cap of a type: the greatest payoff against it.

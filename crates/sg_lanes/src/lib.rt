@@ -19,5 +19,6 @@ mod stick;
 mod take;
 mod tops;
 
+pub use end::End;
 pub use lanes::Lanes;
 pub use ripe::Ripe;
