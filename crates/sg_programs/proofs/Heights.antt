@@ -132,7 +132,7 @@ types-sum g h = elim (game_cases g h) [
       omega (arith, all, by-number own g.types, rows))
 ]
 
-limit : (g : Game) → IsGame g → g.scale ≡ pos 0 → program_rows g ≤ 1536
+pub limit : (g : Game) → IsGame g → g.scale ≡ pos 0 → program_rows g ≤ 1536
 limit g h e = elim (game_cases g h) [ inl s ↦ s.game.few_rows e | inr m ↦ m.game.few_rows ]
 
 pub height-few : (g : Game) → IsGame g → g.scale ≡ pos 0 → (fix : Fix) → IsFix g fix → length (comparisons g fix) + 1 ≤ 1536

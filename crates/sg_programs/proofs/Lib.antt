@@ -1,5 +1,8 @@
 pub mod Columns
 pub mod Comparisons
+pub mod CoverColumns
+pub mod CoverFacts
+pub mod CoverSized
 pub mod Heights
 pub mod Kept
 pub mod ListedPlays

@@ -13,7 +13,7 @@ use Rattle.sg_lp.specs.Listing.{enters, listing_looks}
 use Rattle.sg_programs.specs.Enough.{coverage_columns, enough_looks, partial_count}
 use Rattle.sg_programs.specs.Plays.{column_of, plays_program}
 
-looks-few : (p : Program) (y : List ℤ) (rho : ℤ) (cs : List Column) → listing_looks p y rho cs ≤ length cs
+pub looks-few : (p : Program) (y : List ℤ) (rho : ℤ) (cs : List Column) → listing_looks p y rho cs ≤ length cs
 looks-few p y rho [] = omega arith
 looks-few p y rho (c ∷ cs) = go (enters p y rho c) (looks-few p y rho cs)
   where

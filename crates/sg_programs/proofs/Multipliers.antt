@@ -28,11 +28,11 @@ use Rattle.sg_programs.proofs.Columns.{play-column}
 use Rattle.sg_programs.proofs.Comparisons.{rows_are_comparisons}
 
 -- a sum by its first term
-sum-first : (n : ℕ) (f : ℕ → ℤ) → sum_below (suc n) f ≡ f 0 +ℤ sum_below n (λ k. f (suc k))
+pub sum-first : (n : ℕ) (f : ℕ → ℤ) → sum_below (suc n) f ≡ f 0 +ℤ sum_below n (λ k. f (suc k))
 sum-first zero f = omega (arith, ints)
 sum-first (suc n) f = ap (λ z. z +ℤ f (suc n)) (sum-first n f) ∙ omega (arith, ints)
 
-is-zero : (v : ℤ) → pos 0 ≤ℤ v → int_lt (pos 0) v ≡ false → v ≡ pos 0
+pub is-zero : (v : ℤ) → pos 0 ≤ℤ v → int_lt (pos 0) v ≡ false → v ≡ pos 0
 is-zero v low e = let high : v ≤ℤ pos 0 = grind (arith, ints, e) in omega (arith, ints, low, high)
 
 -- the sum over the marks is the sum over all comparisons

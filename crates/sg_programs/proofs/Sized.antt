@@ -7,7 +7,7 @@ use Rattle.std.proofs.lemmas.Int.{ints, int_min_is}
 use Rattle.std.proofs.lemmas.List.{length-replicate}
 use Rattle.std.proofs.lemmas.List.Elements.{All-cons, All-head, All-map, All-nil, All-tail}
 use Rattle.sg_num.proofs.Laws.{mul-comm, one-mul, zero-mul}
-use Rattle.sg_model.specs.Sums.{least, nth, numbers, numbers_from}
+use Rattle.sg_model.specs.Sums.{least, nth, numbers, numbers_from, total}
 use Rattle.sg_model.specs.Games.{Game, action_count, attacker, nobody, payoff, resource_count, resource_schedules}
 use Rattle.sg_model.specs.Limits.{IsGame, IsMatrixType, IsPay, IsSecurityType}
 use Rattle.sg_model.specs.Plays.{IsLegal, pay_d}
@@ -63,9 +63,8 @@ pays-all g h =
     All-flat_map IsPay (payoffs_at g l) (numbers (action_count g l)) (λ j e within. pays-at g h l (slice_index_or (numbers (action_count g l)) j e)))
 
 -- a payoff with the shift
-shifted-pay : (g : Game) → IsGame g → (l : ℕ) (play : List ℕ) (a : ℕ) → Spans (2 ^ 31 + 1) (pay_d g l play a +ℤ shift_of g)
-shifted-pay g h l play a =
-    let p = pay_d-in_range g h l play a in
+pub shifted-pay : (g : Game) → IsGame g → (x : ℤ) → IsPay x → Spans (2 ^ 31 + 1) (x +ℤ shift_of g)
+shifted-pay g h x p =
     let q = least-pay (flat_map (payoffs_of g) (numbers (length g.types))) (pays-all g h) in
     record { low = omega (arith, ints, p.at_least, q.at_most); high = omega (arith, ints, p.at_most, q.at_least) }
 
@@ -94,20 +93,24 @@ parts-small g h fix is_fix play =
     let p : ℕ × ℕ = slice_index_or (fixed fix) i d in
     let pair = fixed_pairs fix i d lt in
     let prior = prior-spans g h p.0 (let a = is_fix.from_one in let b = pair.low in omega (arith, a, b)) (let a = is_fix.in_range in let b = pair.high in omega (arith, a, b)) in
-    spans_product (2 ^ 20) (2 ^ 31 + 1) (attacker g p.0).prior (pay_d g p.0 play p.1 +ℤ shift_of g) prior (shifted-pay g h p.0 play p.1)
+    spans_product (2 ^ 20) (2 ^ 31 + 1) (attacker g p.0).prior (pay_d g p.0 play p.1 +ℤ shift_of g) prior (shifted-pay g h (pay_d g p.0 play p.1) (pay_d-in_range g h p.0 play p.1))
 
 pub fixed-few : (g : Game) → IsGame g → (fix : Fix) → IsFix g fix → length (fixed fix) ≤ 8
 fixed-few g h fix is_fix = let a = is_fix.from_one in let b = is_fix.in_range in omega (arith, pairs-count fix.first fix.acts, few-types g h, a, b)
 
-cost-small : (g : Game) → IsGame g → (fix : Fix) → IsFix g fix → (play : List ℕ) → IsAtMost (pos (2 ^ 56)) (cost g fix play)
-cost-small g h fix is_fix play =
+-- a sum of such parts
+pub parts-sum : (g : Game) → IsGame g → (fix : Fix) → IsFix g fix → (f : ℕ × ℕ → ℤ) → All (λ p. Spans (2 ^ 20 * (2 ^ 31 + 1)) (f p)) (fixed fix) → IsAtMost (pos (2 ^ 56)) (total f (fixed fix))
+parts-sum g h fix is_fix f small =
     let most : ℕ = 2 ^ 20 * (2 ^ 31 + 1) in
-    let all = spans_total (cost_part g play) most (fixed fix) (parts-small g h fix is_fix play) in
+    let all = spans_total f most (fixed fix) small in
     let room : length (fixed fix) * most ≤ 2 ^ 56 = room-for (length (fixed fix)) (fixed-few g h fix is_fix) in
     (omega (arith, ints, all.low, room), omega (arith, ints, all.high, room))
   where
     room-for : (n : ℕ) → n ≤ 8 → n * (2 ^ 20 * (2 ^ 31 + 1)) ≤ 2 ^ 56
     room-for n le = omega (arith, le)
+
+cost-small : (g : Game) → IsGame g → (fix : Fix) → IsFix g fix → (play : List ℕ) → IsAtMost (pos (2 ^ 56)) (cost g fix play)
+cost-small g h fix is_fix play = parts-sum g h fix is_fix (cost_part g play) (parts-small g h fix is_fix play)
 
 entry-small : (g : Game) → IsGame g → (fix : Fix) (play : List ℕ) (j : ℕ) → IsAtMost (pos (2 ^ 31 + 1)) (play_entry g fix play j)
 entry-small g h fix play zero = (omega (arith, ints), omega (arith, ints))

@@ -12,3 +12,5 @@ pub mod Refusals
 pub mod FactLaws
 pub mod PointLaws
 pub mod NodeLaws
+pub mod CoverPrograms
+pub mod CoverLaws

@@ -5,12 +5,14 @@
 //! below carry laws about them: each has an empty body, and its contract is a statement of `specs/Laws.antt`.
 #![tactic(auto)]
 
+mod cover_laws;
 mod examples;
 mod fact_laws;
 mod laws;
 mod node_laws;
 mod point_laws;
 
+pub use cover_laws::{columns_are_table, cover_is_bounded, cover_is_sized, cover_looks_are_enough, final_is_cover_fact, lines_rise};
 pub use examples::{worked_programs, worked_refusals};
 pub use fact_laws::{final_is_fact, marks_rise};
 pub use laws::{
