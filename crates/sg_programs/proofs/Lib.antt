@@ -15,3 +15,4 @@ pub mod PointSums
 pub mod Refused
 pub mod Sized
 pub mod Worked
+pub mod WorkedCovers

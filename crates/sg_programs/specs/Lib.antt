@@ -14,3 +14,4 @@ pub mod PointLaws
 pub mod NodeLaws
 pub mod CoverPrograms
 pub mod CoverLaws
+pub mod CoverExamples

@@ -13,7 +13,7 @@ mod node_laws;
 mod point_laws;
 
 pub use cover_laws::{columns_are_table, cover_is_bounded, cover_is_sized, cover_looks_are_enough, final_is_cover_fact, lines_rise};
-pub use examples::{worked_programs, worked_refusals};
+pub use examples::{worked_cover, worked_programs, worked_refusals};
 pub use fact_laws::{final_is_fact, marks_rise};
 pub use laws::{
     columns_are_plays, looks_are_enough, program_is_bounded, program_is_sized,
