@@ -11,7 +11,8 @@ use Rattle.sg_bounds.specs.PlayRows.{comparisons, other_actions}
 use Rattle.sg_bounds.specs.Regions.{fixed}
 use Rattle.sg_rows.specs.Rows.{place}
 use Rattle.sg_programs.specs.Marks.{marks_of}
-use Rattle.sg_dobss.proofs.Gains.{fixed-at, fixed-count, others-more, others-same, others_to}
+use Rattle.sg_dobss.proofs.Gains.{others-more, others-same, others_to}
+use Rattle.sg_programs.proofs.Fixed.{fixed-at, fixed-count}
 
 -- the mark of one comparison
 one : (m : ℕ × ℕ) (vs : List ℤ) → marks_of (m ∷ []) vs ≡ marks_of (m ∷ []) (place vs 0 ∷ [])

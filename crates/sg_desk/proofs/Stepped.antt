@@ -10,7 +10,7 @@ use Rattle.sg_simplex.specs.Turns.{HasCause, HasMoved, Turns}
 use Rattle.sg_simplex.specs.declared.turn.Turn.{Turn}
 use Rattle.sg_simplex.specs.declared.turn.Turn.TheVariants as turn
 use Rattle.sg_simplex.proofs.Causes.{cause_one}
-use Rattle.sg_dobss.specs.Listings.{NodeOf}
+use Rattle.sg_programs.specs.Nodes.{NodeOf}
 use Rattle.sg_programs.specs.NodeTests.{EndsNode, Method, TurnAnswers, listed_plays}
 use Rattle.sg_programs.specs.Plays.{plays_program}
 use Rattle.sg_programs.proofs.Sized.{program_is_sized}

@@ -9,7 +9,7 @@ use Rattle.sg_lp.specs.States.{Tableau}
 use Rattle.sg_simplex.specs.Turns.{Pricer, Turns}
 use Rattle.sg_simplex.specs.declared.turn.Turn.{Turn}
 use Rattle.sg_simplex.specs.declared.turn.Turn.TheVariants as turn
-use Rattle.sg_dobss.specs.Listings.{NodeOf}
+use Rattle.sg_programs.specs.Nodes.{NodeOf}
 use Rattle.sg_programs.specs.NodeTests.{ClosesNode, EndsNode, Method, StopsNode, TurnAnswers, listed_plays}
 use Rattle.sg_programs.specs.Plays.{plays_program}
 use Rattle.sg_work.specs.Works.{Load}

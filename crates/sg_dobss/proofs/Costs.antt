@@ -21,7 +21,7 @@ use Rattle.sg_rows.specs.Rows.{place}
 use Rattle.sg_programs.proofs.Sized.{cost_part, fixed-few, parts-small}
 use Rattle.sg_dobss.specs.Paying.{AreByPlay, AreNumbers, listed_play}
 use Rattle.sg_dobss.specs.Tables.{added_to, cost_to}
-use Rattle.sg_dobss.proofs.Gains.{fixed-all, fixed-count, fixed-more}
+use Rattle.sg_programs.proofs.Fixed.{fixed-all, fixed-count, fixed-more}
 use Rattle.sg_dobss.proofs.Numbered.{all-numbers}
 
 pub costs-none : (g : Game) (fix : Fix) → AreByPlay g (cost_to g fix 0) (replicate (length (legal_plays g)) (pos 0))

@@ -21,7 +21,8 @@ use Rattle.sg_bounds.specs.PlayRows.{comparison_at, comparisons, play_entry}
 use Rattle.sg_programs.proofs.Columns.{play-column}
 use Rattle.sg_programs.proofs.Heights.{height-few}
 use Rattle.sg_programs.proofs.Sized.{program_is_bounded, program_is_sized}
-use Rattle.sg_dobss.specs.Listings.{IsListing, NodeOf}
+use Rattle.sg_dobss.specs.Listings.{IsListing}
+use Rattle.sg_programs.specs.Nodes.{NodeOf}
 use Rattle.sg_dobss.specs.Paying.{listed_play}
 use Rattle.sg_dobss.specs.Tables.{AreTablesOf, IsGainRow, entry_in}
 use Rattle.sg_dobss.proofs.Gains.{zip-at}

@@ -6,11 +6,6 @@ use Rattle.sg_tree.specs.declared.fix.Fix.{Fix}
 use Rattle.sg_bounds.specs.Regions.{IsFix}
 use Rattle.sg_dobss.specs.Tables.{AreTables}
 
--- the game and the node
-pub record NodeOf : Type 0 where
-  pub game : Game
-  pub fix : Fix
-
 -- a node of a game without a scale and with few plays, and the tables of its plays
 pub record IsListing (g : Game) (fix : Fix) (count : ℕ) (costs : List ℤ) (rows : List (List ℤ)) : Type 0 where
   pub unscaled : g.scale ≡ pos 0

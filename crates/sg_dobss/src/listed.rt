@@ -29,7 +29,8 @@ pub struct Listed<'a> {
 }
 
 impl<'a> Model for Listed<'a> {
-    ghost use Rattle.sg_dobss.specs.Listings.{IsListing, NodeOf};
+    ghost use Rattle.sg_dobss.specs.Listings.{IsListing};
+    ghost use Rattle.sg_programs.specs.Nodes.{NodeOf};
 
     ghost Value = { NodeOf };
 

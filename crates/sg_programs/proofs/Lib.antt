@@ -3,6 +3,7 @@ pub mod Comparisons
 pub mod CoverColumns
 pub mod CoverFacts
 pub mod CoverSized
+pub mod Fixed
 pub mod Heights
 pub mod Kept
 pub mod ListedPlays

@@ -1,4 +1,5 @@
 pub mod Plays
+pub mod Nodes
 pub mod Enough
 pub mod Sparse
 pub mod Marks

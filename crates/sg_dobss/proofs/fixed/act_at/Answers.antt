@@ -1,6 +1,6 @@
 use Rattle.std.proofs.Common.{subst, sym, ◌≤◌, ◌+◌, List, ℕ, slice_index}
 use Rattle.sg_model.specs.Games.{action_count}
-use Rattle.sg_dobss.proofs.Gains.{act-in_range}
+use Rattle.sg_programs.proofs.Fixed.{act-in_range}
 use Rattle.sg_dobss.proofs.fixed.act_at.Goals as goal
 
 pub returns-clause-known : goal.returns-clause-known

@@ -1,5 +1,5 @@
 use Rattle.std.proofs.Common.{arith}
-use Rattle.sg_dobss.proofs.Gains.{fix-small, type-in_range}
+use Rattle.sg_programs.proofs.Fixed.{fix-small, type-in_range}
 use Rattle.sg_dobss.proofs.fixed.type_at.Goals as goal
 
 pub overflow_cast-result : goal.overflow_cast-result

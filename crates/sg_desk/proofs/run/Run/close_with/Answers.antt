@@ -3,7 +3,7 @@ use Rattle.std.proofs.lemmas.Int.{ints, to_z-of_z}
 use Rattle.sg_num.specs.Operations.{first_wide}
 use Rattle.sg_tree.specs.declared.fact.Fact.TheVariants.{Plays}
 use Rattle.sg_tree.specs.declared.fix.Fix.{Fix}
-use Rattle.sg_dobss.specs.Listings.{NodeOf}
+use Rattle.sg_programs.specs.Nodes.{NodeOf}
 use Rattle.sg_lp.specs.Moves.{NamedStep, first_shown}
 use Rattle.sg_programs.specs.Plays.{plays_program}
 use Rattle.sg_programs.specs.Points.{point_steps}

@@ -1,6 +1,6 @@
 use Rattle.std.proofs.Common.{◌∙◌, ◌+◌, ◌-◌, None, ap, slice_set, sym, subst}
 use Rattle.std.proofs.lemmas.List.{get_or_default}
-use Rattle.sg_dobss.specs.Listings.{NodeOf}
+use Rattle.sg_programs.specs.Nodes.{NodeOf}
 use Rattle.sg_lp.specs.Pooled.{GivesBack}
 use Rattle.sg_desk.specs.Desks.{DeskView, IsDesk}
 use Rattle.sg_desk.specs.Runs.{listed_program, load_of}

@@ -5,7 +5,7 @@ use Rattle.std.proofs.lemmas.Int.{to_z-of_z}
 use Rattle.sg_lp.specs.Pricing.{clean, told_of}
 use Rattle.sg_lp.proofs.Listing.{says_listing}
 use Rattle.sg_programs.specs.Plays.{plays_program}
-use Rattle.sg_dobss.specs.Listings.{NodeOf}
+use Rattle.sg_programs.specs.Nodes.{NodeOf}
 use Rattle.sg_dobss.proofs.Held.{clean-found, columns-long, costs-long, few-rows, found-by, game-by, listing-by, row-room, rows-read, spent-found, tables-read, wide-found}
 use Rattle.sg_dobss.proofs.listed.ListedFamily.price.Goals as goal
 
