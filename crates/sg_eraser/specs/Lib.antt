@@ -1,0 +1,3 @@
+pub mod TableValues
+pub mod Nonzero
+pub mod Covers
