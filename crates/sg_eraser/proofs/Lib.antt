@@ -1,1 +1,5 @@
-
+pub mod Written
+pub mod Nonzeros
+pub mod Formed
+pub mod Counted
+pub mod CostSums

@@ -10,7 +10,7 @@ use Rattle.sg_programs.specs.Sparse.{AreKept, steps_at, sum_at}
 use Rattle.sg_programs.specs.Laws.{ZerosChangeNothing}
 
 -- two operations, and then the same from a second one that fits
-after-two : (w v : Wide) (as1 bs : List Wide) → (is_formed v ≡ true → first_wide as1 ≡ first_wide bs) → first_wide (w ∷ v ∷ as1) ≡ first_wide (w ∷ v ∷ bs)
+pub after-two : (w v : Wide) (as1 bs : List Wide) → (is_formed v ≡ true → first_wide as1 ≡ first_wide bs) → first_wide (w ∷ v ∷ as1) ≡ first_wide (w ∷ v ∷ bs)
 after-two w v as1 bs h = ap (λ (o : Option Wide). if is_formed w then o else Some w) (go (is_formed v) refl)
   where
     go : (t : Bool) → is_formed v ≡ t → (if t then first_wide as1 else Some v) ≡ (if t then first_wide bs else Some v)
@@ -18,7 +18,7 @@ after-two w v as1 bs h = ap (λ (o : Option Wide). if is_formed w then o else So
     go false e = refl
 
 -- a product of 0 fits, and so does the sum with it
-after-zero : (a b acc : ℤ) (rest : List Wide) → a *ℤ b ≡ pos 0 → fits acc ≡ true → first_wide (times a b ∷ plus acc (a *ℤ b) ∷ rest) ≡ first_wide rest
+pub after-zero : (a b acc : ℤ) (rest : List Wide) → a *ℤ b ≡ pos 0 → fits acc ≡ true → first_wide (times a b ∷ plus acc (a *ℤ b) ∷ rest) ≡ first_wide rest
 after-zero a b acc rest e f =
     let p : fits (a *ℤ b) ≡ true = ap fits e in
     let same : acc +ℤ (a *ℤ b) ≡ acc = omega (arith, ints, e) in
@@ -30,10 +30,10 @@ after-zero a b acc rest e f =
 abbrev pub Gives : (ℕ → ℤ) → ℕ → List ℤ → Type 0
 Gives x j xs = (i : ℕ) → i < length xs → x (j + i) ≡ place xs i
 
-gives-first : (x : ℕ → ℤ) (j : ℕ) (p : ℤ) (ps : List ℤ) → Gives x j (p ∷ ps) → x j ≡ p
+pub gives-first : (x : ℕ → ℤ) (j : ℕ) (p : ℤ) (ps : List ℤ) → Gives x j (p ∷ ps) → x j ≡ p
 gives-first x j p ps h = let e : j ≡ j + 0 = omega arith in ap x e ∙ h 0 (omega arith)
 
-gives-rest : (x : ℕ → ℤ) (j : ℕ) (p : ℤ) (ps : List ℤ) → Gives x j (p ∷ ps) → Gives x (j + 1) ps
+pub gives-rest : (x : ℕ → ℤ) (j : ℕ) (p : ℤ) (ps : List ℤ) → Gives x j (p ∷ ps) → Gives x (j + 1) ps
 gives-rest x j p ps h = λ i lt. let e : j + 1 + i ≡ j + suc i = omega arith in ap x e ∙ h (suc i) (omega (arith, lt))
 
 pub kept-steps : (x y : ℕ → ℤ) (j : ℕ) (acc : ℤ) (xs ys : List ℤ) (js : List ℕ) → Gives x j xs → Gives y j ys → AreKept j xs ys js → fits acc ≡ true
