@@ -4,9 +4,10 @@ use Rattle.std.specs.Prelude.{ℤ, pos, ◌+ℤ◌, ◌*ℤ◌, ◌<ℤ◌, ◌�
 use Rattle.std.proofs.lemmas.Int.{ints}
 use Rattle.std.proofs.lemmas.List.{drop_all, drop_more}
 use Rattle.sg_num.specs.declared.step.Wide.{Wide}
-use Rattle.sg_num.specs.Exact.{and_then, exact_dot_step, exact_times}
-use Rattle.sg_num.specs.Operations.{first_wide, formed, times}
+use Rattle.sg_num.specs.Exact.{and_then, exact_dot_step, exact_times, fits}
+use Rattle.sg_num.specs.Operations.{first_wide, formed, is_formed, times}
 use Rattle.sg_rows.specs.Rows.{place}
+use Rattle.sg_rows.proofs.Fitting.{Err-stops, Ok-fits, Ok-value, fits-formed}
 use Rattle.sg_rows.proofs.Forming.{dot_step-formed}
 use Rattle.sg_eraser.specs.declared.sparse.RowEntry.{RowEntry}
 use Rattle.sg_eraser.specs.Nonzero.{nonzero_steps, nonzero_sum}
@@ -38,3 +39,38 @@ sum-stops y xs i d acc w lt is =
 
 pub sum-all : (y : List ℤ) (xs : List RowEntry) (i : ℕ) (acc : ℤ) → length xs ≤ i → formed_of y acc (drop i xs) ≡ Ok acc
 sum-all y xs i acc le = ap (formed_of y acc) (drop_all i xs le)
+
+-- ---- whether a column enters
+
+-- a product that fits, and what is formed behind it
+behind : {A : Type 0} (a b v : ℤ) (rest : List Wide) (value : A) → Ok v ≡ exact_times a b → (v ≡ a *ℤ b) × (formed (times a b ∷ rest) value ≡ formed rest value)
+behind {A = A} a b v rest value e = go (fits (a *ℤ b)) e
+  where
+    go : (t : Bool) → ◌≡◌ {A = Result ℤ Wide} (Ok v) (if t then Ok (a *ℤ b) else Err (times a b)) → (v ≡ a *ℤ b) × ((if t then formed rest value else Err (times a b)) ≡ formed rest value)
+    go true q = (cc, refl)
+    go false q = absurd (cc)
+
+stops-formed : {A : Type 0} (steps : List Wide) (value : A) (w : Wide) → first_wide steps ≡ Some w → formed steps value ≡ Err w
+stops-formed [] value w e = absurd (cc)
+stops-formed {A = A} (s ∷ ss) value w e = go (is_formed s) (λ q. stops-formed ss value w q) e
+  where
+    go : (t : Bool) → (first_wide ss ≡ Some w → formed ss value ≡ Err w) → ◌≡◌ {A = Option Wide} (if t then first_wide ss else Some s) (Some w) → ◌≡◌ {A = Result A Wide} (if t then formed ss value else Err s) (Err w)
+    go true rec q = rec q
+    go false rec q = let same : s ≡ w = cc in ap (λ (u : Wide). Err u) same
+
+module _ (y : List ℤ) (xs : List RowEntry) (rho cost worth : ℤ) (is : Ok worth ≡ exact_times rho cost) where
+  abbrev steps : List Wide
+  steps = nonzero_steps y (pos 0) xs
+
+  abbrev answer : Bool
+  answer = int_lt (nonzero_sum y (pos 0) xs) (rho *ℤ cost)
+
+  pub enters-formed : (allowed : ℤ) → Ok allowed ≡ formed_of y (pos 0) xs → Ok (int_lt allowed worth) ≡ formed (times rho cost ∷ steps) answer
+  enters-formed allowed e =
+      let b = behind rho cost worth steps answer is in
+      let sum = Ok-value steps (nonzero_sum y (pos 0) xs) allowed e in
+      let same : int_lt allowed worth ≡ answer = ap (λ (z : ℤ). int_lt z worth) sum ∙ ap (int_lt (nonzero_sum y (pos 0) xs)) b.0 in
+      ap (λ (t : Bool). Ok t) same ∙ sym (b.1 ∙ fits-formed steps answer (Ok-fits steps (nonzero_sum y (pos 0) xs) allowed e))
+
+  pub enters-stops : (w : Wide) → Err w ≡ formed_of y (pos 0) xs → Err w ≡ formed (times rho cost ∷ steps) answer
+  enters-stops w e = sym ((behind rho cost worth steps answer is).1 ∙ stops-formed steps answer w (Err-stops steps (nonzero_sum y (pos 0) xs) w e))
