@@ -3,3 +3,4 @@ pub mod Nonzeros
 pub mod Formed
 pub mod Counted
 pub mod CostSums
+pub mod Tabled

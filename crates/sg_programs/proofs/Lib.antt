@@ -4,6 +4,7 @@ pub mod CoverColumns
 pub mod CoverFacts
 pub mod CoverSized
 pub mod Fixed
+pub mod Found
 pub mod Heights
 pub mod Kept
 pub mod ListedPlays
