@@ -4,3 +4,5 @@ pub mod Formed
 pub mod Counted
 pub mod CostSums
 pub mod Tabled
+pub mod Viewed
+pub mod Answered

@@ -7,7 +7,7 @@ ghost use Rattle.sg_bounds.specs.Regions.{IsFix};
 ghost use Rattle.sg_programs.specs.CoverPrograms.{column_numbered};
 
 use crate::columns::columns;
-use crate::costs::costs;
+use crate::costs::{cost_in, costs};
 use crate::entry::entry_at;
 use crate::pricing::does_enter;
 use crate::rows::rows;
@@ -105,7 +105,7 @@ impl<'a> Family for Cover<'a> {
     }
 
     fn cost(&self, col: &Column) -> i64 {
-        self.costs.as_slice()[col.code[0] as usize - 1]
+        cost_in(self.costs.as_slice(), col.code[0] as usize - 1)
     }
 
     fn price(&self, y: &[i128], rho: i128, budget: u64, found: &mut Column) -> Priced {
@@ -116,7 +116,7 @@ impl<'a> Family for Cover<'a> {
             if k as u64 >= budget {
                 return Priced::Spent;
             }
-            match does_enter(costs[k], entries[k].as_slice(), y, rho) {
+            match does_enter(cost_in(costs, k), entries[k].as_slice(), y, rho) {
                 Ok(true) => {
                     *found = numbered(k as u16 + 1);
                     return Priced::Found;

@@ -1,10 +1,7 @@
-use Rattle.std.proofs.Common.{◌≡◌, ◌<◌, ◌+◌, IfOk, pos, length, ℕ, ◌-◌, ◌*◌, ◌≤◌, ℤ, ◌+ℤ◌, ◌-ℤ◌, ◌*ℤ◌, ◌≤ℤ◌, ◌<ℤ◌, FitsSigned, to_z, of_z}
-use Rattle.std.specs.List.{Contains}
-use Rattle.sg_model.specs.declared.kind.Kind.TheVariants.{Security}
-use Rattle.sg_bounds.specs.Regions.{IsFix}
-use Rattle.sg_programs.specs.CoverPrograms.{column_numbered, cover_program}
-use Rattle.sg_lp.specs.Listing.{listing_answer, listing_looks}
+use Rattle.std.proofs.Common.{◌≡◌}
+use Rattle.sg_eraser.proofs.Answered.{answer_from}
 use Rattle.sg_eraser.proofs.cover.CoverFamily.price.Given as goal
 
+-- what is answered from the start is answered from here on
 abbrev pub invariant-loop-k : goal.invariant-loop-k
-invariant-loop-k l = ?
+invariant-loop-k l = answer_from l.self l.y l.rho l.budget 0 ≡ answer_from l.self l.y l.rho l.budget l.k

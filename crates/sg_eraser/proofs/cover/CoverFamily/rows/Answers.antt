@@ -1,15 +1,17 @@
-use Rattle.std.proofs.Common.{rules, ◌≡◌, ◌<◌, ◌+◌, IfOk, pos, length, ℕ, ◌-◌, ◌*◌, ◌≤◌, ◌/◌, ◌%◌, Bool, true, false, nat_eq, nat_lt, List, [], ◌∷◌, ◌++◌, slice_index_or, slice_set, bit_and, bit_or, Fits, w8, w32, w64, Bor, MutBor}
-use Rattle.std.specs.List.{Contains}
-use Rattle.sg_model.specs.declared.kind.Kind.TheVariants.{Security}
-use Rattle.sg_bounds.specs.Regions.{IsFix}
-use Rattle.sg_programs.specs.CoverPrograms.{column_numbered, cover_program}
-use Rattle.sg_lp.specs.Listing.{listing_answer, listing_looks}
+use Rattle.sg_eraser.proofs.Tabled.{is-bounded, sized}
+use Rattle.sg_eraser.proofs.Viewed.{coverage-by, game-by}
 use Rattle.sg_eraser.proofs.cover.CoverFamily.rows.Goals as goal
 
--- src/cover.rt:97:5
 pub returns-clause-sized : goal.returns-clause-sized
-returns-clause-sized c = ?
+returns-clause-sized c =
+    let s = c.self.inside in
+    let v = c.args.self.now in
+    let is = coverage-by v (record { game = s.game.now; fix = s.fix }) s.rows s.columns s.costs s.entries c.self.view_is c.self.invariant in
+    sized v.game v.fix s.rows s.columns s.costs s.entries is (game-by v (record { game = s.game.now; fix = s.fix }) c.self.view_is c.promises.ensures)
 
--- src/cover.rt:97:5
 pub returns-clause-bounded : goal.returns-clause-bounded
-returns-clause-bounded c = ?
+returns-clause-bounded c =
+    let s = c.self.inside in
+    let v = c.args.self.now in
+    let is = coverage-by v (record { game = s.game.now; fix = s.fix }) s.rows s.columns s.costs s.entries c.self.view_is c.self.invariant in
+    is-bounded v.game v.fix s.rows s.columns s.costs s.entries is (game-by v (record { game = s.game.now; fix = s.fix }) c.self.view_is c.promises.ensures)
