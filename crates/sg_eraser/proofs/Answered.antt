@@ -9,6 +9,7 @@ use Rattle.sg_rows.proofs.Fitting.{Err-stops, Ok-fits, Ok-value}
 use Rattle.sg_rows.specs.Rows.{place}
 use Rattle.sg_model.specs.Sums.{numbers}
 use Rattle.sg_model.specs.Games.{Game}
+use Rattle.sg_model.specs.Limits.{IsGame}
 use Rattle.sg_model.proofs.Numbers.{length-numbers_from, nth-numbers_from}
 use Rattle.sg_tree.specs.declared.fix.Fix.{Fix}
 use Rattle.sg_bounds.specs.Coverage as table
@@ -18,6 +19,7 @@ use Rattle.sg_lp.specs.Pricing.{Answer, AnswerMeans, clean, found, spent, wide}
 use Rattle.sg_lp.proofs.InTurn as turn
 use Rattle.sg_programs.specs.CoverPrograms.{column_numbered, cover_program}
 use Rattle.sg_programs.specs.Nodes.{NodeOf}
+use Rattle.sg_programs.proofs.CoverFacts.{columns-few}
 use Rattle.sg_eraser.specs.declared.sparse.RowEntry.{RowEntry}
 use Rattle.sg_eraser.specs.declared.table.CoverRow.{CoverRow}
 use Rattle.sg_eraser.specs.declared.table.CoverColumn.{CoverColumn}
@@ -122,3 +124,9 @@ module _ (v inner : NodeOf) (rows : List CoverRow) (columns : List CoverColumn) 
 
   pub clean-here : (rho : ℤ) (budget k : ℕ) → length cs ≤ k → k ≤ length cs → answer_from v y rho budget 0 ≡ answer_from v y rho budget k → answer_from v y rho budget 0 ≡ clean (length cs)
   clean-here rho budget k le ge so-far = so-far ∙ turn.clean_at (cover_program v.game v.fix) y rho budget (length cs) k (sym as-long) le ge ∙ ap clean as-long
+
+  -- the number of a column fits
+  pub number-fits : IsGame inner.game → (k : ℕ) → k < length cs → k + 1 ≤ 16201
+  number-fits game k lt =
+      omega (arith, lt, ap length ec, costs-count v.game v.fix rows columns costs entries kept,
+      columns-few v.game (subst (λ (z : NodeOf). IsGame z.game) e game) kept.unscaled kept.security)
