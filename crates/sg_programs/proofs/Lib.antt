@@ -1,5 +1,6 @@
 pub mod Columns
 pub mod Comparisons
+pub mod CoverAmounts
 pub mod CoverColumns
 pub mod CoverFacts
 pub mod CoverSized

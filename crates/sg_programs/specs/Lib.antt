@@ -15,4 +15,6 @@ pub mod PointLaws
 pub mod NodeLaws
 pub mod CoverPrograms
 pub mod CoverLaws
+pub mod CoverPoints
+pub mod CoverPointLaws
 pub mod CoverExamples
