@@ -3,6 +3,7 @@ pub mod Comparisons
 pub mod CoverAmounts
 pub mod CoverColumns
 pub mod CoverFacts
+pub mod CoverKeeps
 pub mod CoverSized
 pub mod Fixed
 pub mod Found
