@@ -21,7 +21,7 @@ use Rattle.sg_programs.proofs.Multipliers.{sum-first}
 -- ---- columns
 
 -- a list by its places
-listed-again : {X : Type 0} (ps xs : List X) (d : X) → map (λ m. nth (ps ++ xs) m d) (numbers_from (suc (length ps)) (length xs)) ≡ xs
+pub listed-again : {X : Type 0} (ps xs : List X) (d : X) → map (λ m. nth (ps ++ xs) m d) (numbers_from (suc (length ps)) (length xs)) ≡ xs
 listed-again {X = X} ps [] d = refl
 listed-again {X = X} ps (x ∷ xs) d =
     let first : get_or (ps ++ x ∷ xs) (length ps) d ≡ x = (let e : length ps ≡ length ps + 0 = omega arith in ap (λ (i : ℕ). get_or (ps ++ x ∷ xs) i d) e ∙ get_or-append-add ps (x ∷ xs) 0 d) in

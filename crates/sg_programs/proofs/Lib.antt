@@ -2,6 +2,7 @@ pub mod Columns
 pub mod Comparisons
 pub mod CoverAmounts
 pub mod CoverColumns
+pub mod CoverCounts
 pub mod CoverFacts
 pub mod CoverKeeps
 pub mod CoverSized
