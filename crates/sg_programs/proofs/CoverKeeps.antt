@@ -101,6 +101,15 @@ module _ (g : Game) (fix : Fix) where
       (Contains-map (table.gains l) (table.others g (act_of fix l)) b
       (kept-inside (act_of fix l) b 1 (length g.goals) (λ same. is.other (sym same)) is.from_one (omega (arith, known, targets)))))))
 
+-- the target that a type is fixed to
+pub own-target : (g : Game) → g.kind ≡ Security → (fix : Fix) → IsFix g fix → (l : ℕ) → fix.first ≤ l → l < fix.first + length fix.acts → (1 ≤ act_of fix l) × (act_of fix l ≤ length g.goals)
+own-target g security fix is_fix l low high =
+    let targets : action_count g l ≡ length g.goals = rw (no_matrix g security) refl in
+    let at = fixed-inside fix.first fix.acts l low high in
+    let q : ℕ × ℕ = (l, act_of fix l) in
+    let act = subst (λ (m : ℕ × ℕ). (1 ≤ m.1) × (m.1 ≤ action_count g m.0)) at.2 (is_fix.acts at.0 q at.1) in
+    (act.0, omega (arith, act.1, targets))
+
 -- ---- what they say of the amounts
 
 module _ (g : Game) (h : IsGame g) (unscaled : g.scale ≡ pos 0) (security : g.kind ≡ Security) (fix : Fix) (is_fix : IsFix g fix) (t : Tableau) (st : IsTableau (cover_program g fix) t) where
@@ -216,7 +225,7 @@ module _ (g : Game) (h : IsGame g) (unscaled : g.scale ≡ pos 0) (security : g.
       let q = payoff g l b in let o = payoff g l a in
       let targets : action_count g l ≡ length g.goals = rw (no_matrix g security) refl in
       let known = is.action in
-      let own = own-target l is.from_first is.in_range in
+      let own = own-target g security fix is_fix l is.from_first is.in_range in
       let all = row-sum (table.gains l b) (gains-listed g fix security l b is) in
       let both : target_sum (table.gains l b)
       ≡ total (λ (u : ℕ). amount (table.covering u) *ℤ table.where_same b u (q.ac -ℤ q.au)) (numbers (length g.goals)) +ℤ total (λ (u : ℕ). amount (table.covering u) *ℤ table.where_same a u (o.au -ℤ o.ac)) (numbers (length g.goals)) =
@@ -233,14 +242,6 @@ module _ (g : Game) (h : IsGame g) (unscaled : g.scale ≡ pos 0) (security : g.
     where
       spread : (z x y : ℤ) → z *ℤ (x +ℤ y) ≡ (z *ℤ x) +ℤ (z *ℤ y)
       spread z x y = ring (z ∷ x ∷ y ∷ []) (var 0 ⊗ (var 1 ⊕ var 2)) (var 0 ⊗ var 1 ⊕ var 0 ⊗ var 2) tt
-
-      own-target : (l : ℕ) → fix.first ≤ l → l < fix.first + length fix.acts → (1 ≤ act_of fix l) × (act_of fix l ≤ length g.goals)
-      own-target l low high =
-          let targets : action_count g l ≡ length g.goals = rw (no_matrix g security) refl in
-          let at = fixed-inside fix.first fix.acts l low high in
-          let q : ℕ × ℕ = (l, act_of fix l) in
-          let act = subst (λ (m : ℕ × ℕ). (1 ≤ m.1) × (m.1 ≤ action_count g m.0)) at.2 (is_fix.acts at.0 q at.1) in
-          (act.0, omega (arith, act.1, targets))
 
   value : t.rho
       *ℤ total (λ (q : ℕ × ℕ). (attacker g q.0).prior *ℤ (coverage_sum (payoff g q.0 q.1).dc (payoff g q.0 q.1).du (amount table.always) (amount (table.covering q.1)) +ℤ (shift_of g *ℤ amount table.always))) (fixed fix)

@@ -5,6 +5,7 @@ pub mod CoverColumns
 pub mod CoverCounts
 pub mod CoverFacts
 pub mod CoverKeeps
+pub mod CoverReaches
 pub mod CoverSized
 pub mod Fixed
 pub mod Found
