@@ -1,10 +1,9 @@
 //! The coverage table of a node as a family.
 
-ghost use Rattle.std.specs.Prelude.{◌≡◌, ◌<◌, ◌+◌, IfOk, pos, length};
-ghost use Rattle.std.specs.List.{Contains};
+ghost use Rattle.std.specs.Prelude.{◌≡◌, IfOk, length, pos};
 ghost use Rattle.sg_model.specs.declared.kind.Kind.TheVariants.{Security};
 ghost use Rattle.sg_bounds.specs.Regions.{IsFix};
-ghost use Rattle.sg_programs.specs.CoverPrograms.{column_numbered};
+ghost use Rattle.sg_programs.specs.CoverPrograms.{column_numbered, cover_program};
 
 use crate::columns::columns;
 use crate::costs::{cost_in, costs};
@@ -73,10 +72,17 @@ impl<'a> Cover<'a> {
             entries,
         })
     }
+
+    /// How many columns there are: the whole, each choice of each resource, each target.
+    pub fn count(&self) -> usize
+        ensures { result ≡ length (cover_program self.now.game self.now.fix).columns }
+    {
+        self.costs.len()
+    }
 }
 
-/// The column of a number.
-fn numbered(n: u16) -> Column
+/// The column of a number, from 1.
+pub fn numbered(n: u16) -> Column
     ensures { result ≡ column_numbered n }
 {
     let mut code = [0u16; 32];
