@@ -6,6 +6,7 @@ use sg_dobss_tests::node_of;
 use sg_eraser::{Cover, numbered};
 use sg_game::{Game, Kind};
 use sg_lp::{Column, Family, Priced};
+use sg_programs::columns_are_table;
 use std::alloc::{AllocError, Global};
 
 /// The family of the node that fixes the types from `first` on to these targets; `None` where the game has no such node, a scale, or the matrix form.
@@ -34,6 +35,7 @@ pub fn cost_of(cover: &Cover, n: u16) -> Option<i64> {
     if n == 0 || n as usize > cover.count() {
         return None;
     }
+    columns_are_table();
     Some(cover.cost(&numbered(n)))
 }
 
@@ -42,6 +44,7 @@ pub fn entry_of(cover: &Cover, n: u16, row: usize) -> Option<i64> {
     if n == 0 || n as usize > cover.count() || row >= cover.rows() {
         return None;
     }
+    columns_are_table();
     Some(cover.entry(&numbered(n), row))
 }
 

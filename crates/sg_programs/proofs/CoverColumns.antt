@@ -3,12 +3,14 @@ use Rattle.std.proofs.Common.{◌≡◌, ◌≢◌, ℕ, zero, suc, ◌+◌, ◌
 use Rattle.std.specs.List.{All, AllPairs}
 use Rattle.std.specs.Prelude.{ℤ, pos, ◌+ℤ◌}
 use Rattle.std.proofs.lemmas.Int.{ints}
-use Rattle.std.proofs.lemmas.List.{append_assoc, get_or-append-add, length-append}
+use Rattle.std.proofs.lemmas.List.{append_assoc, get_or-append-add, length-append, length-map}
 use Rattle.sg_model.specs.Sums.{nth, numbers, numbers_from, total}
 use Rattle.sg_model.specs.Games.{Game}
 use Rattle.sg_tree.specs.declared.fix.Fix.{Fix}
 use Rattle.sg_model.proofs.Before.{Lesser, pairs-map, rise-numbers_from}
 use Rattle.sg_model.proofs.Best.{All-from_map}
+use Rattle.sg_model.proofs.Numbers.{length-numbers_from}
+use Rattle.sg_model.proofs.Payoffs.{Contains-map, Contains-numbers}
 use Rattle.sg_bounds.specs.Coverage as table
 use Rattle.sg_bounds.specs.RowLaws.{AreAllColumns}
 use Rattle.sg_bounds.proofs.Listed.{columns_are_all}
@@ -41,6 +43,9 @@ columns-told g = map-again column_numbered (table_column g) (numbers (length (ta
 
 pub columns_are_table : ColumnsAreTable
 columns_are_table g fix = record {
+  numbered = λ n low high.
+      let m : ℕ = length (table.columns g) in
+      Contains-map column_numbered (numbers m) n (Contains-numbers m n low (omega (arith, high, length-map (numbers m) column_numbered, length-numbers_from 1 m)));
   told = columns-told g;
   each_once = subst (AreAllColumns g) (sym (columns-told g)) (columns_are_all g);
   distinct = pairs-map Lesser (λ c d. c ≢ d) column_numbered (λ a b lt e. let same : a ≡ b = ap column_number e in omega (arith, lt, same)) (numbers (length (table.columns g))) (rise-numbers_from 1 (length (table.columns g)));
