@@ -1,5 +1,5 @@
 -- What pricing answers, column by column.
-use Rattle.std.proofs.Common.{◌≡◌, ◌∙◌, ℕ, zero, suc, ◌+◌, ◌<◌, ◌≤◌, Bool, true, false, List, [], ◌∷◌, drop, length, map, sym, ap, subst, refl, arith, get_or, slice_index_or, Result, Ok, Err, Some, None}
+use Rattle.std.proofs.Common.{◌≡◌, ◌∙◌, ℕ, ◌+◌, ◌<◌, ◌≤◌, Bool, true, false, List, [], ◌∷◌, drop, length, sym, ap, subst, arith, get_or, slice_index_or, Ok, Err}
 use Rattle.std.specs.Prelude.{ℤ, pos, ◌*ℤ◌, int_lt}
 use Rattle.std.specs.List.{All}
 use Rattle.std.proofs.lemmas.List.{get_or-map, get_or_default, length-map}
@@ -15,7 +15,7 @@ use Rattle.sg_tree.specs.declared.fix.Fix.{Fix}
 use Rattle.sg_bounds.specs.Coverage as table
 use Rattle.sg_lp.specs.declared.column.Column.{Column}
 use Rattle.sg_lp.specs.Listing.{enters, listing_answer, price_steps}
-use Rattle.sg_lp.specs.Pricing.{Answer, AnswerMeans, clean, found, spent, wide}
+use Rattle.sg_lp.specs.Pricing.{Answer, clean, found, spent, wide}
 use Rattle.sg_lp.proofs.InTurn as turn
 use Rattle.sg_programs.specs.CoverPrograms.{column_numbered, cover_program}
 use Rattle.sg_programs.specs.Nodes.{NodeOf}
@@ -128,5 +128,10 @@ module _ (v inner : NodeOf) (rows : List CoverRow) (columns : List CoverColumn) 
   -- the number of a column fits
   pub number-fits : IsGame inner.game → (k : ℕ) → k < length cs → k + 1 ≤ 16201
   number-fits game k lt =
-      omega (arith, lt, ap length ec, costs-count v.game v.fix rows columns costs entries kept,
-      columns-few v.game (subst (λ (z : NodeOf). IsGame z.game) e game) kept.unscaled kept.security)
+      omega (
+        arith,
+        lt,
+        ap length ec,
+        costs-count v.game v.fix rows columns costs entries kept,
+        columns-few v.game (subst (λ (z : NodeOf). IsGame z.game) e game) kept.unscaled kept.security,
+      )

@@ -22,7 +22,7 @@ use Rattle.sg_bounds.specs.Regions.{IsFix, act_of}
 use Rattle.sg_bounds.proofs.Cover.{IsRowOf, at_row}
 use Rattle.sg_bounds.proofs.Listed.{columns_are_all}
 use Rattle.sg_game.specs.Counts.{IsGoalOf}
-use Rattle.sg_rows.specs.Rows.{dot_from, dot_steps, place}
+use Rattle.sg_rows.specs.Rows.{place}
 use Rattle.sg_lp.specs.declared.column.Column.{Column}
 use Rattle.sg_lp.specs.declared.column.Enter.TheVariants.{Col}
 use Rattle.sg_lp.specs.Moves.{entries_of}

@@ -1,7 +1,7 @@
 -- A family by its view: the game and the node.
-use Rattle.std.proofs.Common.{◌≡◌, ◌∙◌, ℕ, ◌+◌, ◌-◌, ◌<◌, ◌≤◌, List, [], length, map, sym, ap, subst, arith, get_or}
+use Rattle.std.proofs.Common.{◌≡◌, ◌∙◌, ℕ, ◌-◌, ◌<◌, List, sym, ap, subst, arith, get_or}
 use Rattle.std.specs.Prelude.{ℤ}
-use Rattle.std.specs.List.{All, Contains}
+use Rattle.std.specs.List.{Contains}
 use Rattle.sg_model.specs.Limits.{IsGame}
 use Rattle.sg_rows.specs.Rows.{place}
 use Rattle.sg_lp.specs.declared.column.Column.{Column}
@@ -12,7 +12,7 @@ use Rattle.sg_eraser.specs.declared.table.CoverRow.{CoverRow}
 use Rattle.sg_eraser.specs.declared.table.CoverColumn.{CoverColumn}
 use Rattle.sg_eraser.specs.Covers.{IsCoverage}
 use Rattle.sg_eraser.specs.TableValues.{IsCoverColumn, IsCoverRow, entry_of}
-use Rattle.sg_eraser.proofs.Tabled.{column-room, columns-known, cost-at, entry-at, height-is, number-in, rows-known}
+use Rattle.sg_eraser.proofs.Tabled.{column-room, columns-known, cost-at, entry-at, height-is, rows-known}
 
 module _ (v inner : NodeOf) (rows : List CoverRow) (columns : List CoverColumn) (costs : List ℤ) (entries : List (List RowEntry)) where
   pub coverage-by : inner ≡ v → IsCoverage inner.game inner.fix rows columns costs entries → IsCoverage v.game v.fix rows columns costs entries

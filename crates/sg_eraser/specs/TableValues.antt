@@ -1,5 +1,5 @@
 -- The rows and columns of the coverage table as values.
-use Rattle.std.specs.Prelude.{◌≢◌, ◌+◌, ◌<◌, ◌≤◌, List, length, ℤ}
+use Rattle.std.specs.Prelude.{◌≢◌, ◌+◌, ◌<◌, ◌≤◌, length, ℤ}
 use Rattle.sg_model.specs.Games.{Game}
 use Rattle.sg_game.specs.Counts.{IsGoalOf}
 use Rattle.sg_tree.specs.declared.fix.Fix.{Fix}

@@ -1,12 +1,12 @@
 -- The amounts of a point over the coverage table, summed.
-use Rattle.std.proofs.Common.{◌≡◌, ◌≢◌, ◌⊎◌, ℕ, zero, suc, ◌+◌, ◌<◌, ◌≤◌, Bool, true, false, cond, List, [], ◌∷◌, ◌++◌, map, flat_map, length, sym, ◌∙◌, ap, subst, refl, arith, inl, inr, get_or, slice_index_or, ◌&&◌}
+use Rattle.std.proofs.Common.{◌≡◌, ◌≢◌, ◌⊎◌, ℕ, zero, suc, ◌<◌, Bool, true, false, cond, List, [], ◌∷◌, map, flat_map, length, sym, ◌∙◌, ap, subst, refl, arith, inl, inr, slice_index_or, ◌&&◌}
 use Rattle.std.specs.List.{All, AllPairs, Contains}
-use Rattle.std.specs.Prelude.{ℤ, pos, ◌+ℤ◌, ◌*ℤ◌, ◌≤ℤ◌, nat_eq}
+use Rattle.std.specs.Prelude.{ℤ, pos, ◌+ℤ◌, ◌*ℤ◌, nat_eq}
 use Rattle.std.proofs.lemmas.Bool.{cases_Bool, eq-eqb, eqb-true}
 use Rattle.std.proofs.lemmas.Int.{ints}
 use Rattle.std.proofs.lemmas.List.Elements.{All-head, All-tail}
-use Rattle.sg_num.proofs.Laws.{add-mul, mul-comm, zero-mul}
-use Rattle.sg_model.specs.Sums.{numbers, numbers_from, total}
+use Rattle.sg_num.proofs.Laws.{add-mul, zero-mul}
+use Rattle.sg_model.specs.Sums.{numbers, total}
 use Rattle.sg_model.specs.Games.{Game, resource_count, resource_schedules}
 use Rattle.sg_model.proofs.Before.{pairs-head, pairs-tail}
 use Rattle.sg_model.proofs.Sums.{total-append, total-exchange, total-same}
@@ -14,7 +14,6 @@ use Rattle.sg_tree.specs.declared.fix.Fix.{Fix}
 use Rattle.sg_bounds.specs.Coverage as table
 use Rattle.sg_bounds.proofs.Cover.{total-map}
 use Rattle.sg_bounds.proofs.Listed.{columns_are_all}
-use Rattle.sg_lp.specs.declared.column.Column.{Column}
 use Rattle.sg_lp.specs.Programs.{Program}
 use Rattle.sg_lp.specs.States.{IsTableau, Tableau, member_at}
 use Rattle.sg_programs.specs.CoverPoints.{amount_of, is_same_column}

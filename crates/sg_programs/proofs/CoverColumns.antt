@@ -1,8 +1,7 @@
 -- The columns and rows of a program over the coverage table, by their numbers.
-use Rattle.std.proofs.Common.{◌≡◌, ◌≢◌, ℕ, zero, suc, ◌+◌, ◌<◌, List, [], ◌∷◌, ◌++◌, map, length, sym, ◌∙◌, ap, subst, refl, arith, get_or}
-use Rattle.std.specs.List.{All, AllPairs}
-use Rattle.std.specs.Prelude.{ℤ, pos, ◌+ℤ◌}
-use Rattle.std.proofs.lemmas.Int.{ints}
+use Rattle.std.proofs.Common.{◌≡◌, ◌≢◌, ℕ, suc, ◌+◌, List, [], ◌∷◌, ◌++◌, map, length, sym, ◌∙◌, ap, subst, refl, arith, get_or}
+use Rattle.std.specs.List.{All}
+use Rattle.std.specs.Prelude.{ℤ, ◌+ℤ◌}
 use Rattle.std.proofs.lemmas.List.{append_assoc, get_or-append-add, length-append, length-map}
 use Rattle.sg_model.specs.Sums.{nth, numbers, numbers_from, total}
 use Rattle.sg_model.specs.Games.{Game}
@@ -15,7 +14,6 @@ use Rattle.sg_bounds.specs.Coverage as table
 use Rattle.sg_bounds.specs.RowLaws.{AreAllColumns}
 use Rattle.sg_bounds.proofs.Listed.{columns_are_all}
 use Rattle.sg_linear.specs.Sums.{sum_below}
-use Rattle.sg_lp.specs.declared.column.Column.{Column}
 use Rattle.sg_programs.specs.CoverLaws.{ColumnsAreTable}
 use Rattle.sg_programs.specs.CoverPrograms.{column_number, column_numbered, cover_program, table_column}
 use Rattle.sg_programs.proofs.Multipliers.{sum-first}

@@ -1,15 +1,15 @@
 -- Counts by resource and choice within a point: each target is filled from the first choices that hold it on.
-use Rattle.std.proofs.Common.{◌≡◌, ◌⊎◌, ℕ, zero, suc, ◌+◌, ◌-◌, ◌<◌, ◌≤◌, Bool, true, false, cond, List, [], ◌∷◌, map, length, sym, ◌∙◌, ap, subst, refl, arith, inl, inr, eqb, get_or, slice_index, slice_index_or}
+use Rattle.std.proofs.Common.{◌≡◌, ◌⊎◌, ℕ, zero, suc, ◌+◌, ◌-◌, ◌≤◌, Bool, true, false, cond, List, [], map, length, sym, ◌∙◌, ap, arith, inl, inr, eqb, slice_index, slice_index_or}
 use Rattle.std.specs.List.{All}
 use Rattle.std.specs.Int.{int_max, int_min}
-use Rattle.std.specs.Prelude.{ℤ, pos, ◌+ℤ◌, ◌-ℤ◌, ◌*ℤ◌, ◌≤ℤ◌, ◌<ℤ◌}
+use Rattle.std.specs.Prelude.{ℤ, pos, ◌+ℤ◌, ◌-ℤ◌, ◌≤ℤ◌}
 use Rattle.std.proofs.lemmas.Bool.{cases_Bool, eqb-true}
 use Rattle.std.proofs.lemmas.Int.{ints, int_max_is, int_min_is}
 use Rattle.std.proofs.lemmas.List.{length-map}
 use Rattle.std.proofs.lemmas.List.Elements.{All-map}
 use Rattle.sg_model.specs.declared.kind.Kind.TheVariants.{Security}
 use Rattle.sg_model.specs.Sums.{nth, numbers, numbers_from, total}
-use Rattle.sg_model.specs.Games.{Game, is_matrix, resource_count, resource_schedules, schedule_targets}
+use Rattle.sg_model.specs.Games.{Game, resource_count, resource_schedules, schedule_targets}
 use Rattle.sg_model.specs.Limits.{IsGame}
 use Rattle.sg_model.proofs.Numbers.{All-numbers, All-numbers_from, length-numbers_from, nth-map, nth-numbers_from}
 use Rattle.sg_model.proofs.Promises.{game_cases, yes_matrix}
@@ -20,15 +20,13 @@ use Rattle.sg_bounds.specs.Coverage as table
 use Rattle.sg_bounds.specs.Regions.{IsFix}
 use Rattle.sg_bounds.proofs.Cover.{total-map}
 use Rattle.sg_split.specs.ByTarget.{IsTargetOf}
-use Rattle.sg_split.specs.Matched.{AreChoiceCounts, asked, target_share}
+use Rattle.sg_split.specs.Matched.{asked, target_share}
 use Rattle.sg_split.proofs.Singles.{holds_is, target_of_choice}
-use Rattle.sg_rows.specs.Rows.{place}
 use Rattle.sg_lp.specs.Programs.{IsWithinLimits}
 use Rattle.sg_lp.specs.States.{IsTableau, Tableau}
-use Rattle.sg_programs.specs.CoverPointLaws.{CountsAreChoiceCounts, KeepsTable, PointHasCounts, cover_whole}
+use Rattle.sg_programs.specs.CoverPointLaws.{CountsAreChoiceCounts, KeepsTable, PointHasCounts}
 use Rattle.sg_programs.specs.CoverPoints.{AreCountsUnder, amount_of}
 use Rattle.sg_programs.specs.CoverPrograms.{cover_program}
-use Rattle.sg_programs.specs.Points.{point_whole}
 use Rattle.sg_programs.proofs.CoverColumns.{listed-again}
 use Rattle.sg_programs.proofs.CoverKeeps.{point_keeps_table}
 use Rattle.sg_programs.proofs.CoverSized.{cover_is_sized}
@@ -189,18 +187,21 @@ module _ (g : Game) (h : IsGame g) (unscaled : g.scale ≡ pos 0) (single : IsSi
       ∙ clamp-all (amount (table.covering u)) (total (holdings u) (numbers (resource_count g))) (keeps.nonnegative (table.covering u)) (keeps.held u low high)
 
   pub has-counts : (counts : List (List ℤ)) × AreCountsUnder g fix t counts
-  has-counts = (counts, record {
-    one_each = length-map (numbers (resource_count g)) (λ r. map (filled r) (numbers (choice_count r))) ∙ length-numbers_from 1 (resource_count g);
-    each_choice = λ r low high. ap length (row-is r low high) ∙ length-map (numbers (choice_count r)) (filled r) ∙ length-numbers_from 1 (choice_count r);
-    none_below = All-map (λ row. All (λ z. pos 0 ≤ℤ z) row) (λ r. map (filled r) (numbers (choice_count r))) (numbers (resource_count g))
-        (λ i d lt. let r : ℕ = slice_index_or (numbers (resource_count g)) i d in
-        All-map (λ z. pos 0 ≤ℤ z) (filled r) (numbers (choice_count r)) (λ k e in_list. let j : ℕ = slice_index_or (numbers (choice_count r)) k e in clamp-low (left_at (target r j) r j) (amount (table.chooses r j))));
-    none_above = λ r j low high from_one in_list.
-        let e = count-is r j low high from_one in_list in
-        let le = clamp-high (left_at (target r j) r j) (amount (table.chooses r j)) (keeps.nonnegative (table.chooses r j)) in
-        omega (arith, ints, e, le);
-    asked_is = asked-is;
-  })
+  has-counts = (
+    counts,
+    record {
+      one_each = length-map (numbers (resource_count g)) (λ r. map (filled r) (numbers (choice_count r))) ∙ length-numbers_from 1 (resource_count g);
+      each_choice = λ r low high. ap length (row-is r low high) ∙ length-map (numbers (choice_count r)) (filled r) ∙ length-numbers_from 1 (choice_count r);
+      none_below = All-map (λ row. All (λ z. pos 0 ≤ℤ z) row) (λ r. map (filled r) (numbers (choice_count r))) (numbers (resource_count g))
+          (λ i d lt. let r : ℕ = slice_index_or (numbers (resource_count g)) i d in
+          All-map (λ z. pos 0 ≤ℤ z) (filled r) (numbers (choice_count r)) (λ k e in_list. let j : ℕ = slice_index_or (numbers (choice_count r)) k e in clamp-low (left_at (target r j) r j) (amount (table.chooses r j))));
+      none_above = λ r j low high from_one in_list.
+          let e = count-is r j low high from_one in_list in
+          let le = clamp-high (left_at (target r j) r j) (amount (table.chooses r j)) (keeps.nonnegative (table.chooses r j)) in
+          omega (arith, ints, e, le);
+      asked_is = asked-is;
+    },
+  )
 
 pub point_has_counts : PointHasCounts
 point_has_counts g h unscaled single fix is_fix t st = has-counts g h unscaled single fix is_fix t st

@@ -25,7 +25,6 @@ use Rattle.sg_bounds.proofs.Listed.{columns_are_all}
 use Rattle.sg_linear.specs.Sums.{dot, sum_below}
 use Rattle.sg_linear.proofs.SumLaws.{sum_below-ext}
 use Rattle.sg_rows.specs.Rows.{place}
-use Rattle.sg_lp.specs.declared.column.Column.{Column}
 use Rattle.sg_lp.proofs.Values.{final_dual}
 use Rattle.sg_programs.specs.CoverLaws.{CoverLooksAreEnough, FinalIsCoverFact, LinesRise}
 use Rattle.sg_programs.specs.CoverPrograms.{column_numbered, cover_program, lines_from, table_column, table_row}
@@ -48,8 +47,14 @@ columns-count g =
     each a zero = refl
     each a (suc n) =
         let one : List table.Column = map (table.chooses a) (numbers (length (resource_schedules g a))) in
-        omega (arith, length-append one (flat_map (λ r. map (table.chooses r) (numbers (length (resource_schedules g r)))) (numbers_from (a + 1) n)),
-        length-map (numbers (length (resource_schedules g a))) (table.chooses a), length-numbers_from 1 (length (resource_schedules g a)), each (a + 1) n, sum_by-cons (λ (r : ℕ). length (resource_schedules g r)) a (numbers_from (a + 1) n))
+        omega (
+          arith,
+          length-append one (flat_map (λ r. map (table.chooses r) (numbers (length (resource_schedules g r)))) (numbers_from (a + 1) n)),
+          length-map (numbers (length (resource_schedules g a))) (table.chooses a),
+          length-numbers_from 1 (length (resource_schedules g a)),
+          each (a + 1) n,
+          sum_by-cons (λ (r : ℕ). length (resource_schedules g r)) a (numbers_from (a + 1) n),
+        )
 
 pub cover_looks_are_enough : CoverLooksAreEnough
 cover_looks_are_enough g security fix y rho =

@@ -1,8 +1,8 @@
 -- What the amounts of a point over the coverage table keep, row by row.
-use Rattle.std.proofs.Common.{◌≡◌, ◌≢◌, ◌⊎◌, ℕ, zero, suc, ◌+◌, ◌<◌, ◌≤◌, Bool, true, false, cond, List, [], ◌∷◌, ◌++◌, map, flat_map, length, sym, ◌∙◌, ap, subst, refl, arith, inl, inr, eqb, slice_index_or}
-use Rattle.std.specs.List.{All, Contains}
-use Rattle.std.specs.Prelude.{ℤ, pos, negsuc, ◌+ℤ◌, ◌-ℤ◌, ◌*ℤ◌, ◌≤ℤ◌, ◌<ℤ◌, nat_eq}
-use Rattle.std.proofs.lemmas.Bool.{cases_Bool, cases_eq, eq-eqb, ne_eqb}
+use Rattle.std.proofs.Common.{◌≡◌, ℕ, zero, suc, ◌+◌, ◌<◌, ◌≤◌, Bool, true, false, cond, List, [], ◌∷◌, map, length, sym, ◌∙◌, ap, subst, refl, arith, inl, inr, eqb, slice_index_or}
+use Rattle.std.specs.List.{Contains}
+use Rattle.std.specs.Prelude.{ℤ, pos, negsuc, ◌+ℤ◌, ◌-ℤ◌, ◌*ℤ◌, ◌≤ℤ◌, ◌<ℤ◌}
+use Rattle.std.proofs.lemmas.Bool.{cases_eq, eq-eqb, ne_eqb}
 use Rattle.std.proofs.lemmas.Int.{ints}
 use Rattle.std.proofs.lemmas.List.Elements.{Contains-append_left, Contains-append_right}
 use Rattle.sg_num.proofs.Laws.{mul-comm, one-mul, zero-mul}
@@ -14,7 +14,7 @@ use Rattle.sg_model.specs.Limits.{IsGame}
 use Rattle.sg_model.specs.Payoffs.{shift_of}
 use Rattle.sg_model.proofs.Forms.{no_matrix}
 use Rattle.sg_model.proofs.Payoffs.{Contains-flat_map, Contains-map, Contains-numbers}
-use Rattle.sg_model.proofs.Sums.{total-add, total-nonneg, total-same, total-scaled, total-zero}
+use Rattle.sg_model.proofs.Sums.{total-add, total-nonneg, total-same, total-scaled}
 use Rattle.sg_tree.specs.declared.fix.Fix.{Fix}
 use Rattle.sg_bounds.specs.Coverage as table
 use Rattle.sg_bounds.specs.Regions.{IsFix, act_of, fixed}
@@ -25,10 +25,10 @@ use Rattle.sg_lp.specs.Programs.{IsWithinLimits, Program}
 use Rattle.sg_lp.specs.States.{IsTableau, Tableau, member_at}
 use Rattle.sg_programs.specs.CoverPointLaws.{KeepsTable, PointKeepsTable, cover_whole}
 use Rattle.sg_programs.specs.CoverPoints.{amount_of, coverage_sum, is_same_column}
-use Rattle.sg_programs.specs.CoverPrograms.{cover_program, table_column, table_row}
+use Rattle.sg_programs.specs.CoverPrograms.{cover_program, table_row}
 use Rattle.sg_programs.specs.Laws.{IsComparison}
 use Rattle.sg_programs.specs.PointLaws.{HasPointValue}
-use Rattle.sg_programs.specs.Points.{column_in, is_point_row, point_rows, point_weight, point_whole}
+use Rattle.sg_programs.specs.Points.{column_in, point_rows, point_weight, point_whole}
 use Rattle.sg_programs.proofs.Comparisons.{fixed-inside, kept-inside}
 use Rattle.sg_programs.proofs.CoverAmounts.{column_at, over-amounts, split-amounts}
 use Rattle.sg_programs.proofs.CoverSized.{cover_is_sized}

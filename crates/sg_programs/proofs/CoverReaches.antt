@@ -1,17 +1,15 @@
 -- A commitment that covers each target in just what a coverage point's counts ask for reaches the bound of the multipliers' fact.
-use Rattle.std.proofs.Common.{◌≡◌, ◌⊎◌, ◌≢◌, ℕ, ◌+◌, ◌<◌, ◌≤◌, List, [], ◌∷◌, length, sym, ◌∙◌, ap, subst, refl, arith, inl, inr, slice_index_or}
+use Rattle.std.proofs.Common.{◌≡◌, ◌⊎◌, ◌≢◌, ℕ, ◌+◌, ◌<◌, ◌≤◌, List, [], ◌∷◌, length, sym, ◌∙◌, ap, refl, arith, inl, inr, slice_index_or}
 use Rattle.std.specs.Prelude.{ℤ, pos, ◌+ℤ◌, ◌-ℤ◌, ◌*ℤ◌, ◌≤ℤ◌, ◌<ℤ◌}
 use Rattle.std.proofs.lemmas.Int.{ints}
-use Rattle.sg_num.proofs.Laws.{mul-comm}
-use Rattle.sg_num.proofs.Ring.{var, num, ◌⊕◌, ◌⊖◌, ◌⊗◌, ring}
+use Rattle.sg_num.proofs.Ring.{var, ◌⊕◌, ◌⊖◌, ◌⊗◌, ring}
 use Rattle.sg_num.proofs.Signs.{cancel, mul-nonneg}
 use Rattle.sg_model.specs.declared.kind.Kind.TheVariants.{Security}
 use Rattle.sg_model.specs.declared.ticket.Ticket.{Ticket}
 use Rattle.sg_model.specs.Sums.{total}
-use Rattle.sg_model.specs.Games.{Game, action_count, attacker, is_matrix, payoff}
+use Rattle.sg_model.specs.Games.{Game, action_count, attacker, payoff}
 use Rattle.sg_model.specs.Limits.{IsGame}
 use Rattle.sg_model.specs.Payoffs.{shift_of}
-use Rattle.sg_model.specs.Plays.{covers, pay_a, pay_d}
 use Rattle.sg_model.specs.Commitments.{cover_count, sum_a, sum_d, weight_total}
 use Rattle.sg_model.proofs.Best.{is_best-from}
 use Rattle.sg_model.proofs.Covers.{total-covered, weight_total-nonneg}

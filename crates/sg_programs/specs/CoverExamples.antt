@@ -1,5 +1,5 @@
 -- A program over the coverage table, worked out by hand.
-use Rattle.std.specs.Prelude.{◌≡◌, List, [], ◌∷◌, map, ℤ, pos, negsuc}
+use Rattle.std.specs.Prelude.{◌≡◌, List, [], ◌∷◌, ℤ, pos}
 use Rattle.sg_model.specs.Examples.{minus, two_thieves}
 use Rattle.sg_tree.specs.declared.fact.Fact.TheVariants.{Cover}
 use Rattle.sg_tree.specs.declared.fix.Fix.{Fix}

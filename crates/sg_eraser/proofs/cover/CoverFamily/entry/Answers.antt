@@ -2,7 +2,6 @@ use Rattle.std.proofs.Common.{arith, length, ap, rules}
 use Rattle.std.specs.Int.{w64}
 use Rattle.std.specs.Prelude.{FitsSigned}
 use Rattle.std.proofs.lemmas.Int.{to_z-of_z}
-use Rattle.sg_programs.specs.Nodes.{NodeOf}
 use Rattle.sg_eraser.proofs.Tabled.{column-room, number-in}
 use Rattle.sg_eraser.proofs.Viewed.{column-by, coverage-by, entry-by, row-by}
 use Rattle.sg_eraser.proofs.cover.CoverFamily.entry.Goals as goal
