@@ -23,7 +23,7 @@ use Rattle.sg_programs.proofs.CoverFacts.{columns-few}
 use Rattle.sg_eraser.specs.declared.sparse.RowEntry.{RowEntry}
 use Rattle.sg_eraser.specs.declared.table.CoverRow.{CoverRow}
 use Rattle.sg_eraser.specs.declared.table.CoverColumn.{CoverColumn}
-use Rattle.sg_eraser.specs.Covers.{IsCoverage}
+use Rattle.sg_eraser.specs.Covers.{IsCoverTable}
 use Rattle.sg_eraser.specs.Nonzero.{nonzero_steps, nonzero_sum}
 use Rattle.sg_eraser.proofs.Tabled.{columns-long, costs-count, entries-count, rows-inside, steps-are, steps_at, test-is, test_at}
 
@@ -51,10 +51,10 @@ at-rho v y rho passed budget a e h = subst (λ (r : ℤ). answer_from v y r budg
 no_column : Column
 no_column = record { len = 0; code = [] }
 
-module _ (v inner : NodeOf) (rows : List CoverRow) (columns : List CoverColumn) (costs cs : List ℤ) (entries es : List (List RowEntry)) (e : inner ≡ v) (is : IsCoverage inner.game inner.fix rows columns costs entries)
+module _ (v inner : NodeOf) (rows : List CoverRow) (columns : List CoverColumn) (costs cs : List ℤ) (entries es : List (List RowEntry)) (e : inner ≡ v) (is : IsCoverTable inner.game inner.fix rows columns costs entries)
     (ec : cs ≡ costs) (ee : es ≡ entries) (y : List ℤ) (long : length y ≡ (cover_program v.game v.fix).height) where
-  kept : IsCoverage v.game v.fix rows columns costs entries
-  kept = subst (λ (z : NodeOf). IsCoverage z.game z.fix rows columns costs entries) e is
+  kept : IsCoverTable v.game v.fix rows columns costs entries
+  kept = subst (λ (z : NodeOf). IsCoverTable z.game z.fix rows columns costs entries) e is
 
   pub as-long : length (cover_program v.game v.fix).columns ≡ length cs
   as-long = columns-long v.game v.fix rows columns costs entries kept ∙ sym (ap length ec)

@@ -29,7 +29,7 @@ use Rattle.sg_lp.specs.Moves.{entries_of}
 use Rattle.sg_lp.specs.Listing.{enters, price_steps}
 use Rattle.sg_lp.specs.Programs.{IsBounded, IsWithinLimits}
 use Rattle.sg_programs.specs.CoverLaws.{cover_bounding}
-use Rattle.sg_programs.specs.CoverPrograms.{column_number, column_numbered, cover_program, table_column, table_row}
+use Rattle.sg_programs.specs.CoverPrograms.{number_in_table, column_numbered, cover_program, table_column, table_row}
 use Rattle.sg_programs.proofs.CoverColumns.{columns-told}
 use Rattle.sg_programs.proofs.CoverSized.{cover_is_bounded, cover_is_sized, table-few}
 use Rattle.sg_programs.proofs.Kept.{gives-self}
@@ -37,9 +37,9 @@ use Rattle.sg_eraser.specs.declared.sparse.RowEntry.{RowEntry}
 use Rattle.sg_eraser.specs.declared.table.CoverRow.{CoverRow}
 use Rattle.sg_eraser.specs.declared.table.CoverRow.TheVariants as row
 use Rattle.sg_eraser.specs.declared.table.CoverColumn.{CoverColumn}
-use Rattle.sg_eraser.specs.Covers.{IsCoverage, all_rows, column_entries}
+use Rattle.sg_eraser.specs.Covers.{IsCoverTable, all_rows, column_entries}
 use Rattle.sg_eraser.specs.Nonzero.{nonzero_from, nonzero_steps, nonzero_sum}
-use Rattle.sg_eraser.specs.TableValues.{IsCoverColumn, IsCoverRow, entry_of, meant_column, meant_row}
+use Rattle.sg_eraser.specs.TableValues.{IsCoverColumn, IsCoverRow, meant_entry, meant_column, meant_row}
 use Rattle.sg_eraser.proofs.Nonzeros.{rows-below, sparse-steps, sparse-sum}
 
 -- ---- rows
@@ -109,15 +109,15 @@ module _ (g : Game) (columns : List CoverColumn) (are : map meant_column columns
   column-at i d lt = sym (get_or-map meant_column columns i d table.always lt) ∙ ap (λ (cs : List table.Column). get_or cs i table.always) are
 
 -- a column of the program has a number of the table
-pub number-in : (g : Game) (fix : Fix) (col : Column) → Contains (cover_program g fix).columns col → (1 ≤ column_number col) × (column_number col ≤ length (table.columns g))
+pub number-in : (g : Game) (fix : Fix) (col : Column) → Contains (cover_program g fix).columns col → (1 ≤ number_in_table col) × (number_in_table col ≤ length (table.columns g))
 number-in g fix col h =
     let f = from_map column_numbered (numbers (length (table.columns g))) col h in
     let P : ℕ → Type 0 = λ n. (1 ≤ n) × (n ≤ length (table.columns g)) in
-    subst P (ap column_number f.2) (All-contains P (numbers (length (table.columns g))) f.0 (All-numbers P (length (table.columns g)) (λ n low high. (low, high))) f.1)
+    subst P (ap number_in_table f.2) (All-contains P (numbers (length (table.columns g))) f.0 (All-numbers P (length (table.columns g)) (λ n low high. (low, high))) f.1)
 
 -- the column of the table of a number
-pub numbered-at : (g : Game) (col : Column) → 1 ≤ column_number col → get_or (table.columns g) (column_number col - 1) table.always ≡ table_column g col
-numbered-at g col low = by (column_number col) low
+pub numbered-at : (g : Game) (col : Column) → 1 ≤ number_in_table col → get_or (table.columns g) (number_in_table col - 1) table.always ≡ table_column g col
+numbered-at g col low = by (number_in_table col) low
   where
     by : (n : ℕ) → 1 ≤ n → get_or (table.columns g) (n - 1) table.always ≡ nth (table.columns g) n table.always
     by zero low = absurd (omega (arith, low))
@@ -138,7 +138,7 @@ pub made-costs : (g : Game) (fix : Fix) (columns : List CoverColumn) (costs : Li
 made-costs g fix columns costs are e = e ∙ sym (map-twice meant_column (table.column_cost g fix) columns) ∙ ap (map (table.column_cost g fix)) are
 
 pub made-entries : (g : Game) (fix : Fix) (rows : List CoverRow) (columns : List CoverColumn) (entries : List (List RowEntry)) → map meant_row rows ≡ all_rows g fix → map meant_column columns ≡ table.columns g
-    → entries ≡ map (λ c. nonzero_from 0 (map (λ r. entry_of g fix r c) rows)) columns → entries ≡ map (column_entries g fix) (table.columns g)
+    → entries ≡ map (λ c. nonzero_from 0 (map (λ r. meant_entry g fix r c) rows)) columns → entries ≡ map (column_entries g fix) (table.columns g)
 made-entries g fix rows columns entries rows_are columns_are e =
     e
     ∙ sym (map-twice meant_column (λ (c : table.Column). nonzero_from 0 (map (λ r. table.entry g fix (meant_row r) c) rows)) columns)
@@ -174,7 +174,7 @@ entries-are g fix col =
 
 -- ---- a family's tables
 
-module _ (g : Game) (fix : Fix) (rows : List CoverRow) (columns : List CoverColumn) (costs : List ℤ) (entries : List (List RowEntry)) (is : IsCoverage g fix rows columns costs entries) where
+module _ (g : Game) (fix : Fix) (rows : List CoverRow) (columns : List CoverColumn) (costs : List ℤ) (entries : List (List RowEntry)) (is : IsCoverTable g fix rows columns costs entries) where
   pub costs-count : length costs ≡ length (table.columns g)
   costs-count = ap length is.costs_are ∙ length-map (table.columns g) (table.column_cost g fix)
 
@@ -195,27 +195,27 @@ module _ (g : Game) (fix : Fix) (rows : List CoverRow) (columns : List CoverColu
     is-bounded = (cover_bounding g fix, cover_is_bounded g game is.security fix is.is_fix)
 
   -- the cost of a column
-  pub cost-at : (col : Column) → Contains (cover_program g fix).columns col → place costs (column_number col - 1) ≡ (cover_program g fix).cost col
+  pub cost-at : (col : Column) → Contains (cover_program g fix).columns col → place costs (number_in_table col - 1) ≡ (cover_program g fix).cost col
   cost-at col h =
       let n = number-in g fix col h in
-      ap (λ (zs : List ℤ). place zs (column_number col - 1)) is.costs_are
-      ∙ get_or-map (table.column_cost g fix) (table.columns g) (column_number col - 1) table.always (pos 0) (omega (arith, n.0, n.1))
+      ap (λ (zs : List ℤ). place zs (number_in_table col - 1)) is.costs_are
+      ∙ get_or-map (table.column_cost g fix) (table.columns g) (number_in_table col - 1) table.always (pos 0) (omega (arith, n.0, n.1))
       ∙ ap (table.column_cost g fix) (numbered-at g col n.0)
 
   -- its place
-  pub cost-room : (col : Column) → Contains (cover_program g fix).columns col → column_number col - 1 < length costs
+  pub cost-room : (col : Column) → Contains (cover_program g fix).columns col → number_in_table col - 1 < length costs
   cost-room col h = let n = number-in g fix col h in omega (arith, n.0, n.1, costs-count)
 
-  pub column-room : (col : Column) → Contains (cover_program g fix).columns col → column_number col - 1 < length columns
+  pub column-room : (col : Column) → Contains (cover_program g fix).columns col → number_in_table col - 1 < length columns
   column-room col h = let n = number-in g fix col h in omega (arith, n.0, n.1, columns-count g columns is.columns_are)
 
   -- the entry of a column in a row
   pub entry-at : (col : Column) (j : ℕ) (d : CoverColumn) (e : CoverRow) → Contains (cover_program g fix).columns col → j < (cover_program g fix).height
-      → entry_of g fix (get_or rows j e) (get_or columns (column_number col - 1) d) ≡ (cover_program g fix).entry col j
+      → meant_entry g fix (get_or rows j e) (get_or columns (number_in_table col - 1) d) ≡ (cover_program g fix).entry col j
   entry-at col j d e h below =
       let n = number-in g fix col h in
-      ap (λ (r : table.Row). table.entry g fix r (meant_column (get_or columns (column_number col - 1) d))) (row-at g is.security fix is.is_fix rows is.rows_are j e (omega (arith, below, height-is)))
-      ∙ ap (λ (c : table.Column). table.entry g fix (table_row g fix j) c) (column-at g columns is.columns_are (column_number col - 1) d (column-room col h) ∙ numbered-at g col n.0)
+      ap (λ (r : table.Row). table.entry g fix r (meant_column (get_or columns (number_in_table col - 1) d))) (row-at g is.security fix is.is_fix rows is.rows_are j e (omega (arith, below, height-is)))
+      ∙ ap (λ (c : table.Column). table.entry g fix (table_row g fix j) c) (column-at g columns is.columns_are (number_in_table col - 1) d (column-room col h) ∙ numbered-at g col n.0)
 
   -- ---- the test of the column at a place
 
@@ -274,9 +274,9 @@ module _ (g : Game) (fix : Fix) (rows : List CoverRow) (columns : List CoverColu
 -- the family that is made, whose rows and columns are read as slices
 pub made : (g : Game) (fix copy : Fix) (rows rs : List CoverRow) (columns cs ds : List CoverColumn) (costs : List ℤ) (entries : List (List RowEntry)) → g.kind ≡ Security → g.scale ≡ pos 0 → IsFix g fix → copy ≡ fix
     → map meant_row rows ≡ all_rows g fix → map meant_column columns ≡ table.columns g → cs ≡ columns → rs ≡ rows → ds ≡ columns
-    → costs ≡ map (λ c. table.column_cost g fix (meant_column c)) cs → entries ≡ map (λ c. nonzero_from 0 (map (λ r. entry_of g fix r c) rs)) ds → IsCoverage g copy rows columns costs entries
+    → costs ≡ map (λ c. table.column_cost g fix (meant_column c)) cs → entries ≡ map (λ c. nonzero_from 0 (map (λ r. meant_entry g fix r c) rs)) ds → IsCoverTable g copy rows columns costs entries
 made g fix copy rows rs columns cs ds costs entries security unscaled is_fix same rows_are columns_are ec er ed costs_are entries_are =
-    subst (λ (f : Fix). IsCoverage g f rows columns costs entries) (sym same) (record {
+    subst (λ (f : Fix). IsCoverTable g f rows columns costs entries) (sym same) (record {
       security = security;
       unscaled = unscaled;
       is_fix = is_fix;
@@ -284,5 +284,5 @@ made g fix copy rows rs columns cs ds costs entries security unscaled is_fix sam
       columns_are = columns_are;
       costs_are = made-costs g fix columns costs columns_are (costs_are ∙ ap (map (λ c. table.column_cost g fix (meant_column c))) ec);
       entries_are = made-entries g fix rows columns entries rows_are columns_are
-          (entries_are ∙ ap (λ (zs : List CoverRow). map (λ c. nonzero_from 0 (map (λ r. entry_of g fix r c) zs)) ds) er ∙ ap (map (λ c. nonzero_from 0 (map (λ r. entry_of g fix r c) rows))) ed);
+          (entries_are ∙ ap (λ (zs : List CoverRow). map (λ c. nonzero_from 0 (map (λ r. meant_entry g fix r c) zs)) ds) er ∙ ap (map (λ c. nonzero_from 0 (map (λ r. meant_entry g fix r c) rows))) ed);
     })

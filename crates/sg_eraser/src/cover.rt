@@ -35,14 +35,14 @@ pub struct Cover<'a> {
 }
 
 impl<'a> Model for Cover<'a> {
-    ghost use Rattle.sg_eraser.specs.Covers.{IsCoverage};
+    ghost use Rattle.sg_eraser.specs.Covers.{IsCoverTable};
     ghost use Rattle.sg_programs.specs.Nodes.{NodeOf};
 
     ghost Value = { NodeOf };
 
     ghost view = { λ f. record { game = f.game.now; fix = f.fix } };
 
-    ghost invariant = { λ f. IsCoverage f.game.now f.fix f.rows f.columns f.costs f.entries };
+    ghost invariant = { λ f. IsCoverTable f.game.now f.fix f.rows f.columns f.costs f.entries };
 }
 
 impl<'a> Cover<'a> {

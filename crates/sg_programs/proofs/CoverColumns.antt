@@ -15,7 +15,7 @@ use Rattle.sg_bounds.specs.RowLaws.{AreAllColumns}
 use Rattle.sg_bounds.proofs.Listed.{columns_are_all}
 use Rattle.sg_linear.specs.Sums.{sum_below}
 use Rattle.sg_programs.specs.CoverLaws.{ColumnsAreTable}
-use Rattle.sg_programs.specs.CoverPrograms.{column_number, column_numbered, cover_program, table_column}
+use Rattle.sg_programs.specs.CoverPrograms.{number_in_table, column_numbered, cover_program, table_column}
 use Rattle.sg_programs.proofs.Multipliers.{sum-first}
 
 -- ---- columns
@@ -46,7 +46,7 @@ columns_are_table g fix = record {
       Contains-map column_numbered (numbers m) n (Contains-numbers m n low (omega (arith, high, length-map (numbers m) column_numbered, length-numbers_from 1 m)));
   told = columns-told g;
   each_once = subst (AreAllColumns g) (sym (columns-told g)) (columns_are_all g);
-  distinct = pairs-map Lesser (λ c d. c ≢ d) column_numbered (λ a b lt e. let same : a ≡ b = ap column_number e in omega (arith, lt, same)) (numbers (length (table.columns g))) (rise-numbers_from 1 (length (table.columns g)));
+  distinct = pairs-map Lesser (λ c d. c ≢ d) column_numbered (λ a b lt e. let same : a ≡ b = ap number_in_table e in omega (arith, lt, same)) (numbers (length (table.columns g))) (rise-numbers_from 1 (length (table.columns g)));
 }
 
 -- what holds of the table's columns holds of what the program's columns stand for
