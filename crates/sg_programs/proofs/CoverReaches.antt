@@ -33,7 +33,8 @@ use Rattle.sg_programs.specs.CoverPoints.{AreCountsUnder, amount_of, coverage_su
 use Rattle.sg_programs.specs.CoverPrograms.{cover_fact, cover_program}
 use Rattle.sg_programs.proofs.CoverCounts.{single-secure}
 use Rattle.sg_programs.proofs.CoverFacts.{final_is_cover_fact}
-use Rattle.sg_programs.proofs.CoverKeeps.{own-target, point_keeps_table}
+use Rattle.sg_programs.proofs.CoverKeeps.{point_keeps_table}
+use Rattle.sg_programs.proofs.CoverRows.{own-target}
 use Rattle.sg_programs.proofs.CoverSized.{cover_is_sized}
 use Rattle.sg_programs.proofs.PointSums.{le-cancel, whole-above}
 

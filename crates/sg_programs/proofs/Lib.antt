@@ -6,6 +6,7 @@ pub mod CoverCounts
 pub mod CoverFacts
 pub mod CoverKeeps
 pub mod CoverReaches
+pub mod CoverRows
 pub mod CoverSized
 pub mod Fixed
 pub mod Found
