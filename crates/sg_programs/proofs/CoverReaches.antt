@@ -36,16 +36,10 @@ use Rattle.sg_programs.proofs.CoverFacts.{final_is_cover_fact}
 use Rattle.sg_programs.proofs.CoverKeeps.{point_keeps_table}
 use Rattle.sg_programs.proofs.CoverRows.{own-target}
 use Rattle.sg_programs.proofs.CoverSized.{cover_is_sized}
+use Rattle.sg_programs.proofs.CoverTickets.{attacker-sum, defender-sum}
 use Rattle.sg_programs.proofs.PointSums.{le-cancel, whole-above}
 
 -- ---- sums over tickets by cover counts
-
-module _ (g : Game) (security : g.kind ≡ Security) (k : List Ticket) where
-  defender-sum : (l a : ℕ) → sum_d g k l a ≡ coverage_sum (payoff g l a).dc (payoff g l a).du (weight_total k) (cover_count g k a)
-  defender-sum l a = rw (no_matrix g security) (total-covered g k a (payoff g l a).dc (payoff g l a).du)
-
-  attacker-sum : (l a : ℕ) → sum_a g k l a ≡ coverage_sum (payoff g l a).ac (payoff g l a).au (weight_total k) (cover_count g k a)
-  attacker-sum l a = rw (no_matrix g security) (total-covered g k a (payoff g l a).ac (payoff g l a).au)
 
 -- over other tickets, of which a target has the same share
 other-tickets : (inside outside all part tickets count : ℤ) → count *ℤ all ≡ part *ℤ tickets → all *ℤ coverage_sum inside outside tickets count ≡ tickets *ℤ coverage_sum inside outside all part

@@ -8,6 +8,7 @@ pub mod CoverKeeps
 pub mod CoverReaches
 pub mod CoverRows
 pub mod CoverSized
+pub mod CoverTickets
 pub mod Fixed
 pub mod Found
 pub mod Heights

@@ -17,4 +17,5 @@ pub mod CoverPrograms
 pub mod CoverLaws
 pub mod CoverPoints
 pub mod CoverPointLaws
+pub mod CoverRegions
 pub mod CoverExamples

@@ -15,7 +15,7 @@ mod point_laws;
 
 pub use cover_laws::{
     columns_are_table, cover_is_bounded, cover_is_sized, cover_looks_are_enough,
-    final_is_cover_fact, lines_rise,
+    final_is_cover_fact, lines_rise, region_is_allowed,
 };
 pub use cover_point_laws::{
     counts_are_choice_counts, matched_reaches_fact, no_cover_means_empty, point_has_counts,
