@@ -1,7 +1,7 @@
 -- What the amounts of a point over the coverage table keep, row by row.
-use Rattle.std.proofs.Common.{◌≡◌, ℕ, zero, suc, ◌+◌, ◌<◌, ◌≤◌, true, false, cond, length, sym, ◌∙◌, ap, subst, refl, arith}
+use Rattle.std.proofs.Common.{◌≡◌, ℕ, suc, ◌≤◌, true, false, cond, length, sym, ◌∙◌, ap, subst, refl, arith}
 use Rattle.std.specs.List.{Contains}
-use Rattle.std.specs.Prelude.{ℤ, pos, ◌+ℤ◌, ◌-ℤ◌, ◌*ℤ◌, ◌≤ℤ◌, ◌<ℤ◌}
+use Rattle.std.specs.Prelude.{ℤ, pos, ◌*ℤ◌, ◌≤ℤ◌, ◌<ℤ◌}
 use Rattle.std.proofs.lemmas.Int.{ints}
 use Rattle.sg_model.specs.declared.kind.Kind.TheVariants.{Security}
 use Rattle.sg_model.specs.Sums.{numbers, total}
@@ -16,13 +16,13 @@ use Rattle.sg_linear.specs.Sums.{unit}
 use Rattle.sg_linear.proofs.Products.{unit-apart}
 use Rattle.sg_rows.specs.Rows.{place}
 use Rattle.sg_lp.specs.Programs.{IsWithinLimits, Program}
-use Rattle.sg_lp.specs.States.{IsTableau, Tableau, member_at}
+use Rattle.sg_lp.specs.States.{IsTableau, Tableau}
 use Rattle.sg_programs.specs.CoverPointLaws.{KeepsTable, PointKeepsTable, cover_whole}
 use Rattle.sg_programs.specs.CoverPoints.{amount_of, is_same_column}
 use Rattle.sg_programs.specs.CoverPrograms.{cover_program, table_row}
 use Rattle.sg_programs.specs.Laws.{IsComparison}
 use Rattle.sg_programs.specs.PointLaws.{HasPointValue}
-use Rattle.sg_programs.specs.Points.{column_in, point_rows, point_weight, point_whole}
+use Rattle.sg_programs.specs.Points.{point_rows, point_weight, point_whole}
 use Rattle.sg_programs.proofs.CoverAmounts.{column_at, over-amounts}
 use Rattle.sg_programs.proofs.CoverRows.{attack_sum, costs-over, defence_part, gains-listed, gains-over, held-listed, held-over, holding, over, own-target, spends-listed, spends-over, times-zero, whole-over, within-listed, within-over}
 use Rattle.sg_programs.proofs.CoverSized.{cover_is_sized}

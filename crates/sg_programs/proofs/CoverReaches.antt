@@ -12,7 +12,7 @@ use Rattle.sg_model.specs.Limits.{IsGame}
 use Rattle.sg_model.specs.Payoffs.{shift_of}
 use Rattle.sg_model.specs.Commitments.{cover_count, sum_a, sum_d, weight_total}
 use Rattle.sg_model.proofs.Best.{is_best-from}
-use Rattle.sg_model.proofs.Covers.{total-covered, weight_total-nonneg}
+use Rattle.sg_model.proofs.Covers.{weight_total-nonneg}
 use Rattle.sg_model.proofs.Forms.{no_matrix}
 use Rattle.sg_model.proofs.Promises.{peopled}
 use Rattle.sg_model.proofs.Sums.{total-same, total-scaled}

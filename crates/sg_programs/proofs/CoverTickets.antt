@@ -1,11 +1,11 @@
 -- A commitment of a node's region as a combination of the coverage table's columns.
-use Rattle.std.proofs.Common.{◌≡◌, ◌≢◌, ◌⊎◌, ℕ, zero, suc, ◌+◌, ◌-◌, ◌<◌, ◌≤◌, Bool, true, false, cond, List, [], ◌∷◌, ◌++◌, map, flat_map, length, sym, ◌∙◌, ap, subst, refl, arith, inl, inr, eqb, not, get_or, slice_index, slice_index_or}
-use Rattle.std.specs.List.{All, Contains, filter, list_any}
-use Rattle.std.specs.Prelude.{ℤ, pos, ◌+ℤ◌, ◌-ℤ◌, ◌*ℤ◌, ◌≤ℤ◌, nat_eq}
-use Rattle.std.proofs.lemmas.Bool.{cases_Bool, cases_eq, eq-eqb, ne_eqb, true≢false}
-use Rattle.std.proofs.lemmas.Bool.Decides.{nat_tests, when_false}
+use Rattle.std.proofs.Common.{◌≡◌, ◌⊎◌, ℕ, zero, suc, ◌+◌, ◌<◌, ◌≤◌, Bool, true, false, cond, List, [], ◌∷◌, ◌++◌, map, flat_map, length, sym, ◌∙◌, ap, subst, refl, arith, inl, inr, eqb, not, slice_index, slice_index_or}
+use Rattle.std.specs.List.{All}
+use Rattle.std.specs.Prelude.{ℤ, pos, ◌+ℤ◌, ◌*ℤ◌, ◌≤ℤ◌, nat_eq}
+use Rattle.std.proofs.lemmas.Bool.{cases_Bool, cases_eq, eq-eqb, true≢false}
+use Rattle.std.proofs.lemmas.Bool.Decides.{when_false}
 use Rattle.std.proofs.lemmas.Int.{ints}
-use Rattle.std.proofs.lemmas.List.Elements.{All-append, All-filter, All-map, filter_passes}
+use Rattle.std.proofs.lemmas.List.Elements.{All-append, All-filter, All-map}
 use Rattle.sg_num.proofs.Laws.{mul-comm, one-mul}
 use Rattle.sg_model.specs.declared.kind.Kind.TheVariants.{Security}
 use Rattle.sg_model.specs.declared.ticket.Ticket.{Ticket}
@@ -32,7 +32,7 @@ use Rattle.sg_linear.proofs.Products.{unit-apart}
 use Rattle.sg_programs.specs.CoverPoints.{coverage_sum}
 use Rattle.sg_programs.specs.CoverPrograms.{cover_program, table_row}
 use Rattle.sg_programs.specs.CoverRegions.{IsAllowed, RegionIsAllowed, tickets_with}
-use Rattle.sg_programs.proofs.CoverRows.{attack_sum, costs-over, defence_part, gains-over, held-over, holding, over, spends-over, times-zero, whole-over, within-over}
+use Rattle.sg_programs.proofs.CoverRows.{costs-over, defence_part, gains-over, held-over, holding, over, spends-over, times-zero, whole-over, within-over}
 
 -- ---- sums over tickets by cover counts
 
