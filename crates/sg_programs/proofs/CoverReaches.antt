@@ -58,7 +58,7 @@ times-le d x y low le =
 -- ---- the commitment
 
 module _ (g : Game) (h : IsGame g) (unscaled : g.scale ≡ pos 0) (single : IsSingle g) (fix : Fix) (is_fix : IsFix g fix) (t : Tableau) (st : IsTableau (cover_program g fix) t) (above : pos 0 <ℤ place t.y 0)
-    (counts : List (List ℤ)) (are : AreCountsUnder g fix t counts) (k : Committed) (is_k : IsCommitted k) (matched : IsMatched g counts (cover_whole g fix t) k) where
+    (counts : List (List ℤ)) (are : AreCountsUnder g (amount_of g fix t) counts) (k : Committed) (is_k : IsCommitted k) (matched : IsMatched g counts (cover_whole g fix t) k) where
   secure : g.kind ≡ Security
   secure = single-secure g h single
 

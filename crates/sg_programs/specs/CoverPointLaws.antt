@@ -50,18 +50,18 @@ PointKeepsTable = (g : Game) → IsGame g → g.scale ≡ pos 0 → g.kind ≡ S
 -- where each schedule has one target, there are counts by resource and choice within the point
 abbrev pub PointHasCounts : Type 0
 PointHasCounts = (g : Game) → IsGame g → g.scale ≡ pos 0 → IsSingle g → (fix : Fix) → IsFix g fix → (t : Tableau) → IsTableau (cover_program g fix) t
-    → (counts : List (List ℤ)) × AreCountsUnder g fix t counts
+    → (counts : List (List ℤ)) × AreCountsUnder g (amount_of g fix t) counts
 
 -- such counts can be had out of as many tickets as the whole has
 abbrev pub CountsAreChoiceCounts : Type 0
 CountsAreChoiceCounts = (g : Game) → IsGame g → g.scale ≡ pos 0 → IsSingle g → (fix : Fix) → IsFix g fix → (t : Tableau) → IsTableau (cover_program g fix) t → pos 0 <ℤ place t.y 0
-    → (counts : List (List ℤ)) → AreCountsUnder g fix t counts → AreChoiceCounts g counts (cover_whole g fix t)
+    → (counts : List (List ℤ)) → AreCountsUnder g (amount_of g fix t) counts → AreChoiceCounts g counts (cover_whole g fix t)
 
 -- and a commitment that covers each target in just what they ask for lies in the node's region; at it rho times what the defender gets of the fixed types,
 -- with the shift, is mu times its total
 abbrev pub MatchedReachesFact : Type 0
 MatchedReachesFact = (g : Game) → IsGame g → g.scale ≡ pos 0 → IsSingle g → (fix : Fix) → IsFix g fix → (t : Tableau) → IsTableau (cover_program g fix) t → pos 0 <ℤ place t.y 0
-    → (counts : List (List ℤ)) → AreCountsUnder g fix t counts → (k : Committed) → IsCommitted k → IsMatched g counts (cover_whole g fix t) k → Reaches g fix (cover_fact t.y t.rho) k.tickets
+    → (counts : List (List ℤ)) → AreCountsUnder g (amount_of g fix t) counts → (k : Committed) → IsCommitted k → IsMatched g counts (cover_whole g fix t) k → Reaches g fix (cover_fact t.y t.rho) k.tickets
 
 -- where the first multiplier of a final state is 0 the region is empty
 abbrev pub NoCoverMeansEmpty : Type 0

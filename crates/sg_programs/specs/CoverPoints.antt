@@ -29,10 +29,11 @@ amount_of g fix t c = total (λ (i : ℕ). if is_same_column (table_column g (co
 abbrev pub coverage_sum : (inside outside all part : ℤ) → ℤ
 coverage_sum inside outside all part = (outside *ℤ all) +ℤ ((inside -ℤ outside) *ℤ part)
 
--- counts by resource and choice within a state's point: none is below 0 or above the amount of its choice, and each target is asked for in just its amount
-pub record AreCountsUnder (g : Game) (fix : Fix) (t : Tableau) (counts : List (List ℤ)) : Type 0 where
+-- counts by resource and choice within some amounts of the table's columns: none is below 0 or above the amount of its choice, and each target is asked for in
+-- just its amount
+pub record AreCountsUnder (g : Game) (amounts : table.Column → ℤ) (counts : List (List ℤ)) : Type 0 where
   pub one_each : length counts ≡ resource_count g
   pub each_choice : (r : ℕ) → 1 ≤ r → r ≤ resource_count g → length (nth counts r []) ≡ length (resource_schedules g r)
   pub none_below : All (λ row. All (λ z. pos 0 ≤ℤ z) row) counts
-  pub none_above : (r j : ℕ) → 1 ≤ r → r ≤ resource_count g → 1 ≤ j → j ≤ length (resource_schedules g r) → nth (nth counts r []) j (pos 0) ≤ℤ amount_of g fix t (table.chooses r j)
-  pub asked_is : (u : ℕ) → 1 ≤ u → u ≤ length g.goals → asked g counts u ≡ amount_of g fix t (table.covering u)
+  pub none_above : (r j : ℕ) → 1 ≤ r → r ≤ resource_count g → 1 ≤ j → j ≤ length (resource_schedules g r) → nth (nth counts r []) j (pos 0) ≤ℤ amounts (table.chooses r j)
+  pub asked_is : (u : ℕ) → 1 ≤ u → u ≤ length g.goals → asked g counts u ≡ amounts (table.covering u)
