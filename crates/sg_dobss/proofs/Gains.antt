@@ -1,18 +1,15 @@
 -- The rows of a node, type by type.
-use Rattle.std.proofs.Common.{◌≡◌, ◌≢◌, ◌∙◌, ℕ, zero, suc, ◌+◌, ◌-◌, ◌<◌, ◌≤◌, Bool, true, false, cond, List, [], ◌∷◌, ◌++◌, length, map, take, not, flat_map, sym, ap, subst, refl, arith, slice_index, get_or}
-use Rattle.std.specs.Prelude.{ℤ, ◌-ℤ◌, nat_eq}
-use Rattle.std.specs.List.{All, AllZip, filter, zip}
-use Rattle.std.proofs.lemmas.Bool.Decides.{nat_tests}
+use Rattle.std.proofs.Common.{◌≡◌, ◌≢◌, ◌∙◌, ℕ, zero, suc, ◌+◌, ◌<◌, ◌≤◌, List, [], ◌∷◌, ◌++◌, length, map, take, flat_map, sym, ap, subst, refl, arith, slice_index, get_or}
+use Rattle.std.specs.Prelude.{ℤ, ◌-ℤ◌}
+use Rattle.std.specs.List.{All, AllZip, filter}
 use Rattle.std.proofs.lemmas.Grind.{flat_map-append}
-use Rattle.std.proofs.lemmas.List.{append-nil, map-append, take_more}
+use Rattle.std.proofs.lemmas.List.{append-nil, map-append}
 use Rattle.std.proofs.lemmas.List.Elements.{All-map}
-use Rattle.std.proofs.Math.Seq.{take-length}
 use Rattle.sg_model.specs.Games.{Game, action_count}
-use Rattle.sg_model.specs.Limits.{IsGame}
 use Rattle.sg_model.specs.Plays.{pay_a}
-use Rattle.sg_model.specs.Sums.{numbers, numbers_from}
+use Rattle.sg_model.specs.Sums.{numbers}
 use Rattle.sg_tree.specs.declared.fix.Fix.{Fix}
-use Rattle.sg_bounds.specs.Regions.{IsFix, act_of, fixed}
+use Rattle.sg_bounds.specs.Regions.{act_of, fixed}
 use Rattle.sg_rows.specs.Rows.{place}
 use Rattle.sg_bounds.specs.PlayRows.{comparisons, other_actions}
 use Rattle.sg_programs.proofs.Comparisons.{apart}

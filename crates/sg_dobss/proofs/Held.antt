@@ -10,15 +10,15 @@ use Rattle.sg_model.specs.PlayLists.{legal_plays, play_count}
 use Rattle.sg_model.proofs.LegalPlays.{legal_plays_are_counted}
 use Rattle.sg_tree.specs.declared.fix.Fix.{Fix}
 use Rattle.sg_bounds.specs.Facts.{cost}
-use Rattle.sg_num.specs.declared.step.Wide.{Wide}
 use Rattle.sg_rows.specs.Rows.{place}
 use Rattle.sg_lp.specs.declared.column.Column.{Column}
-use Rattle.sg_lp.specs.Pricing.{Answer, clean, found, spent, wide}
+use Rattle.sg_lp.specs.Pricing.{Answer, found}
 use Rattle.sg_lp.specs.Programs.{IsBounded, IsWithinLimits}
 use Rattle.sg_programs.specs.Laws.{bounding}
 use Rattle.sg_programs.specs.Plays.{column_of, play_of, plays_program}
 use Rattle.sg_bounds.specs.PlayRows.{comparison_at, comparisons, play_entry}
 use Rattle.sg_programs.proofs.Columns.{play-column}
+use Rattle.sg_programs.proofs.Found.{found-same}
 use Rattle.sg_programs.proofs.Heights.{height-few}
 use Rattle.sg_programs.proofs.Sized.{program_is_bounded, program_is_sized}
 use Rattle.sg_dobss.specs.Listings.{IsListing}
@@ -138,25 +138,3 @@ found-by v inner e k a here c d lt is at f =
     let same : found c ≡ found (slice_index_or (plays_program v.game v.fix).columns k d) = sym f ∙ is in
     let one : c ≡ slice_index_or (plays_program v.game v.fix).columns k d = found-same c (slice_index_or (plays_program v.game v.fix).columns k d) same in
     at ∙ ap (λ (n : NodeOf). column_of (listed_play n.game k)) e ∙ sym (column-is v.game k d (omega (arith, lt, columns-count v.game))) ∙ sym one
-  where
-    found-same : (c d : Column) → found c ≡ found d → c ≡ d
-    found-same c d q = cc
-
--- no other answer has a column
-pub clean-found : (n : ℕ) (a : Answer) (here c : Column) → a ≡ clean n → a ≡ found c → here ≡ c
-clean-found n a here c is f = absurd (apart n c (sym is ∙ f))
-  where
-    apart : (n : ℕ) (c : Column) → clean n ≡ found c → ⊥
-    apart n c q = cc
-
-pub spent-found : (a : Answer) (here c : Column) → a ≡ spent → a ≡ found c → here ≡ c
-spent-found a here c is f = absurd (apart c (sym is ∙ f))
-  where
-    apart : (c : Column) → spent ≡ found c → ⊥
-    apart c q = cc
-
-pub wide-found : (name : ℕ) (w : Wide) (a : Answer) (here c : Column) → a ≡ wide name w → a ≡ found c → here ≡ c
-wide-found name w a here c is f = absurd (apart name w c (sym is ∙ f))
-  where
-    apart : (name : ℕ) (w : Wide) (c : Column) → wide name w ≡ found c → ⊥
-    apart name w c q = cc

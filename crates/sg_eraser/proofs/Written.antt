@@ -1,8 +1,8 @@
 -- Lists that are written one item, or one list, after another.
-use Rattle.std.proofs.Common.{◌≡◌, ◌≢◌, ◌∙◌, ℕ, suc, ◌+◌, ◌<◌, ◌≤◌, List, [], ◌∷◌, ◌++◌, length, map, take, flat_map, sym, ap, subst, refl, arith, slice_index, get_or}
+use Rattle.std.proofs.Common.{◌≡◌, ◌≢◌, ◌∙◌, ℕ, ◌+◌, ◌<◌, ◌≤◌, List, [], ◌∷◌, ◌++◌, length, map, take, flat_map, sym, ap, arith, slice_index, get_or}
 use Rattle.std.specs.List.{filter}
 use Rattle.std.proofs.lemmas.Grind.{flat_map-append}
-use Rattle.std.proofs.lemmas.List.{append-nil, append_assoc, map-append, take_more}
+use Rattle.std.proofs.lemmas.List.{append-nil, map-append, take_more}
 use Rattle.std.proofs.Math.Seq.{take-length}
 use Rattle.sg_model.specs.Sums.{numbers}
 use Rattle.sg_tree.specs.declared.fix.Fix.{Fix}
@@ -61,13 +61,3 @@ next-item {Y = Y} h xs i d ys all y lt before e is =
 
 pub all-items : {X Y : Type 0} (h : X → Y) (xs : List X) (i : ℕ) → length xs ≤ i → i ≤ length xs → map h (take i xs) ≡ map h xs
 all-items {X = X} h xs i le ge = let e : i ≡ length xs = omega (arith, le, ge) in ap (map h) (ap (λ (n : ℕ). take n xs) e ∙ take-length xs)
-
--- five lists behind one another
-pub five : {X Y : Type 0} (f : X → Y) (a b c d e ab abc abcd all : List X) (p q r s t : List Y) → map f a ≡ p → map f b ≡ q → map f c ≡ r → map f d ≡ s → map f e ≡ t
-    → ab ≡ a ++ b → abc ≡ ab ++ c → abcd ≡ abc ++ d → all ≡ abcd ++ e → map f all ≡ p ++ (q ++ (r ++ (s ++ t)))
-five f a b c d e ab abc abcd all p q r s t ea eb ec ed ee i j k l =
-    appended f abcd e all (((p ++ q) ++ r) ++ s) t (appended f abc d abcd ((p ++ q) ++ r) s (appended f ab c abc (p ++ q) r (appended f a b ab p q ea eb i) ec j) ed k) ee l
-    ∙ append_assoc ((p ++ q) ++ r) s t ∙ append_assoc (p ++ q) r (s ++ t) ∙ append_assoc p q (r ++ (s ++ t))
-
-pub three : {X Y : Type 0} (f : X → Y) (a b c ab all : List X) (p q r : List Y) → map f a ≡ p → map f b ≡ q → map f c ≡ r → ab ≡ a ++ b → all ≡ ab ++ c → map f all ≡ p ++ (q ++ r)
-three f a b c ab all p q r ea eb ec i j = appended f ab c all (p ++ q) r (appended f a b ab p q ea eb i) ec j ∙ append_assoc p q r

@@ -21,7 +21,7 @@ column_entries g fix c = nonzero_from 0 (map (λ row. table.entry g fix row c) (
 
 -- a node of a game in security form without a scale; the rows and columns of its table in order; and for each column its cost and its
 -- entries that are not 0
-pub record IsCoverage (g : Game) (fix : Fix) (rows : List CoverRow) (columns : List CoverColumn) (costs : List ℤ) (entries : List (List RowEntry)) : Type 0 where
+pub record IsCoverTable (g : Game) (fix : Fix) (rows : List CoverRow) (columns : List CoverColumn) (costs : List ℤ) (entries : List (List RowEntry)) : Type 0 where
   pub security : g.kind ≡ Security
   pub unscaled : g.scale ≡ pos 0
   pub is_fix : IsFix g fix

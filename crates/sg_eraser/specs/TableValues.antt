@@ -1,5 +1,5 @@
 -- The rows and columns of the coverage table as values.
-use Rattle.std.specs.Prelude.{◌≢◌, ◌+◌, ◌<◌, ◌≤◌, List, length, ℤ}
+use Rattle.std.specs.Prelude.{◌≢◌, ◌+◌, ◌<◌, ◌≤◌, length, ℤ}
 use Rattle.sg_model.specs.Games.{Game}
 use Rattle.sg_game.specs.Counts.{IsGoalOf}
 use Rattle.sg_tree.specs.declared.fix.Fix.{Fix}
@@ -37,5 +37,5 @@ abbrev pub IsCoverColumn : Game → CoverColumn → Type 0
 IsCoverColumn g c = table.IsColumn g (meant_column c)
 
 -- the entry of a row in a column
-abbrev pub entry_of : Game → Fix → CoverRow → CoverColumn → ℤ
-entry_of g fix row c = table.entry g fix (meant_row row) (meant_column c)
+abbrev pub meant_entry : Game → Fix → CoverRow → CoverColumn → ℤ
+meant_entry g fix row c = table.entry g fix (meant_row row) (meant_column c)

@@ -1,6 +1,6 @@
 //! What each column costs.
 
-ghost use Rattle.std.specs.Prelude.{◌≡◌, ◌*ℤ◌, ◌+ℤ◌, ◌-ℤ◌, ◌≤ℤ◌, pos, ◌*◌, ◌+◌, ◌^◌, IfOk, All, map};
+ghost use Rattle.std.specs.Prelude.{◌≡◌, ◌<◌, ◌*ℤ◌, ◌+ℤ◌, ◌-ℤ◌, ◌≤ℤ◌, pos, ◌*◌, ◌+◌, ◌^◌, IfOk, length, map};
 ghost use Rattle.sg_model.specs.declared.kind.Kind.TheVariants.{Security};
 ghost use Rattle.sg_model.specs.Games.{attacker, payoff};
 ghost use Rattle.sg_model.specs.Limits.{IsPay, IsWithin};
@@ -8,6 +8,7 @@ ghost use Rattle.sg_model.specs.declared.limit.TheConstants.{PAYOFF_LIMIT, PRIOR
 ghost use Rattle.sg_model.specs.Payoffs.{shift_of};
 ghost use Rattle.sg_game.specs.Counts.{IsGoalOf, IsTypeOf};
 ghost use Rattle.sg_num.specs.Exact.{IsAtMost};
+ghost use Rattle.sg_rows.specs.Rows.{place};
 ghost use Rattle.sg_bounds.specs.Regions.{IsFix};
 ghost use Rattle.sg_bounds.specs.Coverage.{always, column_cost, covering, where_same};
 ghost use Rattle.sg_eraser.specs.TableValues.{meant_column};
@@ -153,4 +154,12 @@ pub(crate) fn costs(
         costs.push(cost_of(game, fix, *column))?;
     }
     Ok(costs)
+}
+
+/// The cost at a place.
+pub(crate) fn cost_in(costs: &[i64], k: usize) -> i64
+    requires { k < length costs.now }
+    ensures { result ≡ place costs.now k }
+{
+    costs[k]
 }

@@ -1,13 +1,12 @@
 //! The coverage table of a node as a family.
 
-ghost use Rattle.std.specs.Prelude.{◌≡◌, ◌<◌, ◌+◌, IfOk, pos, length};
-ghost use Rattle.std.specs.List.{Contains};
+ghost use Rattle.std.specs.Prelude.{◌≡◌, IfOk, length, pos};
 ghost use Rattle.sg_model.specs.declared.kind.Kind.TheVariants.{Security};
 ghost use Rattle.sg_bounds.specs.Regions.{IsFix};
-ghost use Rattle.sg_programs.specs.CoverPrograms.{column_numbered};
+ghost use Rattle.sg_programs.specs.CoverPrograms.{column_numbered, cover_program};
 
 use crate::columns::columns;
-use crate::costs::costs;
+use crate::costs::{cost_in, costs};
 use crate::entry::entry_at;
 use crate::pricing::does_enter;
 use crate::rows::rows;
@@ -36,14 +35,14 @@ pub struct Cover<'a> {
 }
 
 impl<'a> Model for Cover<'a> {
-    ghost use Rattle.sg_eraser.specs.Covers.{IsCoverage};
+    ghost use Rattle.sg_eraser.specs.Covers.{IsCoverTable};
     ghost use Rattle.sg_programs.specs.Nodes.{NodeOf};
 
     ghost Value = { NodeOf };
 
     ghost view = { λ f. record { game = f.game.now; fix = f.fix } };
 
-    ghost invariant = { λ f. IsCoverage f.game.now f.fix f.rows f.columns f.costs f.entries };
+    ghost invariant = { λ f. IsCoverTable f.game.now f.fix f.rows f.columns f.costs f.entries };
 }
 
 impl<'a> Cover<'a> {
@@ -73,10 +72,17 @@ impl<'a> Cover<'a> {
             entries,
         })
     }
+
+    /// How many columns there are: the whole, each choice of each resource, each target.
+    pub fn count(&self) -> usize
+        ensures { result ≡ length (cover_program self.now.game self.now.fix).columns }
+    {
+        self.costs.len()
+    }
 }
 
-/// The column of a number.
-fn numbered(n: u16) -> Column
+/// The column of a number, from 1.
+pub fn numbered(n: u16) -> Column
     ensures { result ≡ column_numbered n }
 {
     let mut code = [0u16; 32];
@@ -105,7 +111,7 @@ impl<'a> Family for Cover<'a> {
     }
 
     fn cost(&self, col: &Column) -> i64 {
-        self.costs.as_slice()[col.code[0] as usize - 1]
+        cost_in(self.costs.as_slice(), col.code[0] as usize - 1)
     }
 
     fn price(&self, y: &[i128], rho: i128, budget: u64, found: &mut Column) -> Priced {
@@ -116,7 +122,7 @@ impl<'a> Family for Cover<'a> {
             if k as u64 >= budget {
                 return Priced::Spent;
             }
-            match does_enter(costs[k], entries[k].as_slice(), y, rho) {
+            match does_enter(cost_in(costs, k), entries[k].as_slice(), y, rho) {
                 Ok(true) => {
                     *found = numbered(k as u16 + 1);
                     return Priced::Found;

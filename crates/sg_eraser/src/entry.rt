@@ -8,7 +8,7 @@ ghost use Rattle.sg_model.specs.Limits.{IsPay};
 ghost use Rattle.sg_game.specs.Counts.{IsGoalOf, IsResourceOf, IsTypeOf};
 ghost use Rattle.sg_bounds.specs.Coverage.{choice_holds, covering, entry, gains, where_same};
 ghost use Rattle.sg_bounds.specs.Regions.{IsFix};
-ghost use Rattle.sg_eraser.specs.TableValues.{IsCoverColumn, IsCoverRow, entry_of};
+ghost use Rattle.sg_eraser.specs.TableValues.{IsCoverColumn, IsCoverRow, meant_entry};
 
 use crate::fixed::own_target;
 use crate::table::{CoverColumn, CoverRow};
@@ -85,7 +85,7 @@ fn whole_entry(game: &Game, fix: &Fix, row: CoverRow) -> i64
     requires security { game.now.kind ≡ Security }
     requires is_fix { IsFix game.now fix.now }
     requires row { IsCoverRow game.now fix.now row }
-    ensures { result ≡ entry_of game.now fix.now row CoverColumn.Always }
+    ensures { result ≡ meant_entry game.now fix.now row CoverColumn.Always }
 {
     game.promises();
     match row {
@@ -103,7 +103,7 @@ fn whole_entry(game: &Game, fix: &Fix, row: CoverRow) -> i64
 /// The entry of a row in the column of choice `j` of resource `r`.
 fn choice_entry(game: &Game, fix: &Fix, row: CoverRow, r: u16, j: usize) -> i64
     requires column { IsCoverColumn game.now (CoverColumn.Chooses r j) }
-    ensures { result ≡ entry_of game.now fix.now row (CoverColumn.Chooses r j) }
+    ensures { result ≡ meant_entry game.now fix.now row (CoverColumn.Chooses r j) }
 {
     match row {
         CoverRow::Whole => 0,
@@ -137,7 +137,7 @@ fn target_entry(game: &Game, fix: &Fix, row: CoverRow, t: u16) -> i64
     requires security { game.now.kind ≡ Security }
     requires is_fix { IsFix game.now fix.now }
     requires row { IsCoverRow game.now fix.now row }
-    ensures { result ≡ entry_of game.now fix.now row (CoverColumn.Covering t) }
+    ensures { result ≡ meant_entry game.now fix.now row (CoverColumn.Covering t) }
 {
     match row {
         CoverRow::Whole => 0,
@@ -154,7 +154,7 @@ pub(crate) fn entry_at(game: &Game, fix: &Fix, row: CoverRow, column: CoverColum
     requires is_fix { IsFix game.now fix.now }
     requires row { IsCoverRow game.now fix.now row }
     requires column { IsCoverColumn game.now column }
-    ensures { result ≡ entry_of game.now fix.now row column }
+    ensures { result ≡ meant_entry game.now fix.now row column }
 {
     match column {
         CoverColumn::Always => whole_entry(game, fix, row),

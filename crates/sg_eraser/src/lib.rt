@@ -15,4 +15,4 @@ mod rows;
 mod sparse;
 mod table;
 
-pub use cover::Cover;
+pub use cover::{Cover, numbered};

@@ -5,7 +5,7 @@ ghost use Rattle.sg_model.specs.declared.kind.Kind.TheVariants.{Security};
 ghost use Rattle.sg_bounds.specs.Regions.{IsFix};
 ghost use Rattle.sg_linear.specs.Sums.{is_zero_int};
 ghost use Rattle.sg_eraser.specs.Nonzero.{nonzero_from};
-ghost use Rattle.sg_eraser.specs.TableValues.{IsCoverColumn, IsCoverRow, entry_of};
+ghost use Rattle.sg_eraser.specs.TableValues.{IsCoverColumn, IsCoverRow, meant_entry};
 
 use crate::entry::entry_at;
 use crate::table::{CoverColumn, CoverRow};
@@ -43,7 +43,7 @@ fn entries_of(
     requires rows { All (IsCoverRow game.now fix.now) rows.now }
     requires few { length rows.now ≤ 1536 }
     requires column { IsCoverColumn game.now column }
-    ensures { IfOk result (λ entries. entries ≡ nonzero_from 0 (map (λ row. entry_of game.now fix.now row column) rows.now)) }
+    ensures { IfOk result (λ entries. entries ≡ nonzero_from 0 (map (λ row. meant_entry game.now fix.now row column) rows.now)) }
 {
     let mut entries = Items::new(alloc);
     for k in 0..rows.len() {
@@ -71,7 +71,7 @@ pub(crate) fn entries(
     requires rows { All (IsCoverRow game.now fix.now) rows.now }
     requires few { length rows.now ≤ 1536 }
     requires columns { All (IsCoverColumn game.now) columns.now }
-    ensures { IfOk result (λ all. all ≡ map (λ c. nonzero_from 0 (map (λ row. entry_of game.now fix.now row c) rows.now)) columns.now) }
+    ensures { IfOk result (λ all. all ≡ map (λ c. nonzero_from 0 (map (λ row. meant_entry game.now fix.now row c) rows.now)) columns.now) }
 {
     let mut all = Items::new(alloc);
     for column in columns {

@@ -46,7 +46,7 @@ others-are g fix l a low high is =
       other = λ same. let z : nat_eq a b ≡ true = (let q : a ≡ b = sym is ∙ sym same in grind (arith, nat_tests)) in let y : false ≡ true = ap not (sym z) ∙ p in cc;
     })
 
-kept-inside : (a b s m : ℕ) → a ≢ b → s ≤ b → b < s + m → Contains (filter (apart a) (numbers_from s m)) b
+pub kept-inside : (a b s m : ℕ) → a ≢ b → s ≤ b → b < s + m → Contains (filter (apart a) (numbers_from s m)) b
 kept-inside a b s zero ne low high = absurd (omega arith)
 kept-inside a b s (suc m) ne low high =
     let rest : List ℕ = filter (apart a) (numbers_from (s + 1) m) in
@@ -78,7 +78,7 @@ others-rise g l a =
 abbrev pairs_from : ℕ → List ℕ → List (ℕ × ℕ)
 pairs_from a acts = zip (numbers_from a (length acts)) acts
 
-fixed-inside : (a : ℕ) (acts : List ℕ) (l : ℕ) → a ≤ l → l < a + length acts → Contains (pairs_from a acts) (l, slice_index acts (l - a))
+pub fixed-inside : (a : ℕ) (acts : List ℕ) (l : ℕ) → a ≤ l → l < a + length acts → Contains (pairs_from a acts) (l, slice_index acts (l - a))
 fixed-inside a [] l low high = absurd (omega arith)
 fixed-inside a (c ∷ cs) l low high =
     let rest : List (ℕ × ℕ) = pairs_from (a + 1) cs in

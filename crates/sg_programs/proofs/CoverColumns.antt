@@ -1,27 +1,27 @@
 -- The columns and rows of a program over the coverage table, by their numbers.
-use Rattle.std.proofs.Common.{◌≡◌, ◌≢◌, ℕ, zero, suc, ◌+◌, ◌<◌, List, [], ◌∷◌, ◌++◌, map, length, sym, ◌∙◌, ap, subst, refl, arith, get_or}
-use Rattle.std.specs.List.{All, AllPairs}
-use Rattle.std.specs.Prelude.{ℤ, pos, ◌+ℤ◌}
-use Rattle.std.proofs.lemmas.Int.{ints}
-use Rattle.std.proofs.lemmas.List.{append_assoc, get_or-append-add, length-append}
+use Rattle.std.proofs.Common.{◌≡◌, ◌≢◌, ℕ, suc, ◌+◌, List, [], ◌∷◌, ◌++◌, map, length, sym, ◌∙◌, ap, subst, refl, arith, get_or}
+use Rattle.std.specs.List.{All}
+use Rattle.std.specs.Prelude.{ℤ, ◌+ℤ◌}
+use Rattle.std.proofs.lemmas.List.{append_assoc, get_or-append-add, length-append, length-map}
 use Rattle.sg_model.specs.Sums.{nth, numbers, numbers_from, total}
 use Rattle.sg_model.specs.Games.{Game}
 use Rattle.sg_tree.specs.declared.fix.Fix.{Fix}
 use Rattle.sg_model.proofs.Before.{Lesser, pairs-map, rise-numbers_from}
 use Rattle.sg_model.proofs.Best.{All-from_map}
+use Rattle.sg_model.proofs.Numbers.{length-numbers_from}
+use Rattle.sg_model.proofs.Payoffs.{Contains-map, Contains-numbers}
 use Rattle.sg_bounds.specs.Coverage as table
 use Rattle.sg_bounds.specs.RowLaws.{AreAllColumns}
 use Rattle.sg_bounds.proofs.Listed.{columns_are_all}
 use Rattle.sg_linear.specs.Sums.{sum_below}
-use Rattle.sg_lp.specs.declared.column.Column.{Column}
 use Rattle.sg_programs.specs.CoverLaws.{ColumnsAreTable}
-use Rattle.sg_programs.specs.CoverPrograms.{column_number, column_numbered, cover_program, table_column}
+use Rattle.sg_programs.specs.CoverPrograms.{number_in_table, column_numbered, cover_program, table_column}
 use Rattle.sg_programs.proofs.Multipliers.{sum-first}
 
 -- ---- columns
 
 -- a list by its places
-listed-again : {X : Type 0} (ps xs : List X) (d : X) → map (λ m. nth (ps ++ xs) m d) (numbers_from (suc (length ps)) (length xs)) ≡ xs
+pub listed-again : {X : Type 0} (ps xs : List X) (d : X) → map (λ m. nth (ps ++ xs) m d) (numbers_from (suc (length ps)) (length xs)) ≡ xs
 listed-again {X = X} ps [] d = refl
 listed-again {X = X} ps (x ∷ xs) d =
     let first : get_or (ps ++ x ∷ xs) (length ps) d ≡ x = (let e : length ps ≡ length ps + 0 = omega arith in ap (λ (i : ℕ). get_or (ps ++ x ∷ xs) i d) e ∙ get_or-append-add ps (x ∷ xs) 0 d) in
@@ -41,9 +41,12 @@ columns-told g = map-again column_numbered (table_column g) (numbers (length (ta
 
 pub columns_are_table : ColumnsAreTable
 columns_are_table g fix = record {
+  numbered = λ n low high.
+      let m : ℕ = length (table.columns g) in
+      Contains-map column_numbered (numbers m) n (Contains-numbers m n low (omega (arith, high, length-map (numbers m) column_numbered, length-numbers_from 1 m)));
   told = columns-told g;
   each_once = subst (AreAllColumns g) (sym (columns-told g)) (columns_are_all g);
-  distinct = pairs-map Lesser (λ c d. c ≢ d) column_numbered (λ a b lt e. let same : a ≡ b = ap column_number e in omega (arith, lt, same)) (numbers (length (table.columns g))) (rise-numbers_from 1 (length (table.columns g)));
+  distinct = pairs-map Lesser (λ c d. c ≢ d) column_numbered (λ a b lt e. let same : a ≡ b = ap number_in_table e in omega (arith, lt, same)) (numbers (length (table.columns g))) (rise-numbers_from 1 (length (table.columns g)));
 }
 
 -- what holds of the table's columns holds of what the program's columns stand for

@@ -1,19 +1,22 @@
 -- The multipliers of a final state of a program over the coverage table are a fact.
-use Rattle.std.proofs.Common.{◌≡◌, ◌∙◌, ℕ, zero, suc, ◌+◌, ◌<◌, ◌≤◌, Bool, true, false, cond, List, [], ◌∷◌, map, length, drop, sym, ap, subst, refl, arith, slice_index_or, flat_map}
+use Rattle.std.proofs.Common.{◌≡◌, ◌∙◌, ℕ, zero, suc, ◌+◌, ◌<◌, ◌≤◌, Bool, true, false, cond, List, [], ◌∷◌, map, length, drop, sym, ap, subst, refl, arith, slice_index_or, flat_map, ◌*◌, inl, inr, Option, Some, None}
 use Rattle.std.specs.Prelude.{ℤ, pos, ◌+ℤ◌, ◌*ℤ◌, ◌≤ℤ◌, ◌<ℤ◌, int_lt}
 use Rattle.std.specs.List.{All, AllPairs, sum_by}
 use Rattle.std.proofs.lemmas.Int.{ints}
 use Rattle.std.proofs.lemmas.List.Elements.{All-cons, All-contains, All-head, All-map, All-nil, All-tail}
 use Rattle.std.proofs.lemmas.List.{length-append, length-map}
 use Rattle.std.proofs.lemmas.List.Sums.{sum_by-cons}
+use Rattle.std.proofs.Math.Nat.{suc-mul}
 use Rattle.std.proofs.lemmas.List.Kept.{AllPairs-cons}
 use Rattle.sg_num.proofs.Laws.{zero-mul}
-use Rattle.sg_model.specs.declared.kind.Kind.TheVariants.{Security}
-use Rattle.sg_model.specs.Games.{Game, resource_count, resource_schedules}
+use Rattle.sg_model.specs.declared.kind.Kind.TheVariants.{Matrix, Security}
+use Rattle.sg_model.specs.Games.{Game, Named, resource_count, resource_schedules, unnamed}
+use Rattle.sg_model.specs.Limits.{AreMembers, IsDefended, IsGame, is_scaled}
 use Rattle.sg_model.specs.Sums.{nth, numbers, numbers_from, total}
 use Rattle.sg_model.proofs.Before.{pairs-none}
 use Rattle.sg_model.proofs.Forms.{no_matrix}
 use Rattle.sg_model.proofs.Numbers.{length-numbers_from}
+use Rattle.sg_model.proofs.Promises.{game_cases, nth-all}
 use Rattle.sg_tree.specs.declared.fact.Line.{Line}
 use Rattle.sg_tree.specs.declared.fix.Fix.{Fix}
 use Rattle.sg_bounds.specs.Coverage as table
@@ -22,11 +25,11 @@ use Rattle.sg_bounds.proofs.Listed.{columns_are_all}
 use Rattle.sg_linear.specs.Sums.{dot, sum_below}
 use Rattle.sg_linear.proofs.SumLaws.{sum_below-ext}
 use Rattle.sg_rows.specs.Rows.{place}
-use Rattle.sg_lp.specs.declared.column.Column.{Column}
 use Rattle.sg_lp.proofs.Values.{final_dual}
 use Rattle.sg_programs.specs.CoverLaws.{CoverLooksAreEnough, FinalIsCoverFact, LinesRise}
 use Rattle.sg_programs.specs.CoverPrograms.{column_numbered, cover_program, lines_from, table_column, table_row}
 use Rattle.sg_programs.specs.Enough.{coverage_columns, enough_looks, partial_count}
+use Rattle.sg_programs.proofs.Columns.{few_resources}
 use Rattle.sg_programs.proofs.CoverColumns.{columns-told}
 use Rattle.sg_programs.proofs.Looks.{looks-few}
 use Rattle.sg_programs.proofs.Multipliers.{is-zero, sum-first}
@@ -44,8 +47,14 @@ columns-count g =
     each a zero = refl
     each a (suc n) =
         let one : List table.Column = map (table.chooses a) (numbers (length (resource_schedules g a))) in
-        omega (arith, length-append one (flat_map (λ r. map (table.chooses r) (numbers (length (resource_schedules g r)))) (numbers_from (a + 1) n)),
-        length-map (numbers (length (resource_schedules g a))) (table.chooses a), length-numbers_from 1 (length (resource_schedules g a)), each (a + 1) n, sum_by-cons (λ (r : ℕ). length (resource_schedules g r)) a (numbers_from (a + 1) n))
+        omega (
+          arith,
+          length-append one (flat_map (λ r. map (table.chooses r) (numbers (length (resource_schedules g r)))) (numbers_from (a + 1) n)),
+          length-map (numbers (length (resource_schedules g a))) (table.chooses a),
+          length-numbers_from 1 (length (resource_schedules g a)),
+          each (a + 1) n,
+          sum_by-cons (λ (r : ℕ). length (resource_schedules g r)) a (numbers_from (a + 1) n),
+        )
 
 pub cover_looks_are_enough : CoverLooksAreEnough
 cover_looks_are_enough g security fix y rho =
@@ -143,3 +152,37 @@ final_is_cover_fact g security fix t is final =
     rest-long : (xs : List ℤ) (n : ℕ) → length xs ≡ n + 1 → 1 + length (drop 1 xs) ≤ n + 1
     rest-long [] n e = absurd (omega (arith, e))
     rest-long (x ∷ xs) n e = omega (arith, e)
+
+-- ---- numbers of columns
+
+few-each : (g : Game) → IsGame g → g.scale ≡ pos 0 → g.kind ≡ Security → (length g.goals ≤ 200) × ((r : ℕ) → 1 ≤ r → r ≤ resource_count g → length (resource_schedules g r) ≤ 500)
+few-each g h unscaled security = elim (game_cases g h) [
+  | inl s ↦ (
+      let plain : is_scaled g ≡ false = ap (λ (z : ℤ). int_lt (pos 0) z) unscaled in
+      let targets = rw plain at s.game.target_count.at_most in
+      (targets, by targets g.patrols refl s.game.defended))
+  | inr m ↦ absurd (let e : Security ≡ Matrix = sym security ∙ m.kind in cc)
+]
+  where
+    by : length g.goals ≤ 200 → (o : Option ℕ) → g.patrols ≡ o → IsDefended g o → (r : ℕ) → 1 ≤ r → r ≤ resource_count g → length (resource_schedules g r) ≤ 500
+    by targets (Some n) e d r low high = let is : resource_schedules g r ≡ numbers (length g.goals) = rw e refl in omega (arith, ap length is, length-numbers_from 1 (length g.goals), targets)
+    by targets None e d r low high =
+        let is : resource_schedules g r ≡ (nth g.resources r unnamed).members = rw e refl in
+        let count : resource_count g ≡ length g.resources = rw e refl in
+        let few = (nth-all (λ (x : Named). AreMembers (length g.schedules) 500 x.members) g.resources unnamed d.resources.members r low (omega (arith, high, count))).size.at_most in
+        omega (arith, ap length is, few)
+
+sum-few : (f : ℕ → ℕ) (a n m : ℕ) → ((r : ℕ) → a ≤ r → r < a + n → f r ≤ m) → sum_by f (numbers_from a n) ≤ n * m
+sum-few f a zero m h = omega arith
+sum-few f a (suc n) m h =
+    let here = h a (omega arith) (omega arith) in
+    let rest = sum-few f (a + 1) n m (λ r low high. h r (omega (arith, low)) (omega (arith, high))) in
+    let more : suc n * m ≡ n * m + m = suc-mul n m in
+    omega (arith, sum_by-cons f a (numbers_from (a + 1) n), here, rest, more)
+
+-- without a scale each number fits 16 bits
+pub columns-few : (g : Game) → IsGame g → g.scale ≡ pos 0 → g.kind ≡ Security → length (table.columns g) ≤ 16201
+columns-few g h unscaled security =
+    let few = few-each g h unscaled security in
+    let sum = sum-few (λ (r : ℕ). length (resource_schedules g r)) 1 (resource_count g) 500 (λ r low high. few.1 r low (omega (arith, high))) in
+    omega (arith, columns-count g, sum, few.0, few_resources g h unscaled)

@@ -1,5 +1,5 @@
 -- The program of a node over the coverage table is within its limits, and some multipliers bound it.
-use Rattle.std.proofs.Common.{◌≡◌, ℕ, zero, suc, ◌+◌, ◌-◌, ◌*◌, ◌<◌, ◌≤◌, ◌^◌, Bool, true, false, cond, List, [], ◌∷◌, ◌++◌, map, length, sym, ◌∙◌, ap, refl, arith, ◌⊎◌, inl, inr, eqb, flat_map, slice_index_or}
+use Rattle.std.proofs.Common.{◌≡◌, ℕ, zero, suc, ◌+◌, ◌-◌, ◌*◌, ◌<◌, ◌≤◌, ◌^◌, true, false, cond, List, [], ◌∷◌, ◌++◌, map, length, sym, ◌∙◌, ap, refl, arith, ◌⊎◌, inl, inr, eqb, flat_map, slice_index_or}
 use Rattle.std.specs.List.{All}
 use Rattle.std.specs.Prelude.{ℤ, pos, negsuc, ◌+ℤ◌, ◌-ℤ◌, ◌*ℤ◌, ◌≤ℤ◌, nat_eq}
 use Rattle.std.proofs.lemmas.Bool.{cases_eq, cases_Bool, eq-eqb, eqb-true, ne_eqb}
@@ -7,24 +7,22 @@ use Rattle.std.proofs.lemmas.Int.{ints}
 use Rattle.std.proofs.lemmas.List.Elements.{All-nil}
 use Rattle.std.proofs.Math.Nat.{mul-le-mul_right}
 use Rattle.sg_num.proofs.Laws.{mul-comm, one-mul, zero-mul}
-use Rattle.sg_num.proofs.Ring.{var, num, ◌⊕◌, ◌⊖◌, ◌⊗◌, ring}
+use Rattle.sg_num.proofs.Ring.{var, num, ◌⊕◌, ◌⊗◌, ring}
 use Rattle.sg_num.proofs.Signs.{mul-nonneg}
 use Rattle.sg_num.specs.Exact.{IsAtMost}
 use Rattle.sg_model.specs.declared.kind.Kind.TheVariants.{Security}
 use Rattle.sg_model.specs.Sums.{numbers, numbers_from, total}
-use Rattle.sg_model.specs.Games.{Game, attacker, payoff, resource_count, resource_schedules}
+use Rattle.sg_model.specs.Games.{Game, attacker, payoff, resource_count}
 use Rattle.sg_model.specs.Limits.{IsGame, IsPay, program_rows}
 use Rattle.sg_model.specs.Payoffs.{shift_of}
 use Rattle.sg_model.proofs.Forms.{no_matrix}
 use Rattle.sg_model.proofs.Promises.{payoff-in_range, peopled}
 use Rattle.sg_model.proofs.Spans.{Spans, spans_product}
 use Rattle.sg_model.proofs.Sums.{total-append, total-scaled, total-zero}
-use Rattle.sg_tree.specs.declared.fact.Line.{Line}
 use Rattle.sg_tree.specs.declared.fix.Fix.{Fix}
 use Rattle.sg_bounds.specs.Coverage as table
 use Rattle.sg_bounds.specs.Facts.{IsLineOf}
 use Rattle.sg_bounds.specs.Regions.{IsFix, act_of, fixed}
-use Rattle.sg_bounds.specs.RowLaws.{table_row_count}
 use Rattle.sg_bounds.specs.Sizes.{defender_most, fixed_priors}
 use Rattle.sg_bounds.proofs.Cover.{fixed_pairs, total-map}
 use Rattle.sg_bounds.proofs.Listed.{columns_are_all}
@@ -33,7 +31,7 @@ use Rattle.sg_bounds.proofs.SizeBounds.{column_sums}
 use Rattle.sg_linear.specs.Sums.{dot}
 use Rattle.sg_lp.specs.Programs.{Bounds}
 use Rattle.sg_programs.specs.CoverLaws.{CoverIsBounded, CoverIsSized, bounding_row, cost_limit, cover_bounding}
-use Rattle.sg_programs.specs.CoverPrograms.{cover_program, table_column, table_row}
+use Rattle.sg_programs.specs.CoverPrograms.{cover_program, table_row}
 use Rattle.sg_programs.proofs.CoverColumns.{over-columns, rows-total}
 use Rattle.sg_programs.proofs.Heights.{limit}
 use Rattle.sg_programs.proofs.Sized.{parts-sum, prior-spans, shifted-pay}

@@ -1,9 +1,16 @@
 pub mod Columns
 pub mod Comparisons
+pub mod CoverAmounts
 pub mod CoverColumns
+pub mod CoverCounts
 pub mod CoverFacts
+pub mod CoverKeeps
+pub mod CoverReaches
+pub mod CoverRows
 pub mod CoverSized
+pub mod CoverTickets
 pub mod Fixed
+pub mod Found
 pub mod Heights
 pub mod Kept
 pub mod ListedPlays

@@ -57,7 +57,7 @@ use Rattle.sg_programs.proofs.Sized.{program_is_sized}
 
 -- ---- sums over tickets
 
-weighted : {X Y : Type 0} (w : X → ℤ) (f : X → Y → ℤ) (xs : List X) (ys : List Y) → total (λ x. w x *ℤ total (f x) ys) xs ≡ total (λ y. total (λ x. w x *ℤ f x y) xs) ys
+pub weighted : {X Y : Type 0} (w : X → ℤ) (f : X → Y → ℤ) (xs : List X) (ys : List Y) → total (λ x. w x *ℤ total (f x) ys) xs ≡ total (λ y. total (λ x. w x *ℤ f x y) xs) ys
 weighted w f xs ys =
     total-same (λ x. w x *ℤ total (f x) ys) (λ x. total (λ y. w x *ℤ f x y) ys) xs (λ i d lt. sym (total-scaled (f (slice_index_or xs i d)) (w (slice_index_or xs i d)) ys)) ∙ total-exchange (λ x y. w x *ℤ f x y) xs ys
 
@@ -87,7 +87,7 @@ gain_part (x ∷ xs) f h =
     ap (λ (z : ℤ). (x.weight *ℤ (f x -ℤ h x)) +ℤ z) (gain_part xs f h)
     ∙ ring (x.weight ∷ f x ∷ h x ∷ s ∷ u ∷ []) (var 0 ⊗ (var 1 ⊖ var 2) ⊕ (var 3 ⊖ var 4)) ((var 0 ⊗ var 1 ⊕ var 3) ⊖ (var 0 ⊗ var 2 ⊕ var 4)) tt
 
-any-default : {X : Type 0} (xs : List X) (k : ℕ) (d e : X) → k < length xs → slice_index_or xs k d ≡ slice_index_or xs k e
+pub any-default : {X : Type 0} (xs : List X) (k : ℕ) (d e : X) → k < length xs → slice_index_or xs k d ≡ slice_index_or xs k e
 any-default [] k d e lt = absurd (omega arith)
 any-default (x ∷ xs) zero d e lt = refl
 any-default (x ∷ xs) (suc k) d e lt = any-default xs k d e (omega (arith, lt))

@@ -1,6 +1,6 @@
--- The program over the coverage table is the one worked out by hand.
+-- The program over the coverage table, and a point of one, are those worked out by hand.
 use Rattle.std.proofs.Common.{refl}
-use Rattle.sg_programs.specs.CoverExamples.{WorkedCover}
+use Rattle.sg_programs.specs.CoverExamples.{WorkedCover, WorkedPoint}
 
 pub worked_cover : WorkedCover
 worked_cover = record {
@@ -13,3 +13,6 @@ worked_cover = record {
   second_target = record { cost_is = refl; entries_are = refl };
   lines = refl;
 }
+
+pub worked_point : WorkedPoint
+worked_point = record { fact = refl; whole = refl; always_is = refl; choice_is = refl; target_is = refl; asked_is = refl }

@@ -1,5 +1,5 @@
 -- What holds of the program of a node over the coverage table.
-use Rattle.std.specs.Prelude.{◌≡◌, ◌≢◌, ℕ, zero, suc, ◌+◌, ◌<◌, ◌≤◌, List, map, length, ℤ, pos, ◌*ℤ◌, AllPairs}
+use Rattle.std.specs.Prelude.{◌≡◌, ◌≢◌, ℕ, ◌+◌, ◌<◌, ◌≤◌, List, map, length, ℤ, pos, ◌*ℤ◌, AllPairs, Contains}
 use Rattle.sg_model.specs.declared.kind.Kind.TheVariants.{Security}
 use Rattle.sg_model.specs.Games.{Game}
 use Rattle.sg_model.specs.Limits.{IsGame}
@@ -14,11 +14,12 @@ use Rattle.sg_lp.specs.Listing.{listing_looks}
 use Rattle.sg_lp.specs.Moves.{IsFinal}
 use Rattle.sg_lp.specs.Programs.{Bounds, IsWithinLimits, Program}
 use Rattle.sg_lp.specs.States.{IsTableau, Tableau}
-use Rattle.sg_programs.specs.CoverPrograms.{cover_fact, cover_program, lines_from, table_column, table_row}
+use Rattle.sg_programs.specs.CoverPrograms.{column_numbered, cover_fact, cover_program, lines_from, table_column, table_row}
 use Rattle.sg_programs.specs.Enough.{enough_looks}
 
--- the columns of a program stand for the table's, in its order: each of them once, and nothing else
+-- the columns of a program are the numbers from 1 on, and stand for the table's in its order: each of them once, and nothing else
 pub record ListsTable (g : Game) (p : Program) : Type 0 where
+  pub numbered : (n : ℕ) → 1 ≤ n → n ≤ length p.columns → Contains p.columns (column_numbered n)
   pub told : map (table_column g) p.columns ≡ table.columns g
   pub each_once : AreAllColumns g (map (table_column g) p.columns)
   pub distinct : AllPairs (λ c d. c ≢ d) p.columns

@@ -19,12 +19,12 @@ abbrev pub column_numbered : ℕ → Column
 column_numbered n = column_of (n ∷ [])
 
 -- the number of a column
-abbrev pub column_number : Column → ℕ
-column_number c = slice_index c.code 0
+abbrev pub number_in_table : Column → ℕ
+number_in_table c = slice_index c.code 0
 
 -- the column of the table that a column of the program stands for
 abbrev pub table_column : Game → Column → table.Column
-table_column g c = nth (table.columns g) (column_number c) table.always
+table_column g c = nth (table.columns g) (number_in_table c) table.always
 
 -- the row of the table at a place, from row 0
 abbrev pub table_row : Game → Fix → ℕ → table.Row

@@ -15,4 +15,8 @@ pub mod PointLaws
 pub mod NodeLaws
 pub mod CoverPrograms
 pub mod CoverLaws
+pub mod CoverPoints
+pub mod CoverFilling
+pub mod CoverPointLaws
+pub mod CoverRegions
 pub mod CoverExamples

@@ -8,6 +8,7 @@ ghost use Rattle.sg_programs.specs.CoverLaws.{
   FinalIsCoverFact,
   LinesRise,
 };
+ghost use Rattle.sg_programs.specs.CoverRegions.{RegionIsAllowed};
 
 /// The columns of a node's program stand for those of the coverage table, in order, each once.
 pub fn columns_are_table()
@@ -37,4 +38,9 @@ pub fn final_is_cover_fact()
 /// Their lines stand in rising order.
 pub fn lines_rise()
     ensures { LinesRise }
+{}
+
+/// Every commitment of a node's region is a combination of the table's columns that the program allows, of equal cost.
+pub fn region_is_allowed()
+    ensures { RegionIsAllowed }
 {}

@@ -1,7 +1,7 @@
 //! Programs of small games, as the contract of a function that does nothing.
 
 ghost use Rattle.sg_programs.specs.Examples.{WorkedPrograms};
-ghost use Rattle.sg_programs.specs.CoverExamples.{WorkedCover};
+ghost use Rattle.sg_programs.specs.CoverExamples.{WorkedCover, WorkedPoint};
 ghost use Rattle.sg_programs.specs.Refusals.{RefusalsAreWorked};
 
 /// The programs of `specs/Examples.antt` have the plays, costs, entries, facts and values that were worked out by hand.
@@ -14,7 +14,8 @@ pub fn worked_refusals()
     ensures { RefusalsAreWorked }
 {}
 
-/// The program of `specs/CoverExamples.antt` has the columns, costs, entries and lines that were worked out by hand.
+/// The program of `specs/CoverExamples.antt` has the columns, costs, entries and lines, and the end of a run there the fact and the point, that were worked out by hand.
 pub fn worked_cover()
-    ensures { WorkedCover }
+    ensures program { WorkedCover }
+    ensures point { WorkedPoint }
 {}

@@ -6,13 +6,21 @@
 #![tactic(auto)]
 
 mod cover_laws;
+mod cover_point_laws;
 mod examples;
 mod fact_laws;
 mod laws;
 mod node_laws;
 mod point_laws;
 
-pub use cover_laws::{columns_are_table, cover_is_bounded, cover_is_sized, cover_looks_are_enough, final_is_cover_fact, lines_rise};
+pub use cover_laws::{
+    columns_are_table, cover_is_bounded, cover_is_sized, cover_looks_are_enough,
+    final_is_cover_fact, lines_rise, region_is_allowed,
+};
+pub use cover_point_laws::{
+    counts_are_choice_counts, matched_reaches_fact, no_cover_means_empty, point_has_counts,
+    point_keeps_table,
+};
 pub use examples::{worked_cover, worked_programs, worked_refusals};
 pub use fact_laws::{final_is_fact, marks_rise};
 pub use laws::{

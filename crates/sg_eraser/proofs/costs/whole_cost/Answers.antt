@@ -1,6 +1,6 @@
 use Rattle.std.proofs.Common.{◌<◌, arith, length, refl, rules}
 use Rattle.std.specs.Int.{w64}
-use Rattle.std.specs.Prelude.{FitsSigned, ◌+ℤ◌}
+use Rattle.std.specs.Prelude.{FitsSigned}
 use Rattle.std.proofs.lemmas.Int.{to_z-of_z}
 use Rattle.sg_eraser.proofs.CostSums.{sum-all, sum-fits, sum-next, whole_term}
 use Rattle.sg_eraser.proofs.costs.whole_cost.Goals as goal

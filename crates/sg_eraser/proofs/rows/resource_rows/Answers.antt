@@ -1,4 +1,4 @@
-use Rattle.std.proofs.Common.{◌∙◌, arith, length, map, refl}
+use Rattle.std.proofs.Common.{◌∙◌, arith, map, refl}
 use Rattle.sg_bounds.specs.Coverage.{spends}
 use Rattle.sg_model.specs.Games.{resource_count}
 use Rattle.sg_eraser.specs.TableValues.{meant_row}

@@ -6,7 +6,8 @@ use Rattle.sg_lp.specs.Pricing.{clean, told_of}
 use Rattle.sg_lp.proofs.Listing.{says_listing}
 use Rattle.sg_programs.specs.Plays.{plays_program}
 use Rattle.sg_programs.specs.Nodes.{NodeOf}
-use Rattle.sg_dobss.proofs.Held.{clean-found, columns-long, costs-long, few-rows, found-by, game-by, listing-by, row-room, rows-read, spent-found, tables-read, wide-found}
+use Rattle.sg_programs.proofs.Found.{clean-found, spent-found, wide-found}
+use Rattle.sg_dobss.proofs.Held.{columns-long, costs-long, few-rows, found-by, game-by, listing-by, row-room, rows-read, tables-read}
 use Rattle.sg_dobss.proofs.listed.ListedFamily.price.Goals as goal
 
 pub price_in-requires-clause-multipliers : goal.price_in-requires-clause-multipliers
