@@ -1,36 +1,42 @@
 -- Told files decide one status for each command of the list, and each ends with a status of success.
 use Rattle.std.proofs.Common.{◌≡◌, ◌≢◌, ◌⊎◌, ℕ, Bool, true, false, List, Option, Result, Ok, Err, IfOk, IfErr, Some, sym, ◌∙◌, subst, inl, inr}
 use Rattle.sg_words.specs.Commands.{Asked, solve, check, show, roster, make}
+use Rattle.sg_cli.specs.Commands.{IsSuccess}
 use Rattle.sg_cli.specs.Inputs.{Content}
 use Rattle.sg_cli.specs.Checking.{ends_yes, writes_yes, yes_status}
 use Rattle.sg_cli.specs.CommandList.{command_for}
-use Rattle.sg_shelf.specs.Files.{HandsOver}
+use Rattle.sg_shelf.specs.Files.{Files, HandsOver}
 use Rattle.sg_shelf.specs.States.{ShelfState, SinkState}
 use Rattle.sg_cli.specs.Effects.{Fails, IsDone, surroundings}
 use Rattle.sg_cli.specs.Making.{making}
 use Rattle.sg_cli.specs.MakingSteps.{MakingFails, WritesMade}
 use Rattle.sg_cli.specs.Showing.{ends_shown, writes_table}
-use Rattle.sg_cli.specs.Laws.{OneStatusIsDue}
+use Rattle.sg_cli.specs.Laws.{IsDecided, OneStatusIsDue}
+use Rattle.sg_cli.specs.ExpectedStatus.{ExpectedStatus}
 use Rattle.sg_cli.specs.Runs.{ComesOf, DoesCommand, FormsFirst, Observation}
 use Rattle.sg_cli.proofs.JudgingStatus.{one_judging, success_checking, success_showing}
 use Rattle.sg_cli.proofs.MakingStatus.{done_making, fails_making, one_making, success_making}
-use Rattle.sg_cli.proofs.OneStatus.{just}
+use Rattle.sg_cli.proofs.OneStatus.{IsOne, just}
 use Rattle.sg_cli.proofs.RosterStatus.{one_rostering, success_rostering}
 use Rattle.sg_cli.proofs.SolvingStatus.{one_solving, success_solving}
 use Rattle.sg_cli.specs.declared.refusal.Refusal.{Refusal}
 use Rattle.sg_cli.specs.declared.refusal.Refusal.TheVariants.{Words, NotRead, TooLong, Refused, Own, NotWritten, Memory}
 
+-- one status alone
+alone : (files : Files) (asked : Asked) → IsOne (ExpectedStatus (command_for asked) files) → IsDecided files asked
+alone files asked one = (one.0, one.1, λ other due. inl (one.2 other due))
+
 pub one_status : OneStatusIsDue
-one_status files (solve name) = one_solving files name
-one_status files (check name named) = one_judging files name named ends_yes writes_yes (λ g r. just (yes_status r))
-one_status files (show name named) = one_judging files name named ends_shown writes_table (λ g r. just 0)
-one_status files (roster name named seed) = one_rostering files name named seed
-one_status files (make text seed) = one_making files text seed
+one_status files (solve name budget order) = one_solving files name budget order
+one_status files (check name named) = alone files (check name named) (one_judging files name named ends_yes writes_yes (λ g r. just (yes_status r)))
+one_status files (show name named) = alone files (show name named) (one_judging files name named ends_shown writes_table (λ g r. just 0))
+one_status files (roster name named seed) = alone files (roster name named seed) (one_rostering files name named seed)
+one_status files (make text seed) = alone files (make text seed) (one_making files text seed)
 
 -- ---- success
 
-success : (asked : Asked) (contents : List Content) (status : ℕ) → (command_for asked).ends contents status → (status ≡ 0) ⊎ (status ≡ 10)
-success (solve name) = success_solving
+success : (asked : Asked) (contents : List Content) (status : ℕ) → (command_for asked).ends contents status → IsSuccess status
+success (solve name budget order) = success_solving
 success (check name named) = success_checking
 success (show name named) = success_showing
 success (roster name named seed) = success_rostering

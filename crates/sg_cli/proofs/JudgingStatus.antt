@@ -13,7 +13,7 @@ use Rattle.sg_bounds.proofs.Reports.{accepted_means}
 use Rattle.sg_bounds.proofs.Verdicts.{refusal_is_one}
 use Rattle.sg_shelf.specs.Files.{Files, bytes_under}
 use Rattle.sg_cli.specs.Inputs.{Content, content_of, game, report, report_file}
-use Rattle.sg_cli.specs.Commands.{Command}
+use Rattle.sg_cli.specs.Commands.{Command, IsSuccess}
 use Rattle.sg_cli.specs.Checking.{ends_yes}
 use Rattle.sg_cli.specs.Showing.{ends_shown}
 use Rattle.sg_cli.specs.ExpectedStatus.{ByContent, ByFile, ByPlan, ByRest, ExpectedStatus}
@@ -88,11 +88,11 @@ module _ (files : Files) (name named : List ℕ) (ends : List Content → ℕ �
 
 -- ---- success
 
-yes : (b : Bool) (status : ℕ) → status ≡ (if b then 0 else 10) → (status ≡ 0) ⊎ (status ≡ 10)
+yes : (b : Bool) (status : ℕ) → status ≡ (if b then 0 else 10) → IsSuccess status
 yes true status h = inl h
 yes false status h = inr h
 
-pub success_checking : (contents : List Content) (status : ℕ) → ends_yes contents status → (status ≡ 0) ⊎ (status ≡ 10)
+pub success_checking : (contents : List Content) (status : ℕ) → ends_yes contents status → IsSuccess status
 success_checking [] status h = absurd h
 success_checking (game g ∷ []) status h = absurd h
 success_checking (game g ∷ game other ∷ contents) status h = absurd h
@@ -100,7 +100,7 @@ success_checking (game g ∷ report r ∷ []) status h = yes (is_optimal r.endin
 success_checking (game g ∷ report r ∷ content ∷ contents) status h = absurd h
 success_checking (report r ∷ contents) status h = absurd h
 
-pub success_showing : (contents : List Content) (status : ℕ) → ends_shown contents status → (status ≡ 0) ⊎ (status ≡ 10)
+pub success_showing : (contents : List Content) (status : ℕ) → ends_shown contents status → IsSuccess status
 success_showing [] status h = absurd h
 success_showing (game g ∷ []) status h = absurd h
 success_showing (game g ∷ game other ∷ contents) status h = absurd h

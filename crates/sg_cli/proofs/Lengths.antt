@@ -1,5 +1,5 @@
 -- How long the text of a right report is at most.
-use Rattle.std.proofs.Common.{◌≡◌, ℕ, suc, ◌+◌, ◌*◌, ◌<◌, ◌≤◌, ◌^◌, Bool, true, false, cond, List, [], ◌∷◌, ◌++◌, length, map, length-append, ℤ, pos, negsuc, ap, subst, ◌∙◌, arith, inl, inr}
+use Rattle.std.proofs.Common.{◌≡◌, ℕ, suc, ◌+◌, ◌*◌, ◌<◌, ◌≤◌, ◌^◌, Bool, true, false, MatchBool, if◌then◌else◌, cond, List, [], ◌∷◌, ◌++◌, length, map, length-append, ℤ, pos, negsuc, ap, subst, ◌∙◌, arith, inl, inr}
 use Rattle.std.specs.Prelude.{codes, decimal}
 use Rattle.std.specs.Fmt.{signed_decimal}
 use Rattle.std.specs.List.{AllByRecursion, flat_map}
@@ -27,7 +27,14 @@ use Rattle.sg_cert.specs.Ranges.{IsClaim, IsFact, IsFraction, IsLayer, IsLevel, 
 use Rattle.sg_cert.specs.Text.{FieldRow, cap_rows, claim_rows, fact_rows, fraction_row, head_rows, node_rows, spaced, spell, tail_rows, text_of, ticket_row, verdict_row}
 use Rattle.sg_cert.proofs.Rows.{text_then}
 use Rattle.sg_cert.proofs.Trees.{out_closed, rows_closed}
+use Rattle.sg_options.specs.declared.budget.Budget.{Budget}
+use Rattle.sg_options.specs.declared.order.Order.{Order}
+use Rattle.sg_tree.specs.declared.worked.Worked.{Worked}
+use Rattle.sg_cert.specs.Text.{report_text}
+use Rattle.sg_solve.specs.Answers.{IsLevelAnswer, IsSearchAnswer}
+use Rattle.sg_solve.specs.Solutions.{IsOptimalReport}
 use Rattle.sg_solve.proofs.Few.{right_few}
+use Rattle.sg_cli.specs.Solving.{IsAnswered}
 use Rattle.sg_cli.specs.Laws.{RightReportsAreShort}
 
 -- ---- numbers
@@ -141,10 +148,8 @@ targets_most g is = elim (game_cases g is) [
     at_most true n h = h
     at_most false n h = omega (arith, h)
 
-pub short : RightReportsAreShort
-short g is r answer =
-    let right = answer.is_right in
-    let ranges = answer.in_ranges in
+level_short : (g : Game) → IsGame g → (r : Report) → IsOptimalReport g r → IsReport r → length (report_text r) ≤ 2 ^ 24
+level_short g is r right ranges =
     let few : length r.tickets.tickets ≤ 10001 = omega (arith, right_few g r right, targets_most g is) in
     let caps : length (text_of (flat_map cap_rows r.caps)) ≡ 0 = ap (λ (cs : List Cap). length (text_of (flat_map cap_rows cs))) right.caps in
     omega (
@@ -158,3 +163,19 @@ short g is r answer =
       tail_long r ranges right.ending,
       few,
     )
+
+short_by : (g : Game) → IsGame g → (b : Budget) (o : Order) (r : Report) (worked : List Worked) (scaled : Bool) → MatchBool scaled (IsLevelAnswer g r worked) (IsSearchAnswer g b o r worked) → IsReport r
+    → length (report_text r) ≤ (if scaled then 2 ^ 24 else 2 ^ 29)
+short_by g is b o r worked true a ranges = level_short g is r a.right ranges
+short_by g is b o r worked false a ranges = a.short
+
+pub short : RightReportsAreShort
+short g is b o r a = short_by g is b o r a.worked (is_scaled g) a.answer a.in_ranges
+
+-- it is short enough for a report's file
+most : (scaled : Bool) (n : ℕ) → n ≤ (if scaled then 2 ^ 24 else 2 ^ 29) → n ≤ 536870912
+most true n h = omega (arith, h)
+most false n h = omega (arith, h)
+
+pub readable : (g : Game) → IsGame g → (b : Budget) (o : Order) (r : Report) → IsAnswered g b o r → length (report_text r) ≤ 536870912
+readable g is b o r a = most (is_scaled g) (length (report_text r)) (short g is b o r a)

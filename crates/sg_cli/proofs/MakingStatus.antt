@@ -13,6 +13,7 @@ use Rattle.sg_gen.specs.Generated.{made_game}
 use Rattle.sg_gen.specs.Shapes.{IsShape, shape_text}
 use Rattle.sg_shelf.specs.Files.{Files, HandsOver}
 use Rattle.sg_shelf.specs.States.{ShelfState, SinkState}
+use Rattle.sg_cli.specs.Commands.{IsSuccess}
 use Rattle.sg_cli.specs.Inputs.{Content}
 use Rattle.sg_cli.specs.Effects.{Fails, IsDone, surroundings}
 use Rattle.sg_cli.specs.ExpectedStatus.{ExpectedStatus}
@@ -184,6 +185,6 @@ module _ (files : Files) (text : List ℕ) (seed : ℕ) where
       ]
 
 -- it ends with success alone
-pub success_making : (contents : List Content) (status : ℕ) → ends_made contents status → (status ≡ 0) ⊎ (status ≡ 10)
+pub success_making : (contents : List Content) (status : ℕ) → ends_made contents status → IsSuccess status
 success_making [] status h = inl h
 success_making (content ∷ contents) status h = absurd h

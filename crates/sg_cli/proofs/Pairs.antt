@@ -1,7 +1,12 @@
 -- What `solve` writes, `check` accepts.
-use Rattle.std.proofs.Common.{◌≡◌, ℕ, ◌≤◌, Bool, true, false, List, [], ◌∷◌, length, Option, Some, Ok, refl, sym, ◌∙◌, ap, subst, arith, inl, inr}
+use Rattle.std.proofs.Common.{◌≡◌, ℕ, ◌≤◌, Bool, true, false, MatchBool, List, [], ◌∷◌, length, Option, Some, Ok, refl, sym, ◌∙◌, ap, subst, arith, inl, inr}
 use Rattle.sg_model.specs.Games.{Game}
-use Rattle.sg_model.specs.Limits.{IsGame}
+use Rattle.sg_model.specs.Limits.{IsGame, is_scaled}
+use Rattle.sg_options.specs.declared.budget.Budget.{Budget}
+use Rattle.sg_options.specs.declared.order.Order.{Order}
+use Rattle.sg_tree.specs.declared.worked.Worked.{Worked}
+use Rattle.sg_bounds.specs.Accepted.{IsAccepted}
+use Rattle.sg_solve.specs.Answers.{IsLevelAnswer, IsSearchAnswer}
 use Rattle.sg_model.proofs.Promises.{origami}
 use Rattle.sg_format.specs.GameFiles.{game_of_bytes}
 use Rattle.sg_format.proofs.Accepted.{accepted}
@@ -9,7 +14,6 @@ use Rattle.sg_tree.specs.declared.fact.Fact.TheVariants.{Water}
 use Rattle.sg_tree.specs.declared.report.Report.{Report}
 use Rattle.sg_cert.specs.Reading.{report_of}
 use Rattle.sg_cert.proofs.WholeAgain.{whole_again}
-use Rattle.sg_bounds.specs.Accepted.{is_optimal}
 use Rattle.sg_bounds.specs.Trees.{node_of}
 use Rattle.sg_bounds.proofs.Nodes.{node_of-Closed}
 use Rattle.sg_bounds.proofs.Reports.{accepted_means}
@@ -21,16 +25,22 @@ use Rattle.sg_cli.specs.ExpectedStatus.{ExpectedStatus}
 use Rattle.sg_cli.specs.Judging.{IsJudged, judging}
 use Rattle.sg_cli.specs.Laws.{IsWritten, SolvedIsChecked}
 use Rattle.sg_cli.specs.Showing.{ends_shown, writes_table}
-use Rattle.sg_cli.specs.Solving.{IsAnswer, IsSolved}
+use Rattle.sg_cli.specs.Solving.{IsAnswered}
 use Rattle.sg_cli.specs.declared.input.InputFault.{InputFault}
 use Rattle.sg_cli.specs.declared.input.InputFault.TheVariants as faults
 use Rattle.sg_cli.proofs.Completes.{by_said}
-use Rattle.sg_cli.proofs.Lengths.{short}
+use Rattle.sg_cli.proofs.Lengths.{readable}
 
 -- ---- a report that `solve` writes
 
-pub judged : (g : Game) → IsGame g → (r : Report) → IsAnswer g r → IsJudged g r
-judged g is r a = record { accepted = a.is_right.accepted; means = accepted_means g is r a.is_right.accepted }
+is_accepted : (g : Game) (b : Budget) (o : Order) (r : Report) (worked : List Worked) (scaled : Bool) → MatchBool scaled (IsLevelAnswer g r worked) (IsSearchAnswer g b o r worked) → IsAccepted g r
+is_accepted g b o r worked true a = a.right.accepted
+is_accepted g b o r worked false a = a.accepted
+
+pub judged : (g : Game) → IsGame g → (b : Budget) (o : Order) (r : Report) → IsAnswered g b o r → IsJudged g r
+judged g is b o r a =
+    let accepted : IsAccepted g r = is_accepted g b o r a.worked (is_scaled g) a.answer in
+    record { accepted = accepted; means = accepted_means g is r accepted }
 
 -- ---- what is due for it
 
@@ -40,7 +50,7 @@ module _ (files : Files) (name named : List ℕ) (w : IsWritten files name named
 
   pub says_report : IsGame w.solved → IsHandedAs any_bytes (Some files) (report_file named) (Ok (report w.answer.report))
   says_report is =
-      let le : length w.text ≤ 536870912 = omega (arith, ap length w.answer.written, short w.solved is w.answer.report w.answer.answer) in
+      let le : length w.text ≤ 536870912 = omega (arith, ap length w.answer.written, readable w.solved is w.budget w.order w.answer.report w.answer.answer) in
       let reads : report_of w.text ≡ Ok w.answer.report = ap report_of w.answer.written ∙ whole_again w.answer.report w.answer.answer.in_ranges in
       record { bytes = w.text; handed = tt; reads = record { may_hold = w.stands; within = le }; holds = ap (held_as report faults.Report) reads }
 
@@ -48,14 +58,13 @@ module _ (files : Files) (name named : List ℕ) (w : IsWritten files name named
     abbrev command : Command
     command = record { plan = judging name named; ends = ends; writes = writes; is_formed_late = false }
 
-    due : ends (game w.solved ∷ report w.answer.report ∷ []) 0 → ExpectedStatus command files 0
-    due ends =
+    due : (status : ℕ) → ends (game w.solved ∷ report w.answer.report ∷ []) status → ExpectedStatus command files status
+    due status ends =
         let is = accepted w.bytes w.solved w.says in
-        by_said any_bytes command files 0 [] (game_file name) (report_file named ∷ []) (game w.solved) tt says_game
-        (by_said any_bytes command files 0 (game w.solved ∷ []) (report_file named) [] (report w.answer.report) tt (says_report is)
-        (inr (judged w.solved is w.answer.report w.answer.answer, ends)))
+        by_said any_bytes command files status [] (game_file name) (report_file named ∷ []) (game w.solved) tt says_game
+        (by_said any_bytes command files status (game w.solved ∷ []) (report_file named) [] (report w.answer.report) tt (says_report is)
+        (inr (judged w.solved is w.budget w.order w.answer.report w.answer.answer, ends)))
 
 pub solved_is_checked : SolvedIsChecked
 solved_is_checked files name named w =
-    let met : is_optimal w.answer.report.ending ≡ true = ap is_optimal w.answer.answer.is_right.ending in
-    (due files name named w ends_yes writes_yes (rw met refl), due files name named w ends_shown writes_table refl)
+    (due files name named w ends_yes writes_yes w.status w.answer.status_is, due files name named w ends_shown writes_table 0 refl)

@@ -27,11 +27,11 @@ module _ (files : Files) (name named : List ℕ) (seed : ℕ) (w : IsWritten fil
 
   few_written : ¬ (IsLongTotal w.answer.report.tickets.total) → ExpectedStatus (rostering name named seed) files 0
   few_written few =
-      both_read 0 (inr (record { accepted = judged w.solved is_game w.answer.report w.answer.answer; few = λ total long. few (subst IsLongTotal (sym long.0) long.1) }, refl))
+      both_read 0 (inr (record { accepted = judged w.solved is_game w.budget w.order w.answer.report w.answer.answer; few = λ total long. few (subst IsLongTotal (sym long.0) long.1) }, refl))
 
   long_written : IsLongTotal w.answer.report.tickets.total → ExpectedStatus (rostering name named seed) files 8
   long_written long =
-      both_read 8 (inl (RosterTooLong w.answer.report.tickets.total, record { accepted = judged w.solved is_game w.answer.report w.answer.answer; long = (refl, long) }, refl))
+      both_read 8 (inl (RosterTooLong w.answer.report.tickets.total, record { accepted = judged w.solved is_game w.budget w.order w.answer.report w.answer.answer; long = (refl, long) }, refl))
 
 pub solved_is_rostered : SolvedIsRostered
 solved_is_rostered files name named seed w = record { few = few_written files name named seed w; long = long_written files name named seed w }

@@ -10,7 +10,7 @@ use Rattle.sg_cert.specs.declared.fault.ReportFault.{ReportFault}
 use Rattle.sg_cert.specs.Reading.{report_of}
 use Rattle.sg_shelf.specs.Files.{Files, bytes_under}
 use Rattle.sg_cli.specs.Inputs.{Content, content_of, game, held_as, report, report_file}
-use Rattle.sg_cli.specs.Commands.{Command, Plan}
+use Rattle.sg_cli.specs.Commands.{Command, IsSuccess, Plan}
 use Rattle.sg_cli.specs.ExpectedStatus.{ByContent, ByFile, ByPlan, ByRest, ExpectedStatus}
 use Rattle.sg_cli.specs.Judging.{judging, refuses_wrong}
 use Rattle.sg_cli.specs.Rostering.{ends_rostered, refuses_unrostered, rostering, rostering_plan}
@@ -147,7 +147,7 @@ module _ (files : Files) (name named : List ℕ) (seed : ℕ) where
 
 -- ---- success
 
-pub success_rostering : (contents : List Content) (status : ℕ) → ends_rostered contents status → (status ≡ 0) ⊎ (status ≡ 10)
+pub success_rostering : (contents : List Content) (status : ℕ) → ends_rostered contents status → IsSuccess status
 success_rostering [] status h = absurd h
 success_rostering (game g ∷ []) status h = absurd h
 success_rostering (game g ∷ game other ∷ contents) status h = absurd h

@@ -1,5 +1,5 @@
 -- The numbers of a right report lie in the ranges of a report's text.
-use Rattle.std.proofs.Common.{◌≡◌, ℕ, ◌+◌, ◌≤◌, ◌<◌, ◌^◌, Bool, true, List, [], ◌∷◌, length, ℤ, pos, negsuc, ◌≤ℤ◌, Option, Some, None, inl, inr, if◌then◌else◌, sym, ◌∙◌, ap, subst, refl, arith}
+use Rattle.std.proofs.Common.{◌≡◌, ℕ, ◌+◌, ◌≤◌, ◌<◌, ◌^◌, Bool, true, false, MatchBool, List, [], ◌∷◌, length, ℤ, pos, negsuc, ◌≤ℤ◌, Option, Some, None, inl, inr, if◌then◌else◌, sym, ◌∙◌, ap, subst, refl, arith}
 use Rattle.std.specs.List.{All, AllByRecursion}
 use Rattle.std.proofs.lemmas.Int.{ints}
 use Rattle.std.proofs.lemmas.Bool.{lt-ltb, ltb-true}
@@ -24,6 +24,10 @@ use Rattle.sg_tree.specs.declared.report.Report.{Report}
 use Rattle.sg_num.specs.Exact.{Fits}
 use Rattle.sg_cert.specs.Ranges.{IsCap, IsEnding, IsFact, IsFraction, IsLayer, IsLevel, IsRangedNode, IsReport, IsTicket}
 use Rattle.sg_cert.proofs.Trees.{out_closed}
+use Rattle.sg_options.specs.declared.budget.Budget.{Budget}
+use Rattle.sg_options.specs.declared.order.Order.{Order}
+use Rattle.sg_tree.specs.declared.worked.Worked.{Worked}
+use Rattle.sg_solve.specs.Answers.{IsAnswer, IsLevelAnswer, IsSearchAnswer}
 use Rattle.sg_solve.specs.Solutions.{IsOptimalReport}
 use Rattle.sg_cli.specs.Widths.{BothPartsFit, HasParts, HasPartsLayer, IsSized}
 
@@ -117,3 +121,13 @@ in_ranges g is sc r h sized value level =
       upper = subst IsFraction (sym h.upper) (fraction_in r.value h.reduced value);
       ending = subst IsEnding (sym h.ending) tt;
     }
+
+-- so it is of each answer
+answer_at : (g : Game) → IsGame g → (b : Budget) (o : Order) (r : Report) (worked : List Worked) (scaled : Bool) → is_scaled g ≡ scaled
+    → MatchBool scaled (IsLevelAnswer g r worked) (IsSearchAnswer g b o r worked) → IsSized r.tickets → BothPartsFit r.value → HasParts r.tree → IsReport r
+answer_at g is b o r worked true sc a sized value level = in_ranges g is sc r a.right sized value level
+answer_at g is b o r worked false sc a sized value level = a.in_ranges
+
+pub answer_in : (g : Game) → IsGame g → (b : Budget) (o : Order) (r : Report) (worked : List Worked) → IsAnswer g b o r worked → IsSized r.tickets → BothPartsFit r.value → HasParts r.tree
+    → IsReport r
+answer_in g is b o r worked a = answer_at g is b o r worked (is_scaled g) refl a

@@ -6,6 +6,8 @@ use Rattle.sg_tree.specs.declared.report.Report.{Report}
 use Rattle.sg_cert.specs.Reading.{report_of}
 use Rattle.sg_shelf.specs.Files.{HandsOver}
 use Rattle.sg_shelf.specs.States.{ShelfState}
+use Rattle.sg_options.specs.declared.budget.Budget.{Budget}
+use Rattle.sg_options.specs.declared.order.Order.{Order}
 use Rattle.sg_cli.specs.Inputs.{Content, Input, game, game_file, held_as, report, report_file}
 use Rattle.sg_cli.specs.Commands.{Plan}
 use Rattle.sg_cli.specs.Progress.{HasRead, ReachesInput, reads_of}
@@ -54,15 +56,15 @@ module _ (hands : HandsOver) where
 
   -- ---- `solve`
 
-  module _ (name : List ℕ) (a b : ShelfState) where
-    pub solve_unread : (e : Refusal) → GivesNone a b (game_file name) e → Stops hands (solving name).plan a b e
-    solve_unread e h = stops_reading hands (solving name).plan a a (game_file name) (at_first (solving name).plan a (game_file name) [] refl tt) b e h
+  module _ (name : List ℕ) (budget : Budget) (order : Order) (a b : ShelfState) where
+    pub solve_unread : (e : Refusal) → GivesNone a b (game_file name) e → Stops hands (solving name budget order).plan a b e
+    solve_unread e h = stops_reading hands (solving name budget order).plan a a (game_file name) (at_first (solving name budget order).plan a (game_file name) [] refl tt) b e h
 
-    pub solve_no_game : (bytes : List ℕ) (e : Refusal) → GivesContent hands a b (game_file name) bytes → GivesNoGame (game_of_bytes bytes) e → Stops hands (solving name).plan a b e
-    solve_no_game bytes e g h = no_game (solving name).plan a a b name bytes e (at_first (solving name).plan a (game_file name) [] refl tt) g h
+    pub solve_no_game : (bytes : List ℕ) (e : Refusal) → GivesContent hands a b (game_file name) bytes → GivesNoGame (game_of_bytes bytes) e → Stops hands (solving name budget order).plan a b e
+    solve_no_game bytes e g h = no_game (solving name budget order).plan a a b name bytes e (at_first (solving name budget order).plan a (game_file name) [] refl tt) g h
 
     -- a game that gives no report
-    pub unsolved : (g : Game) (e : Refusal) → HasRead hands a b (game_file name ∷ []) (game g ∷ []) → SolvingFails g e → Stops hands (solving name).plan a b e
+    pub unsolved : (g : Game) (e : Refusal) → HasRead hands a b (game_file name ∷ []) (game g ∷ []) → SolvingFails g e → Stops hands (solving name budget order).plan a b e
     unsolved g Words r h = absurd h
     unsolved g (NotRead kind) r h = absurd h
     unsolved g (TooLong kind) r h = absurd h

@@ -22,7 +22,7 @@ use Rattle.sg_cli.specs.ExpectedStatus.{ByRest, ExpectedStatus}
 use Rattle.sg_cli.specs.Judging.{IsJudged, judging}
 use Rattle.sg_cli.specs.Showing.{ends_shown, writes_table}
 use Rattle.sg_cli.specs.Solving.{solving}
-use Rattle.sg_cli.specs.WorkedRuns.{HoldsBytes, HoldsPair, WorkedChecks, WorkedLimits, WorkedRefusals, wrong_report}
+use Rattle.sg_cli.specs.WorkedRuns.{HoldsBytes, HoldsPair, WorkedChecks, WorkedLimits, WorkedRefusals, wrong_report, usual_budget, usual_order}
 use Rattle.sg_cli.specs.declared.input.InputFault.TheVariants as faults
 use Rattle.sg_cli.specs.declared.refusal.CommandRefusal.TheVariants.{ReportWrong}
 use Rattle.sg_cli.proofs.Completes.{by_faulty, by_longer, by_said}
@@ -97,8 +97,8 @@ spells files name text r holds short e = record { bytes = text; handed = tt; rea
 pub worked_limits : WorkedLimits
 worked_limits = record {
   longest_game = λ files name bytes fault h e.
-      by_faulty any_bytes (solving name) files 6 [] (game_file name) [] (faults.Game fault) tt (says files name bytes (Err fault) h.stands (omega (arith, h.count)) e) refl;
-  longer_game = λ files name bytes h. by_longer any_bytes (solving name) files 5 [] (game_file name) [] tt (holds_more files name bytes 4194304 4194305 h (omega arith)) refl;
+      by_faulty any_bytes (solving name usual_budget usual_order) files 6 [] (game_file name) [] (faults.Game fault) tt (says files name bytes (Err fault) h.stands (omega (arith, h.count)) e) refl;
+  longer_game = λ files name bytes h. by_longer any_bytes (solving name usual_budget usual_order) files 5 [] (game_file name) [] tt (holds_more files name bytes 4194304 4194305 h (omega arith)) refl;
   longest_report = λ files name named bytes text fault h e k f.
       by_said any_bytes (checking name named) files 7 [] (game_file name) (report_file named ∷ []) (inputs.game one_player) tt (says files name bytes (Ok one_player) h.stands (omega (arith, h.count)) e)
       (by_faulty any_bytes (checking name named) files 7 (inputs.game one_player ∷ []) (report_file named) [] (faults.Report fault) tt

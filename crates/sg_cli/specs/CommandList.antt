@@ -8,7 +8,7 @@ use Rattle.sg_cli.specs.Rostering.{rostering}
 use Rattle.sg_cli.specs.Making.{making}
 
 abbrev pub command_for : Asked → Command
-command_for (solve game) = solving game
+command_for (solve game budget order) = solving game budget order
 command_for (check game report) = checking game report
 command_for (show game report) = showing game report
 command_for (roster game report seed) = rostering game report seed

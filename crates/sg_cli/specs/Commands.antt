@@ -1,7 +1,11 @@
 -- What a command is: said once for each command, in a module of its own.
-use Rattle.std.specs.Prelude.{ℕ, Bool, List, [], ◌∷◌, ◌++◌}
+use Rattle.std.specs.Prelude.{◌≡◌, ◌⊎◌, ℕ, Bool, List, [], ◌∷◌, ◌++◌}
 use Rattle.sg_cli.specs.Inputs.{Content, Input}
 use Rattle.sg_cli.specs.declared.refusal.CommandRefusal.{CommandRefusal}
+
+-- the statuses of success: 10 where the bounds of what was found don't meet
+abbrev pub IsSuccess : ℕ → Type 0
+IsSuccess status = (status ≡ 0) ⊎ (status ≡ 10)
 
 -- what a command reads
 pub record Plan : Type 1 where

@@ -12,7 +12,10 @@ use Rattle.sg_cli.specs.Inputs.{Input, game, game_file, input_limit, report}
 use Rattle.sg_cli.specs.Commands.{Plan}
 use Rattle.sg_cli.specs.Progress.{HasRead, read_of}
 use Rattle.sg_cli.specs.Effects.{IsLongWhereTold}
-use Rattle.sg_cli.specs.Solving.{IsAnswer, IsSolved, refuses_unsolved}
+use Rattle.sg_options.specs.declared.budget.Budget.{Budget}
+use Rattle.sg_options.specs.declared.order.Order.{Order}
+use Rattle.sg_solve.specs.Answers.{IsServed}
+use Rattle.sg_cli.specs.Solving.{IsAnswered, refuses_unserved}
 use Rattle.sg_cli.specs.Judging.{IsJudged, judging}
 use Rattle.sg_cli.specs.declared.input.InputFault.TheVariants as faults
 use Rattle.sg_cli.specs.declared.input.InputKind.{InputKind}
@@ -54,22 +57,22 @@ GivesNoReport says (Refused (faults.Report fault)) = says ≡ Err fault
 GivesNoReport says Memory = Unit {0}
 GivesNoReport says _ = ⊥
 
--- a game that gives no report: memory is wanted for one that is solved alone
+-- a game that gives no report: memory is wanted for one that is served alone
 abbrev pub SolvingFails : Game → Refusal → Type 0
-SolvingFails g (Own own) = refuses_unsolved (game g ∷ []) own
-SolvingFails g Memory = IsSolved g
+SolvingFails g (Own own) = refuses_unserved (game g ∷ []) own
+SolvingFails g Memory = IsServed g
 SolvingFails g _ = ⊥
 
--- a right report on a game that is solved
-pub record IsSolution (g : Game) (r : Report) : Type 0 where
-  pub is_solved : IsSolved g
-  pub answer : IsAnswer g r
+-- an answer for a game that is served
+pub record IsSolution (g : Game) (b : Budget) (o : Order) (r : Report) : Type 0 where
+  pub is_served : IsServed g
+  pub answer : IsAnswered g b o r
 
--- the file holds a game, for which this is a right report
-pub record HasSolution (hands : HandsOver) (name : List ℕ) (before after : ShelfState) (r : Report) : Type 0 where
+-- the file holds a game, for which this is an answer
+pub record HasSolution (hands : HandsOver) (name : List ℕ) (b : Budget) (o : Order) (before after : ShelfState) (r : Report) : Type 0 where
   pub solved : Game
   pub read : HasRead hands before after (game_file name ∷ []) (game solved ∷ [])
-  pub solution : IsSolution solved r
+  pub solution : IsSolution solved b o r
 
 -- the files hold this game and this report, which is accepted for it
 pub record HasAccepted (hands : HandsOver) (plan : Plan) (before after : ShelfState) (g : Game) (r : Report) : Type 0 where

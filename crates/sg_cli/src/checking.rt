@@ -54,7 +54,7 @@ fn yes_line(alloc: Global, report: &Report) -> Result<String, AllocError>
 }
 
 /// The status that accepts it.
-fn yes_status(report: &Report) -> u8
+pub(crate) fn yes_status(report: &Report) -> u8
     ensures { result ≡ yes_status report.now }
 {
     if is_optimal(report) { 0 } else { 10 }

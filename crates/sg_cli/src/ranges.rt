@@ -1,13 +1,14 @@
 //! The numbers of a right report.
 
 ghost use Rattle.sg_cert.specs.Ranges.{IsReport};
-ghost use Rattle.sg_solve.specs.Solutions.{IsOptimalReport};
-ghost use Rattle.sg_cli.specs.Solving.{IsSolved};
+ghost use Rattle.sg_solve.specs.Answers.{IsAnswer};
 ghost use Rattle.sg_cli.specs.Widths.{BothPartsFit, HasParts, IsSized};
 
 use sg_frac::Frac;
 use sg_game::Game;
-use sg_tree::{Claim, Fact, Report, Tree};
+use sg_options::{Budget, Order};
+use sg_solve::Answer;
+use sg_tree::{Claim, Fact, Tree};
 
 /// How many tickets there are, and their total.
 fn sizes_of(claim: &Claim) -> (usize, i128)
@@ -33,14 +34,13 @@ fn level_of(tree: &Tree) -> Option<(i128, i128)>
     }
 }
 
-/// The numbers of a right report lie in the ranges of a report's text. It changes nothing: its contract is what counts.
-pub fn lies_in_ranges(game: &Game, report: &Report)
-    requires solved { IsSolved game.now }
-    requires right { IsOptimalReport game.now report.now }
-    ensures { IsReport report.now }
+/// The numbers of an answer's report lie in the ranges of a report's text. It changes nothing: its contract is what counts.
+pub fn lies_in_ranges(game: &Game, budget: &Budget, order: &Order, answer: &Answer)
+    requires { IsAnswer game.now budget.now order.now answer.now.report answer.now.worked }
+    ensures { IsReport answer.now.report }
 {
     game.promises();
-    let _sizes = sizes_of(&report.tickets);
-    let _value = parts_of(&report.value);
-    let _level = level_of(&report.tree);
+    let _sizes = sizes_of(&answer.report.tickets);
+    let _value = parts_of(&answer.report.value);
+    let _level = level_of(&answer.report.tree);
 }

@@ -16,4 +16,6 @@ mod rosters;
 #[cfg(test)]
 mod scenes;
 #[cfg(test)]
+mod searches;
+#[cfg(test)]
 mod solving;

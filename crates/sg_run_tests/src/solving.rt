@@ -162,8 +162,8 @@ fn solves_games_of_identical_patrols(rt: HostRuntime) -> Result<(), AllocError> 
     Ok(())
 }
 
-/// Games that are refused or not solved yet: the top keys, the payoffs, the status and the line.
-const REFUSED: [(&str, &str, u8, &str); 9] = [
+/// Games that are refused: the top keys, the payoffs, the status and the line.
+const REFUSED: [(&str, &str, u8, &str); 7] = [
     (
         "scale = 6\npatrols = 1\ntargets = [\"gate\", \"hall\"]",
         "[[2, -2, 0, 4], [1, -1, 0, 2]]",
@@ -205,18 +205,6 @@ const REFUSED: [(&str, &str, u8, &str); 9] = [
         "[[0, -1, 0, 1], [0, -1, 0, 1]]",
         6,
         "game refused 8 at schedule 2\n",
-    ),
-    (
-        "patrols = 1\ntargets = [\"gate\", \"hall\"]",
-        "[[2, -2, 0, 4], [1, -1, 0, 2]]",
-        3,
-        "not yet\n",
-    ),
-    (
-        "targets = [\"a\"]\nresource = []\nschedule = []",
-        "[[2, -2, 0, 4]]",
-        3,
-        "not yet\n",
     ),
 ];
 

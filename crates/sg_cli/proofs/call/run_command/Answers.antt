@@ -6,11 +6,11 @@ use Rattle.sg_cli.proofs.call.run_command.Goals as goal
 
 pub returns-in-Ok-Some-Solve-clause-ok : goal.returns-in-Ok-Some-Solve-clause-ok
 returns-in-Ok-Some-Solve-clause-ok g c =
-    does _ (commands.solve c.in-Ok-Some-Solve.game.now) (sym c.in-Ok-Some-Solve.ensures.answer ∙ ap (option_map commands.asked_of) (c.in-Ok-Some-Solve.field-0-is ∙ ap Some c.in-Ok-Some-Solve.field-0-0-is)) c.solve_named.result c.solve_named.ensures.ok
+    does _ (commands.solve c.in-Ok-Some-Solve.game.now c.in-Ok-Some-Solve.budget c.in-Ok-Some-Solve.order) (sym c.in-Ok-Some-Solve.ensures.answer ∙ ap (option_map commands.asked_of) (c.in-Ok-Some-Solve.field-0-is ∙ ap Some c.in-Ok-Some-Solve.field-0-0-is)) c.solve_named.result c.solve_named.ensures.ok
 
 pub returns-in-Ok-Some-Solve-clause-err : goal.returns-in-Ok-Some-Solve-clause-err
 returns-in-Ok-Some-Solve-clause-err g c =
-    comes _ (commands.solve c.in-Ok-Some-Solve.game.now) (sym c.in-Ok-Some-Solve.ensures.answer ∙ ap (option_map commands.asked_of) (c.in-Ok-Some-Solve.field-0-is ∙ ap Some c.in-Ok-Some-Solve.field-0-0-is)) c.solve_named.result c.solve_named.ensures.err
+    comes _ (commands.solve c.in-Ok-Some-Solve.game.now c.in-Ok-Some-Solve.budget c.in-Ok-Some-Solve.order) (sym c.in-Ok-Some-Solve.ensures.answer ∙ ap (option_map commands.asked_of) (c.in-Ok-Some-Solve.field-0-is ∙ ap Some c.in-Ok-Some-Solve.field-0-0-is)) c.solve_named.result c.solve_named.ensures.err
 
 pub returns-in-Ok-Some-Check-clause-ok : goal.returns-in-Ok-Some-Check-clause-ok
 returns-in-Ok-Some-Check-clause-ok g c =

@@ -8,11 +8,11 @@ use Rattle.sg_cli.proofs.Stopping.{solve_no_game, solve_unread, unsolved}
 use Rattle.sg_cli.proofs.solving.solution_named.Goals as goal
 
 pub returns-in-Err-clause-err : goal.returns-in-Err-clause-err
-returns-in-Err-clause-err g c = solve_unread _ c.args.name.now _ _ c.in-Err.refusal c.in-Err.ensures.err
+returns-in-Err-clause-err g c = solve_unread _ c.args.name.now c.args.budget.now c.args.order.now _ _ c.in-Err.refusal c.in-Err.ensures.err
 
 pub returns-in-Err-game_of-clause-err : goal.returns-in-Err-game_of-clause-err
 returns-in-Err-game_of-clause-err g c =
-    solve_no_game _ c.args.name.now _ _ c.in-Ok.bytes.items c.in-Err-game_of.refusal c.in-Ok.ensures.ok
+    solve_no_game _ c.args.name.now c.args.budget.now c.args.order.now _ _ c.in-Ok.bytes.items c.in-Err-game_of.refusal c.in-Ok.ensures.ok
     (subst (λ (b : List ℕ). GivesNoGame (game_of_bytes b) c.in-Err-game_of.refusal) c.deref.ensures.value c.in-Err-game_of.ensures.err)
 
 pub returns-in-Ok-solved-clause-ok : goal.returns-in-Ok-solved-clause-ok
@@ -27,5 +27,5 @@ returns-in-Ok-solved-clause-ok g c =
 pub returns-clause-err : goal.returns-clause-err
 returns-clause-err g c =
     let says : game_of_bytes c.in-Ok.bytes.items ≡ Ok c.in-Ok-game_of.game = subst (λ (b : List ℕ). game_of_bytes b ≡ Ok c.in-Ok-game_of.game) c.deref.ensures.value c.in-Ok-game_of.ensures.ok in
-    unsolved _ c.args.name.now _ _ c.in-Ok-game_of.game c.in-Err-solved.refusal
+    unsolved _ c.args.name.now c.args.budget.now c.args.order.now _ _ c.in-Ok-game_of.game c.in-Err-solved.refusal
     (first_read _ _ _ (game_file c.args.name.now) c.in-Ok.bytes.items (game c.in-Ok-game_of.game) c.in-Ok.ensures.ok (ap (held_as game faults.Game) says)) c.in-Err-solved.ensures.err
