@@ -34,7 +34,7 @@ use Rattle.sg_cert.specs.Text.{report_text}
 use Rattle.sg_solve.specs.Answers.{IsLevelAnswer, IsSearchAnswer}
 use Rattle.sg_solve.specs.Solutions.{IsOptimalReport}
 use Rattle.sg_solve.proofs.Few.{right_few}
-use Rattle.sg_cli.specs.Solving.{IsAnswered}
+use Rattle.sg_cli.specs.Solving.{IsSolved}
 use Rattle.sg_cli.specs.Laws.{RightReportsAreShort}
 
 -- ---- numbers
@@ -177,5 +177,5 @@ most : (scaled : Bool) (n : ℕ) → n ≤ (if scaled then 2 ^ 24 else 2 ^ 29) �
 most true n h = omega (arith, h)
 most false n h = omega (arith, h)
 
-pub readable : (g : Game) → IsGame g → (b : Budget) (o : Order) (r : Report) → IsAnswered g b o r → length (report_text r) ≤ 536870912
+pub readable : (g : Game) → IsGame g → (b : Budget) (o : Order) (r : Report) → IsSolved g b o r → length (report_text r) ≤ 536870912
 readable g is b o r a = most (is_scaled g) (length (report_text r)) (short g is b o r a)

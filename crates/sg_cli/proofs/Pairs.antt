@@ -25,7 +25,7 @@ use Rattle.sg_cli.specs.ExpectedStatus.{ExpectedStatus}
 use Rattle.sg_cli.specs.Judging.{IsJudged, judging}
 use Rattle.sg_cli.specs.Laws.{IsWritten, SolvedIsChecked}
 use Rattle.sg_cli.specs.Showing.{ends_shown, writes_table}
-use Rattle.sg_cli.specs.Solving.{IsAnswered}
+use Rattle.sg_cli.specs.Solving.{IsSolved}
 use Rattle.sg_cli.specs.declared.input.InputFault.{InputFault}
 use Rattle.sg_cli.specs.declared.input.InputFault.TheVariants as faults
 use Rattle.sg_cli.proofs.Completes.{by_said}
@@ -37,7 +37,7 @@ is_accepted : (g : Game) (b : Budget) (o : Order) (r : Report) (worked : List Wo
 is_accepted g b o r worked true a = a.right.accepted
 is_accepted g b o r worked false a = a.accepted
 
-pub judged : (g : Game) → IsGame g → (b : Budget) (o : Order) (r : Report) → IsAnswered g b o r → IsJudged g r
+pub judged : (g : Game) → IsGame g → (b : Budget) (o : Order) (r : Report) → IsSolved g b o r → IsJudged g r
 judged g is b o r a =
     let accepted : IsAccepted g r = is_accepted g b o r a.worked (is_scaled g) a.answer in
     record { accepted = accepted; means = accepted_means g is r accepted }

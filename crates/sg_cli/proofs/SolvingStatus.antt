@@ -22,7 +22,7 @@ use Rattle.sg_cli.specs.Inputs.{Content, content_of, game, held_as, report}
 use Rattle.sg_cli.specs.ExpectedStatus.{ByContent, ByFile, ByPlan, ByRest, ExpectedStatus}
 use Rattle.sg_cli.specs.Laws.{AsksToSearch, IsDecided}
 use Rattle.sg_cli.specs.Refusals.{own_status}
-use Rattle.sg_cli.specs.Solving.{IsAnswered, ends_solved, solving}
+use Rattle.sg_cli.specs.Solving.{IsSolved, ends_solved, solving}
 use Rattle.sg_cli.specs.Steps.{HasSolution}
 use Rattle.sg_cli.proofs.OneStatus.{IsOne, just, one_refusal, one_taken}
 use Rattle.sg_cli.specs.declared.input.InputFault.TheVariants as faults

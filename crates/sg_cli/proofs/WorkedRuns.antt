@@ -22,7 +22,8 @@ use Rattle.sg_cli.specs.ExpectedStatus.{ByRest, ExpectedStatus}
 use Rattle.sg_cli.specs.Judging.{IsJudged, judging}
 use Rattle.sg_cli.specs.Showing.{ends_shown, writes_table}
 use Rattle.sg_cli.specs.Solving.{solving}
-use Rattle.sg_cli.specs.WorkedRuns.{HoldsBytes, HoldsPair, WorkedChecks, WorkedLimits, WorkedRefusals, wrong_report, usual_budget, usual_order}
+use Rattle.sg_words.specs.WorkedCommands.{usual_budget, usual_order}
+use Rattle.sg_cli.specs.WorkedRuns.{HoldsBytes, HoldsPair, WorkedChecks, WorkedLimits, WorkedRefusals, wrong_report}
 use Rattle.sg_cli.specs.declared.input.InputFault.TheVariants as faults
 use Rattle.sg_cli.specs.declared.refusal.CommandRefusal.TheVariants.{ReportWrong}
 use Rattle.sg_cli.proofs.Completes.{by_faulty, by_longer, by_said}

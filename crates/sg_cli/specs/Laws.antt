@@ -13,7 +13,7 @@ use Rattle.sg_cli.specs.Inputs.{input_limit}
 use Rattle.sg_cli.specs.Commands.{IsSuccess}
 use Rattle.sg_cli.specs.CommandList.{command_for}
 use Rattle.sg_solve.specs.Answers.{IsServed}
-use Rattle.sg_cli.specs.Solving.{IsAnswered, WritesAnswer}
+use Rattle.sg_cli.specs.Solving.{IsSolved, WritesAnswer}
 use Rattle.sg_cli.specs.Checking.{checking}
 use Rattle.sg_cli.specs.Showing.{showing}
 use Rattle.sg_cli.specs.ExpectedStatus.{ExpectedStatus}
@@ -42,7 +42,7 @@ OneStatusIsDue = (files : Files) (asked : Asked) → IsDecided files asked
 
 -- a right report on a game of identical patrols has at most 16 MiB, and any answer's no more than a report's file may have
 abbrev pub RightReportsAreShort : Type 0
-RightReportsAreShort = (g : Game) → IsGame g → (b : Budget) (o : Order) (r : Report) → IsAnswered g b o r → length (report_text r) ≤ (if is_scaled g then 2 ^ 24 else 2 ^ 29)
+RightReportsAreShort = (g : Game) → IsGame g → (b : Budget) (o : Order) (r : Report) → IsSolved g b o r → length (report_text r) ≤ (if is_scaled g then 2 ^ 24 else 2 ^ 29)
 
 -- the files hold a game that is served, and a text that `solve` writes for it with some budget in some order
 pub record IsWritten (files : Files) (game report : List ℕ) : Type 0 where

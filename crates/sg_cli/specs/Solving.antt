@@ -16,7 +16,7 @@ use Rattle.sg_cli.specs.declared.refusal.CommandRefusal.{CommandRefusal}
 use Rattle.sg_cli.specs.declared.refusal.CommandRefusal.TheVariants.{NotYet}
 
 -- a report that is an answer for the game with this budget in this order, and whose text is a report text
-pub record IsAnswered (g : Game) (b : Budget) (o : Order) (r : Report) : Type 0 where
+pub record IsSolved (g : Game) (b : Budget) (o : Order) (r : Report) : Type 0 where
   pub worked : List Worked
   pub answer : IsAnswer g b o r worked
   pub in_ranges : IsReport r
@@ -40,7 +40,7 @@ ends_solved _ status = ⊥
 -- the text of an answer for the game is written, and the status tells whether its bounds meet
 pub record WritesAnswer (g : Game) (b : Budget) (o : Order) (status : ℕ) (text : List ℕ) : Type 0 where
   pub report : Report
-  pub answer : IsAnswered g b o report
+  pub answer : IsSolved g b o report
   pub status_is : status ≡ yes_status report
   pub written : text ≡ report_text report
 

@@ -15,7 +15,7 @@ use Rattle.sg_cli.specs.Effects.{IsLongWhereTold}
 use Rattle.sg_options.specs.declared.budget.Budget.{Budget}
 use Rattle.sg_options.specs.declared.order.Order.{Order}
 use Rattle.sg_solve.specs.Answers.{IsServed}
-use Rattle.sg_cli.specs.Solving.{IsAnswered, refuses_unserved}
+use Rattle.sg_cli.specs.Solving.{IsSolved, refuses_unserved}
 use Rattle.sg_cli.specs.Judging.{IsJudged, judging}
 use Rattle.sg_cli.specs.declared.input.InputFault.TheVariants as faults
 use Rattle.sg_cli.specs.declared.input.InputKind.{InputKind}
@@ -66,7 +66,7 @@ SolvingFails g _ = ⊥
 -- an answer for a game that is served
 pub record IsSolution (g : Game) (b : Budget) (o : Order) (r : Report) : Type 0 where
   pub is_served : IsServed g
-  pub answer : IsAnswered g b o r
+  pub answer : IsSolved g b o r
 
 -- the file holds a game, for which this is an answer
 pub record HasSolution (hands : HandsOver) (name : List ℕ) (b : Budget) (o : Order) (before after : ShelfState) (r : Report) : Type 0 where

@@ -13,11 +13,8 @@ use Rattle.sg_cert.specs.declared.fault.ReportFault.{ReportFault}
 use Rattle.sg_cert.specs.Reading.{report_of}
 use Rattle.sg_bounds.specs.Examples.{first_fact, one_type_report, one_type_tree, over, reported, second_fact, spent_report, two_to_one}
 use Rattle.sg_shelf.specs.Files.{Files, bytes_under}
-use Rattle.sg_options.specs.declared.budget.Budget.{Budget}
-use Rattle.sg_options.specs.declared.order.Order.{Order}
-use Rattle.sg_options.specs.declared.order.Choice.TheVariants.{Auto}
-use Rattle.sg_options.specs.declared.order.Walk.TheVariants.{File}
 use Rattle.sg_words.specs.Commands.{Asked, solve, check, show}
+use Rattle.sg_words.specs.WorkedCommands.{usual_budget, usual_order}
 use Rattle.sg_cli.specs.Inputs as inputs
 use Rattle.sg_cli.specs.CommandList.{command_for}
 use Rattle.sg_cli.specs.ExpectedStatus.{ExpectedStatus}
@@ -70,13 +67,6 @@ IsTextOf asked g r status text =
 pub record HoldsBytes (files : Files) (name bytes : List ℕ) (size : ℕ) : Type 0 where
   pub stands : bytes_under files name ≡ Some bytes
   pub count : length bytes ≡ size
-
--- the budget and the order of words that name none
-abbrev pub usual_budget : Budget
-usual_budget = record { nodes = 100000; pivots = 100000; looks = 100000000 }
-
-abbrev pub usual_order : Order
-usual_order = record { walk = File; lanes = 1; seed = 0; family = Auto }
 
 -- a game of 4 MiB and a report of 512 MiB are read, and no longer ones
 pub record WorkedLimits : Type 0 where

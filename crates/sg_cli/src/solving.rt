@@ -4,7 +4,7 @@ ghost use Rattle.std.specs.Prelude.{◌≡◌, ◌≢◌, ◌≤◌, ◌↔◌, 
 ghost use Rattle.sg_options.specs.Options.{IsBudget, IsOrder};
 ghost use Rattle.sg_solve.specs.Answers.{IsServed};
 ghost use Rattle.sg_cli.specs.Effects.{Fails, IsDone, Stops, surroundings};
-ghost use Rattle.sg_cli.specs.Solving.{IsAnswered, solving};
+ghost use Rattle.sg_cli.specs.Solving.{IsSolved, solving};
 ghost use Rattle.sg_cli.specs.Steps.{HasSolution, IsSolution, SolvingFails};
 
 use crate::checking::yes_status;
@@ -43,7 +43,7 @@ fn report_on(
     requires budget { IsBudget budget.now }
     requires order { IsOrder order.now }
     requires served { IsServed game.now }
-    ensures { IfOk result (IsAnswered game.now budget.now order.now) }
+    ensures { IfOk result (IsSolved game.now budget.now order.now) }
 {
     let answer = solve(alloc, game, budget, order)?;
     lies_in_ranges(game, budget, order, &answer);

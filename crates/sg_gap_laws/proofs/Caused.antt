@@ -34,7 +34,7 @@ use Rattle.sg_programs.specs.CauseRows.{AreLeavesBarred, AreNodesSpent, HasParen
 use Rattle.sg_programs.specs.Enough.{node_budget}
 use Rattle.sg_programs.specs.NodeTests.{ClosesNode, Method, StopsNode}
 use Rattle.sg_programs.proofs.NodeEnds.{stop_is_cause}
-use Rattle.sg_gap_laws.specs.Ends.{HasEnded, IsEndReport, cause_due, first_cause}
+use Rattle.sg_gap_laws.specs.Ends.{HasEnded, IsEndReport, cause_due, stuck_or_spent}
 use Rattle.sg_gap_laws.specs.GapLaws.{GapIsCaused}
 use Rattle.sg_gap_laws.proofs.Barred.{tree-barred, tree-closed}
 use Rattle.sg_gap_laws.proofs.Compared.{above-same}
@@ -54,7 +54,7 @@ Due p t why = ((t.stuck ≡ []) × (why ≡ cause.Nodes p.nodes)) ⊎ ((x : Stuc
 pub due : (p : Task) (t : Search) → Due p t (cause_due p t)
 due p t = by t.stuck refl
   where
-    by : (xs : List Stuck) → t.stuck ≡ xs → Due p t (first_cause p.nodes xs)
+    by : (xs : List Stuck) → t.stuck ≡ xs → Due p t (stuck_or_spent p.nodes xs)
     by [] e = inl (e, refl)
     by (x ∷ xs) e = inr (x, subst (λ (l : List Stuck). Contains l x) (sym e) (here-in x xs), refl)
 

@@ -33,13 +33,13 @@ pub record HasEnded (g : Game) (m : Method) (p : Task) (t : Search) : Type 0 whe
   pub stops : All (λ (x : Stuck). StopsNode g m x.node x.cause) t.stuck
 
 -- the cause of the first stuck node, or where nothing is stuck that so many nodes are spent
-abbrev pub first_cause : ℕ → List Stuck → Cause
-first_cause nodes [] = cause.Nodes nodes
-first_cause nodes (x ∷ xs) = x.cause
+abbrev pub stuck_or_spent : ℕ → List Stuck → Cause
+stuck_or_spent nodes [] = cause.Nodes nodes
+stuck_or_spent nodes (x ∷ xs) = x.cause
 
 -- the cause that is due where the bounds of an end don't meet
 abbrev pub cause_due : Task → Search → Cause
-cause_due p t = first_cause p.nodes t.stuck
+cause_due p t = stuck_or_spent p.nodes t.stuck
 
 -- the report of an end: what is read off the search; it says that its bounds meet, or else the cause that is due
 pub record IsEndReport (p : Task) (t : Search) (r : Report) : Type 0 where

@@ -172,7 +172,7 @@ module _ (g : Game) (game : IsGame g) (unscaled : g.scale ≡ pos 0) (b : Budget
       ending = verdict-is ending ends;
     }
 
-    due : (xs : List Stuck) (why : Cause) → why ≡ unwrap_or (Rattle.sg_lanes.specs.Ends.first_cause xs) (cause.Nodes p.nodes) → why ≡ Rattle.sg_gap_laws.specs.Ends.first_cause p.nodes xs
+    due : (xs : List Stuck) (why : Cause) → why ≡ unwrap_or (Rattle.sg_lanes.specs.Ends.first_cause xs) (cause.Nodes p.nodes) → why ≡ Rattle.sg_gap_laws.specs.Ends.stuck_or_spent p.nodes xs
     due [] why is = is
     due (x ∷ xs) why is = is
 
@@ -190,7 +190,7 @@ module _ (g : Game) (game : IsGame g) (unscaled : g.scale ≡ pos 0) (b : Budget
     stuck-cause x xs stops here (cause.Looks budget step fix) is at = (x, (at, is))
     stuck-cause x xs stops here (cause.Wide name w step fix) is at = (x, (at, is))
 
-    cause-of : (xs : List Stuck) → s.stuck ≡ xs → (why : Cause) → why ≡ Rattle.sg_gap_laws.specs.Ends.first_cause p.nodes xs → IsCauseOf p s why
+    cause-of : (xs : List Stuck) → s.stuck ≡ xs → (why : Cause) → why ≡ Rattle.sg_gap_laws.specs.Ends.stuck_or_spent p.nodes xs → IsCauseOf p s why
     cause-of [] is why q = subst (IsCauseOf p s) (sym q) refl
     cause-of (x ∷ xs) is why q =
         let at : Contains (x ∷ xs) x = Rattle.sg_search.proofs.Listing.here-in x xs in
