@@ -60,12 +60,13 @@ const FRONTS: [(&[&str], &str, u8, &str, &str); 3] = [
         "patrol-report 1\ntickets 2 2\nt 1 1\nt 1 2\nvalue -1 2\n",
         "upper -1 2\nverdict optimal\nend\n",
     ),
+    // One look finds the column of the idle play, and more are needed behind it.
     (
         &["--looks", "1"],
         SHARED,
         10,
         "patrol-report 1\ntickets 1 1\nt 1 0\nvalue -1 1\n",
-        "upper 0 1\nverdict gap looks 1 0 1 1 1\nend\n",
+        "upper 0 1\nverdict gap looks 1 1 1 1 1\nend\n",
     ),
 ];
 
