@@ -52,9 +52,12 @@ expect 6 'game refused 1 at document' solve not-utf8.toml
 expect 6 'game refused 1 at document' solve not-toml.toml
 expect 6 'game refused 3 at document' solve empty.toml
 expect 6 'game refused 3 at document' solve comment.toml
-expect 3 'not yet' solve "$top/examples/two-attackers.toml"
-expect 3 'not yet' solve "$top/examples/marshals.toml"
-expect 3 'not yet' solve "$top/examples/inspection.toml"
+printf 'version = 1\nform = "security"\npatrols = 13\ntargets = ["gate"]\n\n[[type]]\nname = "thief"\nprior = 1\npayoffs = [[1, -1, 0, 1]]\n' >many-plays.toml
+expect 3 'not yet' solve many-plays.toml
+for words in '--nodes 0' '--nodes 1000001' '--pivots 0' '--looks x' '--family priced' '--order depth' '--lanes 9' '--lanes 0' '--nodes=1 --nodes=2'; do
+  # shellcheck disable=SC2086
+  expect 2 'words refused' solve "$game" $words
+done
 
 "$program" solve "$game" >right.report
 sed 's/^value 2 3/value 1 1/' right.report >wrong.report
