@@ -1,5 +1,5 @@
 -- Told files decide one status for `solve`, or the two of success, and what is done with a solution.
-use Rattle.std.proofs.Common.{◌≡◌, ◌⊎◌, ℕ, zero, suc, ◌≤◌, ◌<◌, Bool, true, false, MatchBool, nat_lt, List, [], ◌∷◌, length, Option, Some, None, Result, Ok, Err, refl, sym, ◌∙◌, ap, subst, arith, inl, inr}
+use Rattle.std.proofs.Common.{◌≡◌, ◌⊎◌, ℕ, zero, suc, ◌≤◌, ◌<◌, Bool, true, false, MatchBool, if◌then◌else◌, nat_lt, List, [], ◌∷◌, length, Option, Some, None, Result, Ok, Err, refl, sym, ◌∙◌, ap, subst, arith, inl, inr}
 use Rattle.sg_options.specs.declared.budget.Budget.{Budget}
 use Rattle.sg_options.specs.declared.order.Order.{Order}
 use Rattle.sg_model.specs.declared.fault.GameFault.{GameFault}
@@ -62,7 +62,7 @@ module _ (files : Files) (name : List ℕ) (budget : Budget) (order : Order) whe
   ByGame g = ByRest (solving name budget order) files (game g ∷ []) []
 
   searched : (g : Game) → is_scaled g ≡ false → AsksToSearch files (solve name budget order) → play_count g ≤ 4096 → IsOneOr (ByGame g)
-  searched g e asks few = (0, inr ((λ unscaled. few), subst (λ s. MatchBool s (0 ≡ 0) (IsSuccess 0)) (sym e) (inl refl)), other)
+  searched g e asks few = (0, inr ((λ unscaled. few), subst (λ s. MatchBool s (◌≡◌ {A = ℕ} 0 0) (IsSuccess 0)) (sym e) (inl refl)), other)
     where
       other : (status : ℕ) → ByGame g status → (status ≡ 0) ⊎ (AsksToSearch files (solve name budget order) × IsSuccess 0 × IsSuccess status)
       other status (inl h) = absurd (no_refusal g (λ unscaled. few) h.0 h.1)
@@ -104,7 +104,7 @@ module _ (files : Files) (name : List ℕ) (budget : Budget) (order : Order) whe
     where
       other : (status : ℕ) → ExpectedStatus (solving name budget order) files status
           → (status ≡ n.0) ⊎ (AsksToSearch files (solve name budget order) × IsSuccess n.0 × IsSuccess status)
-      other status (inl h) = absurd h.1.0
+      other status (inl h) = absurd h.1
       other status (inr h) = n.2 status h.1
 
   pub one_solving : IsDecided files (solve name budget order)

@@ -1,6 +1,6 @@
 //! A search over a desk.
 
-ghost use Rattle.std.specs.Prelude.{◌≡◌, ◌≤◌, pos};
+ghost use Rattle.std.specs.Prelude.{◌≡◌, ◌≤◌, IsTrue, pos};
 ghost use Rattle.sg_model.specs.PlayLists.{play_count};
 
 use crate::watched::{Call, Watched};
@@ -30,7 +30,13 @@ impl<'a> Model for Session<'a> {
 }
 
 /// Whether a search may be made: the game has no scale and at most 4,096 plays, there are 1 to 8 lanes, and at most 1,000,000 nodes may be worked.
-fn may_start(game: &Game, lanes: u8, nodes: u64) -> bool {
+fn may_start(game: &Game, lanes: u8, nodes: u64) -> bool
+    ensures unscaled { IsTrue result → game.now.scale ≡ pos 0 }
+    ensures few { IsTrue result → play_count game.now ≤ 4096 }
+    ensures some { IsTrue result → 1 ≤ lanes }
+    ensures most { IsTrue result → lanes ≤ 8 }
+    ensures nodes { IsTrue result → nodes ≤ 1000000 }
+{
     if game.scale() != 0 || lanes == 0 || lanes > 8 || nodes > 1_000_000 {
         return false;
     }

@@ -9,7 +9,7 @@ returns-in-Err-clause-err g c = fails_by _ (solving c.args.name.now c.args.budge
 
 pub returns-in-Ok-write_report-clause-ok : goal.returns-in-Ok-write_report-clause-ok
 returns-in-Ok-write_report-clause-ok g c =
-    put_solution _ c.args.name.now c.args.budget.now c.args.order.now _ _ c.in-Ok.report c.in-Ok.ensures.ok _ _ _ c.in-Ok-write_report.yes_status.ensures c.in-Ok-write_report.ensures.whole
+    put_solution _ c.args.name.now c.args.budget.now c.args.order.now _ _ c.in-Ok.report c.in-Ok.ensures.ok _ _ _ c.yes_status.ensures c.in-Ok-write_report.ensures.whole
 
 pub returns-clause-err : goal.returns-clause-err
 returns-clause-err g c = (
