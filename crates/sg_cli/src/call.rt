@@ -36,11 +36,15 @@ fn run_command<S: Shelf, O: Sink>(
         (surroundings (S.state shelf.old) (O.state out.old)) (surroundings (S.state shelf.new) (O.state out.new)))) }
 {
     match command_of(alloc, words) {
-        Ok(Some(Command::Solve {
-            game,
-            budget,
-            order,
-        })) => solve_named(alloc, game, &budget, &order, shelf, out),
+        Ok(
+            Some(
+                Command::Solve {
+                    game,
+                    budget,
+                    order,
+                },
+            ),
+        ) => solve_named(alloc, game, &budget, &order, shelf, out),
         Ok(Some(Command::Check { game, report })) => check_named(alloc, game, report, shelf, out),
         Ok(Some(Command::Show { game, report })) => show_named(alloc, game, report, shelf, out),
         Ok(Some(Command::Roster { game, report, seed })) => {

@@ -212,7 +212,7 @@ module _ (g : Game) (game : IsGame g) (lanes nodes : ℕ) (few : nodes ≤ 10000
 fields-same : (root value : Fraction) (shift : ℤ) (best : Committed) (group : Option Fraction) (shift0 : ℤ) (caps caps0 : List Cap) (parts parts0 lone lone0 tops tops0 undone undone0 : List Fix) (ripe ripe0 : List Ripe)
     → shift ≡ shift0 → caps ≡ caps0 → parts ≡ parts0 → lone ≡ lone0 → tops ≡ tops0 → undone ≡ undone0 → ripe ≡ ripe0
     → ◌≡◌ {A = Frontier} (record { root = root; shift = shift; best = best; value = value; caps = caps; parts = parts; group = group; lone = lone; tops = tops; undone = undone; ripe = ripe })
-      (record { root = root; shift = shift0; best = best; value = value; caps = caps0; parts = parts0; group = group; lone = lone0; tops = tops0; undone = undone0; ripe = ripe0 })
+    (record { root = root; shift = shift0; best = best; value = value; caps = caps0; parts = parts0; group = group; lone = lone0; tops = tops0; undone = undone0; ripe = ripe0 })
 fields-same root value shift best group shift0 caps caps0 parts parts0 lone lone0 tops tops0 undone undone0 ripe ripe0 a b c d e f g = cc
 
 lists-same : (lanes lanes0 : List (Option Held)) (splits splits0 : List (List ℕ)) (worked worked0 : List Worked) (stuck stuck0 : List Stuck) → lanes ≡ lanes0 → splits ≡ splits0 → worked ≡ worked0 → stuck ≡ stuck0
@@ -224,7 +224,7 @@ pub start-kept : (g : Game) (count nodes : ℕ) → IsGame g → nodes ≤ 10000
     → best.tickets ≡ first_tickets g → IsCommitted best → IsFirst g best.tickets → Stands root (root_bound g) → Stands value (value_fraction g best.tickets)
     → lanes ≡ replicate count None → splits ≡ [] ∷ [] → worked ≡ [] → stuck ≡ [] → shift ≡ shift_of g → caps ≡ most_caps g → parts ≡ Rattle.sg_search.proofs.Told.parts g [] → lone ≡ cap_nodes g → tops ≡ Rattle.sg_search.proofs.Told.parts g [] → undone ≡ cap_nodes g → ripe ≡ []
     → IsFrontier (task_on g count nodes) (record { lanes = lanes; splits = splits; worked = worked; stuck = stuck })
-      (record { root = root; shift = shift; best = best; value = value; caps = caps; parts = parts; group = Some root; lone = lone; tops = tops; undone = undone; ripe = ripe })
+    (record { root = root; shift = shift; best = best; value = value; caps = caps; parts = parts; group = Some root; lone = lone; tops = tops; undone = undone; ripe = ripe })
 start-kept g count nodes game few root value shift best lanes splits worked stuck caps parts lone tops undone ripe is_best committed first is_root is_value a b c d e h i j k l m =
     let p : Task = task_on g count nodes in
     let kept = first-kept g game count nodes few (subst (IsFirst g) is_best first) root value best is_root committed is_best (subst (λ (ts : List Ticket). Stands value (value_fraction g ts)) is_best is_value) in

@@ -32,7 +32,10 @@ fn put_fact<'w>(facts: &mut BTreeMap<&'w [u16], &'w Fact>, w: &'w Worked) -> Res
 }
 
 /// The facts of the worked prefixes, by their lists.
-fn index_facts<'w>(alloc: Global, worked: &'w [Worked]) -> Result<BTreeMap<&'w [u16], &'w Fact>, AllocError>
+fn index_facts<'w>(
+    alloc: Global,
+    worked: &'w [Worked],
+) -> Result<BTreeMap<&'w [u16], &'w Fact>, AllocError>
     ensures { IfOk result (λ facts. HasFacts worked.now facts) }
 {
     let mut facts = BTreeMap::new(alloc);
@@ -45,7 +48,10 @@ fn index_facts<'w>(alloc: Global, worked: &'w [Worked]) -> Result<BTreeMap<&'w [
 }
 
 /// The lists of the split prefixes.
-fn index_splits<'w>(alloc: Global, splits: &'w [Items<u16>]) -> Result<BTreeSet<&'w [u16]>, AllocError>
+fn index_splits<'w>(
+    alloc: Global,
+    splits: &'w [Items<u16>],
+) -> Result<BTreeSet<&'w [u16]>, AllocError>
     ensures { IfOk result (λ lists. HasSplits splits.now lists) }
 {
     let mut lists = BTreeSet::new(alloc);
@@ -56,7 +62,11 @@ fn index_splits<'w>(alloc: Global, splits: &'w [Items<u16>]) -> Result<BTreeSet<
 }
 
 /// The fact of a prefix, where it is worked, copied.
-fn copy_fact(alloc: Global, facts: &BTreeMap<&[u16], &Fact>, acts: &[u16]) -> Result<Option<Fact>, AllocError>
+fn copy_fact(
+    alloc: Global,
+    facts: &BTreeMap<&[u16], &Fact>,
+    acts: &[u16],
+) -> Result<Option<Fact>, AllocError>
     ensures { (worked : List Worked) → HasFacts worked facts.now → IfOk result (λ fact. fact ≡ fact_of worked (prefix acts.now)) }
 {
     match facts.get(acts) {
@@ -139,7 +149,12 @@ fn node(
 }
 
 /// The tree of these worked nodes and these split prefixes, made of copies of the facts.
-pub(crate) fn tree_of(alloc: Global, game: &Game, worked: &[Worked], splits: &[Items<u16>]) -> Result<Tree, AllocError>
+pub(crate) fn tree_of(
+    alloc: Global,
+    game: &Game,
+    worked: &[Worked],
+    splits: &[Items<u16>],
+) -> Result<Tree, AllocError>
     ensures { (lanes : List (Option Held)) (stuck : List Stuck) → IfOk result (λ tree. node_of tree ≡ tree_of game.now (record { lanes = lanes; splits = splits.now; worked = worked.now; stuck = stuck })) }
 {
     let facts = index_facts(alloc, worked)?;

@@ -94,7 +94,10 @@ fn first_commitment(alloc: Global, game: &Game) -> Result<Commitment, AllocError
     game.promises();
     let _priors = prior_total(game);
     let mut tickets = Items::new(alloc);
-    tickets.push(Ticket { play: least_play(alloc, game)?, weight: 1 })?;
+    tickets.push(Ticket {
+        play: least_play(alloc, game)?,
+        weight: 1,
+    })?;
     match Commitment::of_rising(tickets, 1) {
         Some(commitment) => Ok(commitment),
         None => unreachable!(),
@@ -103,7 +106,12 @@ fn first_commitment(alloc: Global, game: &Game) -> Result<Commitment, AllocError
 
 impl<'a> Lanes<'a> {
     /// A search on a game without a scale, with so many lanes and so many nodes that may be worked.
-    pub fn new(alloc: Global, game: &'a Game, lanes: u8, nodes: u64) -> Result<Lanes<'a>, AllocError>
+    pub fn new(
+        alloc: Global,
+        game: &'a Game,
+        lanes: u8,
+        nodes: u64,
+    ) -> Result<Lanes<'a>, AllocError>
         requires some { 1 ≤ lanes }
         requires few { lanes ≤ 8 }
         requires nodes { nodes ≤ 1000000 }

@@ -26,10 +26,12 @@ fn is_cap(end: &End, value: i64, facts: usize) -> bool {
 /// The first action of the first type is worked, with a bound above the incumbent under the plain cap of 4; the second is stuck; the first node of the
 /// cap is worked.
 fn works_three(alloc: Global, session: &mut Session<'_>) -> Result<bool, Fail> {
-    Ok(works_off(alloc, session, 0, 1, &[1])?
-        && works_off(alloc, session, 0, 1, &[2])?
-        && works_off(alloc, session, 0, 2, &[1])?
-        && may_choose(session, 1))
+    Ok(
+        works_off(alloc, session, 0, 1, &[1])?
+            && works_off(alloc, session, 0, 1, &[2])?
+            && works_off(alloc, session, 0, 2, &[1])?
+            && may_choose(session, 1),
+    )
 }
 
 /// The cap stays plain while one of its nodes waits.
@@ -76,12 +78,14 @@ fn are_waiting(alloc: Global) -> Result<bool, Fail> {
     match search(alloc, &game)? {
         Some(session) => {
             let mut session = session;
-            Ok(works_off(alloc, &mut session, 2, 2, &[1])?
-                && works_off(alloc, &mut session, 2, 2, &[2])?
-                && may_choose(&session, 2)
-                && works_off(alloc, &mut session, 0, 1, &[1])?
-                && works_off(alloc, &mut session, 0, 1, &[2])?
-                && session.enabled(1) == Ready::Nothing)
+            Ok(
+                works_off(alloc, &mut session, 2, 2, &[1])?
+                    && works_off(alloc, &mut session, 2, 2, &[2])?
+                    && may_choose(&session, 2)
+                    && works_off(alloc, &mut session, 0, 1, &[1])?
+                    && works_off(alloc, &mut session, 0, 1, &[2])?
+                    && session.enabled(1) == Ready::Nothing,
+            )
         }
         None => Ok(false),
     }

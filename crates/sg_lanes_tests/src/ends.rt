@@ -73,7 +73,11 @@ fn is_split_second(tree: &Tree) -> bool {
 /// Whether this is the whole tree.
 fn is_whole(tree: &Tree) -> bool {
     match tree {
-        Tree::Split { l: 1, base: None, parts } => match parts.as_slice() {
+        Tree::Split {
+            l: 1,
+            base: None,
+            parts,
+        } => match parts.as_slice() {
             [first, second] => is_closed(first, 1, 2) && is_split_second(second),
             _ => false,
         },
@@ -97,7 +101,11 @@ fn are_worked(end: &End) -> bool {
 }
 
 /// Whether a lane works these nodes off.
-fn are_worked_off(alloc: Global, session: &mut Session<'_>, nodes: &[(u32, u8, &'static [u16])]) -> Result<bool, Fail> {
+fn are_worked_off(
+    alloc: Global,
+    session: &mut Session<'_>,
+    nodes: &[(u32, u8, &'static [u16])],
+) -> Result<bool, Fail> {
     for (n, first, acts) in nodes {
         if !works_off(alloc, session, *n, *first, *acts)? {
             return Ok(false);
@@ -117,12 +125,14 @@ fn is_optimal(alloc: Global) -> Result<bool, Fail> {
         return Ok(false);
     }
     let end = session.end(alloc)?;
-    Ok(is_two_to_one(&end.tickets)
-        && end.value.num() == 11
-        && end.value.den() == 3
-        && is_whole(&end.tree)
-        && are_worked(&end)
-        && end.stuck.is_none())
+    Ok(
+        is_two_to_one(&end.tickets)
+            && end.value.num() == 11
+            && end.value.den() == 3
+            && is_whole(&end.tree)
+            && are_worked(&end)
+            && end.stuck.is_none(),
+    )
 }
 
 /// Whether the search stops after so many nodes.
@@ -157,7 +167,9 @@ fn is_barred(alloc: Global) -> Result<bool, Fail> {
     if !works_off(alloc, &mut session, 1, 2, &[1])? || !may_choose(&session, 2) {
         return Ok(false);
     }
-    if !works_off(alloc, &mut session, 0, 1, &[1])? || !works_off(alloc, &mut session, 0, 2, &[2])? {
+    if !works_off(alloc, &mut session, 0, 1, &[1])?
+        || !works_off(alloc, &mut session, 0, 2, &[2])?
+    {
         return Ok(false);
     }
     if work_off(alloc, &mut session, 2, 0)?.is_some() || session.enabled(1) != Ready::Nothing {

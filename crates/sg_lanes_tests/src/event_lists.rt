@@ -87,18 +87,30 @@ fn is_same(outcome: &Outcome, answer: Answer) -> bool {
 }
 
 /// An event in both machines: whether it comes to the same, and the lanes are then told the same.
-fn agrees(alloc: Global, session: &mut Session<'_>, plain: &mut Plain, e: Event) -> Result<bool, AllocError> {
+fn agrees(
+    alloc: Global,
+    session: &mut Session<'_>,
+    plain: &mut Plain,
+    e: Event,
+) -> Result<bool, AllocError> {
     let outcome = session.event(alloc, e)?;
     let answer = plain.event(e);
-    Ok(is_same(&outcome, answer)
-        && session.enabled(0) == plain.enabled(0)
-        && session.enabled(1) == plain.enabled(1)
-        && session.enabled(2) == plain.enabled(2)
-        && session.enabled(3) == plain.enabled(3))
+    Ok(
+        is_same(&outcome, answer)
+            && session.enabled(0) == plain.enabled(0)
+            && session.enabled(1) == plain.enabled(1)
+            && session.enabled(2) == plain.enabled(2)
+            && session.enabled(3) == plain.enabled(3),
+    )
 }
 
 /// Whether a list of events comes to the same.
-fn agree(alloc: Global, session: &mut Session<'_>, plain: &mut Plain, events: &[Event]) -> Result<bool, AllocError> {
+fn agree(
+    alloc: Global,
+    session: &mut Session<'_>,
+    plain: &mut Plain,
+    events: &[Event],
+) -> Result<bool, AllocError> {
     for event in events {
         if !agrees(alloc, session, plain, *event)? {
             return Ok(false);
@@ -108,7 +120,13 @@ fn agree(alloc: Global, session: &mut Session<'_>, plain: &mut Plain, events: &[
 }
 
 /// Whether the list of a number does: its events are the number's digits in base 6.
-fn agrees_on(alloc: Global, session: &mut Session<'_>, plain: &mut Plain, length: u8, number: u32) -> Result<bool, AllocError> {
+fn agrees_on(
+    alloc: Global,
+    session: &mut Session<'_>,
+    plain: &mut Plain,
+    length: u8,
+    number: u32,
+) -> Result<bool, AllocError> {
     let mut left = number;
     for _ in 0..length {
         match EVENTS.get(left as usize % 6) {
@@ -134,14 +152,21 @@ struct After<'a> {
 }
 
 /// Whether the list of a number does, after some first events.
-fn agrees_after(alloc: Global, game: &Game, after: After<'_>, number: u32) -> Result<bool, AllocError> {
+fn agrees_after(
+    alloc: Global,
+    game: &Game,
+    after: After<'_>,
+    number: u32,
+) -> Result<bool, AllocError> {
     let mut plain = Plain::new(after.lanes);
     match Session::new(alloc, game, after.lanes, 100, 1000)? {
         Some(session) => {
             let mut session = session;
-            Ok(agree(alloc, &mut session, &mut plain, after.first)?
-                && agree(alloc, &mut session, &mut plain, after.second)?
-                && agrees_on(alloc, &mut session, &mut plain, after.length, number)?)
+            Ok(
+                agree(alloc, &mut session, &mut plain, after.first)?
+                    && agree(alloc, &mut session, &mut plain, after.second)?
+                    && agrees_on(alloc, &mut session, &mut plain, after.length, number)?,
+            )
         }
         None => Ok(false),
     }
@@ -160,28 +185,48 @@ fn first_wrong(alloc: Global, after: After<'_>) -> Result<Option<u32>, Fail> {
 
 #[test]
 fn lists_of_events_with_one_lane(rt: HostRuntime) -> Result<(), Fail> {
-    let after = After { lanes: 1, first: &[], second: &[], length: 5 };
+    let after = After {
+        lanes: 1,
+        first: &[],
+        second: &[],
+        length: 5,
+    };
     assert_eq!(rt; first_wrong(rt.alloc(), after)?, None);
     Ok(())
 }
 
 #[test]
 fn lists_of_events_with_two_lanes(rt: HostRuntime) -> Result<(), Fail> {
-    let after = After { lanes: 2, first: &[], second: &[], length: 5 };
+    let after = After {
+        lanes: 2,
+        first: &[],
+        second: &[],
+        length: 5,
+    };
     assert_eq!(rt; first_wrong(rt.alloc(), after)?, None);
     Ok(())
 }
 
 #[test]
 fn lists_of_events_where_a_prefix_is_to_be_split(rt: HostRuntime) -> Result<(), Fail> {
-    let after = After { lanes: 2, first: &FOUR, second: &[], length: 4 };
+    let after = After {
+        lanes: 2,
+        first: &FOUR,
+        second: &[],
+        length: 4,
+    };
     assert_eq!(rt; first_wrong(rt.alloc(), after)?, None);
     Ok(())
 }
 
 #[test]
 fn lists_of_events_after_the_split(rt: HostRuntime) -> Result<(), Fail> {
-    let after = After { lanes: 2, first: &FOUR, second: &FIVE, length: 4 };
+    let after = After {
+        lanes: 2,
+        first: &FOUR,
+        second: &FIVE,
+        length: 4,
+    };
     assert_eq!(rt; first_wrong(rt.alloc(), after)?, None);
     Ok(())
 }

@@ -55,7 +55,14 @@ impl Plain {
         Plain {
             count,
             lanes: [FREE; 2],
-            places: [Place::Waiting, Place::Waiting, Place::Waiting, Place::Waiting, Place::Unknown, Place::Unknown],
+            places: [
+                Place::Waiting,
+                Place::Waiting,
+                Place::Waiting,
+                Place::Waiting,
+                Place::Unknown,
+                Place::Unknown,
+            ],
         }
     }
 
@@ -106,7 +113,11 @@ impl Plain {
                 count = count.saturating_add(1);
             }
         }
-        if count == 0 && self.may_split() { 1 } else { count }
+        if count == 0 && self.may_split() {
+            1
+        } else {
+            count
+        }
     }
 
     /// The node of a choice, from 0.
@@ -129,10 +140,18 @@ impl Plain {
             None => Ready::Nothing,
             Some(held) => {
                 if held.node != 0 {
-                    if held.ended { Ready::Finish } else { Ready::Turn }
+                    if held.ended {
+                        Ready::Finish
+                    } else {
+                        Ready::Turn
+                    }
                 } else {
                     let count = self.choices();
-                    if count == 0 { Ready::Nothing } else { Ready::Begin(count) }
+                    if count == 0 {
+                        Ready::Nothing
+                    } else {
+                        Ready::Begin(count)
+                    }
                 }
             }
         }
@@ -145,7 +164,14 @@ impl Plain {
             self.put(6, Place::Waiting);
         }
         self.put(node, Place::Held);
-        self.set(lane, Lane { node, moves: 0, ended: false });
+        self.set(
+            lane,
+            Lane {
+                node,
+                moves: 0,
+                ended: false,
+            },
+        );
         Answer::Took(node)
     }
 
@@ -158,10 +184,24 @@ impl Plain {
                     None => 0,
                 };
                 if held.moves < most {
-                    self.set(lane, Lane { node: held.node, moves: held.moves.saturating_add(1), ended: false });
+                    self.set(
+                        lane,
+                        Lane {
+                            node: held.node,
+                            moves: held.moves.saturating_add(1),
+                            ended: false,
+                        },
+                    );
                     Answer::Moved
                 } else {
-                    self.set(lane, Lane { node: held.node, moves: held.moves, ended: true });
+                    self.set(
+                        lane,
+                        Lane {
+                            node: held.node,
+                            moves: held.moves,
+                            ended: true,
+                        },
+                    );
                     Answer::Ended
                 }
             }

@@ -44,7 +44,12 @@ fn run_to_end(alloc: Global, session: &mut Session<'_>, lane: u8) -> Result<(), 
 }
 
 /// A lane takes a node by its number, works it and finishes it: the node, and none where it takes none or doesn't finish it.
-pub fn work_off(alloc: Global, session: &mut Session<'_>, lane: u8, n: u32) -> Result<Option<Fix>, AllocError> {
+pub fn work_off(
+    alloc: Global,
+    session: &mut Session<'_>,
+    lane: u8,
+    n: u32,
+) -> Result<Option<Fix>, AllocError> {
     match session.event(alloc, Event::Begin(lane, n))? {
         Outcome::Took(node) => {
             run_to_end(alloc, session, lane)?;
@@ -58,7 +63,13 @@ pub fn work_off(alloc: Global, session: &mut Session<'_>, lane: u8, n: u32) -> R
 }
 
 /// Whether a lane works off this node, which has this number.
-pub fn works_off(alloc: Global, session: &mut Session<'_>, n: u32, first: u8, acts: &[u16]) -> Result<bool, AllocError> {
+pub fn works_off(
+    alloc: Global,
+    session: &mut Session<'_>,
+    n: u32,
+    first: u8,
+    acts: &[u16],
+) -> Result<bool, AllocError> {
     match work_off(alloc, session, 1, n)? {
         Some(node) => Ok(is_node(&node, first, acts)),
         None => Ok(false),

@@ -28,7 +28,11 @@ static SECOND: [Case; 5] = [
 ];
 
 /// The place of the first event that comes to something else.
-fn first_wrong(alloc: Global, session: &mut Session<'_>, cases: &[Case]) -> Result<Option<usize>, Fail> {
+fn first_wrong(
+    alloc: Global,
+    session: &mut Session<'_>,
+    cases: &[Case],
+) -> Result<Option<usize>, Fail> {
     for (i, (event, wanted)) in cases.iter().enumerate() {
         let outcome = session.event(alloc, *event)?;
         if !came_to(&outcome, *wanted) {

@@ -39,7 +39,12 @@ fn note(calls: &mut Vec<Call>, call: Call) {
 
 impl<'a> Watched<'a> {
     /// A desk whose lanes hold nothing, for programs of so many moves.
-    pub fn new(alloc: Global, game: &'a Game, lanes: u8, pivots: u64) -> Result<Watched<'a>, AllocError>
+    pub fn new(
+        alloc: Global,
+        game: &'a Game,
+        lanes: u8,
+        pivots: u64,
+    ) -> Result<Watched<'a>, AllocError>
         requires unscaled { game.now.scale ≡ pos 0 }
         requires few { play_count game.now ≤ 4096 }
         requires some { 1 ≤ lanes }

@@ -7,29 +7,39 @@ use std::test::*;
 
 /// One attacker with two actions in matrix form. Its best commitment is two parts of `A` and one of `B`, against which both actions are worth
 /// the same to the attacker, who takes `y`.
-const ONE_TYPE: &str = "version = 1\nform = \"matrix\"\nrows = [\"A\", \"B\"]\n\n[[type]]\nname = \"thief\"\nprior = 1\nactions = [\"x\", \"y\"]\nleader = [[2, 4], [1, 3]]\nfollower = [[1, 0], [0, 2]]\n";
+const ONE_TYPE: &str =
+    "version = 1\nform = \"matrix\"\nrows = [\"A\", \"B\"]\n\n[[type]]\nname = \"thief\"\nprior = 1\nactions = [\"x\", \"y\"]\nleader = [[2, 4], [1, 3]]\nfollower = [[1, 0], [0, 2]]\n";
 
 /// The same with a second type as likely, which prefers the other action of each row.
-const TWO_TYPES: &str = "version = 1\nform = \"matrix\"\nrows = [\"A\", \"B\"]\n\n[[type]]\nname = \"thief\"\nprior = 1\nactions = [\"x\", \"y\"]\nleader = [[2, 4], [1, 3]]\nfollower = [[1, 0], [0, 2]]\n\n[[type]]\nname = \"vandal\"\nprior = 1\nactions = [\"x\", \"y\"]\nleader = [[2, 4], [1, 3]]\nfollower = [[0, 1], [2, 0]]\n";
+const TWO_TYPES: &str =
+    "version = 1\nform = \"matrix\"\nrows = [\"A\", \"B\"]\n\n[[type]]\nname = \"thief\"\nprior = 1\nactions = [\"x\", \"y\"]\nleader = [[2, 4], [1, 3]]\nfollower = [[1, 0], [0, 2]]\n\n[[type]]\nname = \"vandal\"\nprior = 1\nactions = [\"x\", \"y\"]\nleader = [[2, 4], [1, 3]]\nfollower = [[0, 1], [2, 0]]\n";
 
 /// Two resources, each with two schedules of two targets: no play covers all four targets.
-const CROSSED: &str = "version = 1\nform = \"security\"\ntargets = [\"t1\", \"t2\", \"t3\", \"t4\"]\n\n[[schedule]]\nname = \"s1\"\ntargets = [\"t1\", \"t2\"]\n\n[[schedule]]\nname = \"s2\"\ntargets = [\"t3\", \"t4\"]\n\n[[schedule]]\nname = \"s3\"\ntargets = [\"t1\", \"t3\"]\n\n[[schedule]]\nname = \"s4\"\ntargets = [\"t2\", \"t4\"]\n\n[[resource]]\nname = \"r1\"\nschedules = [\"s1\", \"s2\"]\n\n[[resource]]\nname = \"r2\"\nschedules = [\"s3\", \"s4\"]\n\n[[type]]\nname = \"thief\"\nprior = 1\npayoffs = [[0, -1, 0, 1], [0, -1, 0, 1], [0, -1, 0, 1], [0, -1, 0, 1]]\n";
+const CROSSED: &str =
+    "version = 1\nform = \"security\"\ntargets = [\"t1\", \"t2\", \"t3\", \"t4\"]\n\n[[schedule]]\nname = \"s1\"\ntargets = [\"t1\", \"t2\"]\n\n[[schedule]]\nname = \"s2\"\ntargets = [\"t3\", \"t4\"]\n\n[[schedule]]\nname = \"s3\"\ntargets = [\"t1\", \"t3\"]\n\n[[schedule]]\nname = \"s4\"\ntargets = [\"t2\", \"t4\"]\n\n[[resource]]\nname = \"r1\"\nschedules = [\"s1\", \"s2\"]\n\n[[resource]]\nname = \"r2\"\nschedules = [\"s3\", \"s4\"]\n\n[[type]]\nname = \"thief\"\nprior = 1\npayoffs = [[0, -1, 0, 1], [0, -1, 0, 1], [0, -1, 0, 1], [0, -1, 0, 1]]\n";
 
 /// One resource with two schedules that share a target.
-const SHARED: &str = "version = 1\nform = \"security\"\ntargets = [\"t1\", \"t2\", \"t3\"]\n\n[[schedule]]\nname = \"s1\"\ntargets = [\"t1\", \"t2\"]\n\n[[schedule]]\nname = \"s2\"\ntargets = [\"t2\", \"t3\"]\n\n[[resource]]\nname = \"r1\"\nschedules = [\"s1\", \"s2\"]\n\n[[type]]\nname = \"thief\"\nprior = 1\npayoffs = [[0, -1, 0, 1], [0, -1, 0, 1], [0, -1, 0, 1]]\n";
+const SHARED: &str =
+    "version = 1\nform = \"security\"\ntargets = [\"t1\", \"t2\", \"t3\"]\n\n[[schedule]]\nname = \"s1\"\ntargets = [\"t1\", \"t2\"]\n\n[[schedule]]\nname = \"s2\"\ntargets = [\"t2\", \"t3\"]\n\n[[resource]]\nname = \"r1\"\nschedules = [\"s1\", \"s2\"]\n\n[[type]]\nname = \"thief\"\nprior = 1\npayoffs = [[0, -1, 0, 1], [0, -1, 0, 1], [0, -1, 0, 1]]\n";
 
 /// Thirteen resources with one schedule each: 8,192 plays.
-const MANY_PLAYS: &str = "version = 1\nform = \"security\"\npatrols = 13\ntargets = [\"t1\"]\n\n[[type]]\nname = \"thief\"\nprior = 1\npayoffs = [[1, -1, 0, 1]]\n";
+const MANY_PLAYS: &str =
+    "version = 1\nform = \"security\"\npatrols = 13\ntargets = [\"t1\"]\n\n[[type]]\nname = \"thief\"\nprior = 1\npayoffs = [[1, -1, 0, 1]]\n";
 
 /// The whole report on the game of one type.
-const ONE_TYPE_REPORT: &str = "patrol-report 1\ntickets 2 3\nt 2 1\nt 1 2\nvalue 11 3\nsplit 1 2\nopen\nplays 1 2 0\nplays 3 11 1\nm 1 1 1\nupper 11 3\nverdict optimal\nend\n";
+const ONE_TYPE_REPORT: &str =
+    "patrol-report 1\ntickets 2 3\nt 2 1\nt 1 2\nvalue 11 3\nsplit 1 2\nopen\nplays 1 2 0\nplays 3 11 1\nm 1 1 1\nupper 11 3\nverdict optimal\nend\n";
 
 /// The whole report on the game of two types.
-const TWO_TYPES_REPORT: &str = "patrol-report 1\ntickets 2 3\nt 2 1\nt 1 2\nvalue 11 3\ncap 2 proved 4 2\nplays 3 5 1\nm 2 2 1\nplays 1 4 0\nsplit 1 2\nopen\nplays 1 2 0\nsplit 2 2\nplays 3 11 1\nm 1 1 1\nplays 3 16 1\nm 2 2 2\nplays 3 22 1\nm 1 1 2\nupper 11 3\nverdict optimal\nend\n";
+const TWO_TYPES_REPORT: &str =
+    "patrol-report 1\ntickets 2 3\nt 2 1\nt 1 2\nvalue 11 3\ncap 2 proved 4 2\nplays 3 5 1\nm 2 2 1\nplays 1 4 0\nsplit 1 2\nopen\nplays 1 2 0\nsplit 2 2\nplays 3 11 1\nm 1 1 1\nplays 3 16 1\nm 2 2 2\nplays 3 22 1\nm 1 1 2\nupper 11 3\nverdict optimal\nend\n";
 
 /// The report on the game of two types after one node, and the one on the game of one type where no program may make a second move.
-const ONE_NODE_REPORT: &str = "patrol-report 1\ntickets 1 1\nt 1 1\nvalue 3 1\ncap 2 plain 4\nsplit 1 2\nopen\nplays 1 2 0\nopen\nupper 4 1\nverdict gap nodes 1\nend\n";
-const ONE_MOVE_REPORT: &str = "patrol-report 1\ntickets 1 1\nt 1 1\nvalue 2 1\nsplit 1 2\nopen\nplays 1 2 0\nopen\nupper 4 1\nverdict gap pivots 1 1 1 2\nend\n";
+const ONE_NODE_REPORT: &str =
+    "patrol-report 1\ntickets 1 1\nt 1 1\nvalue 3 1\ncap 2 plain 4\nsplit 1 2\nopen\nplays 1 2 0\nopen\nupper 4 1\nverdict gap nodes 1\nend\n";
+
+const ONE_MOVE_REPORT: &str =
+    "patrol-report 1\ntickets 1 1\nt 1 1\nvalue 2 1\nsplit 1 2\nopen\nplays 1 2 0\nopen\nupper 4 1\nverdict gap pivots 1 1 1 2\nend\n";
 
 /// What a run is to write: the options behind `solve game.toml`, the game, the status and the whole report.
 const SEARCHED: [(&[&str], &str, u8, &str); 8] = [
@@ -118,7 +128,11 @@ fn is_accepted(alloc: Global, game: &str, report: &str, status: u8) -> Result<bo
     let mut out = sink_of(alloc, &[], 0)?;
     let mut err = sink_of(alloc, &[], 0)?;
     let ended = run(alloc, &words, &mut shelf, &mut out, &mut err);
-    let yes: &[u8] = if status == 0 { b"yes optimal " } else { b"yes gap " };
+    let yes: &[u8] = if status == 0 {
+        b"yes optimal "
+    } else {
+        b"yes gap "
+    };
     Ok(ended == status && out.bytes().starts_with(yes) && err.bytes().is_empty())
 }
 
@@ -176,6 +190,14 @@ fn more_plays_are_not_listed_yet(rt: HostRuntime) -> Result<(), AllocError> {
         out: "",
         err: "not yet\n",
     };
-    assert!(rt; answers(rt.alloc(), &["solve", "game.toml"], MANY_PLAYS.as_bytes(), None, &expected)?);
+    assert!(rt;
+        answers(
+            rt.alloc(),
+            &["solve", "game.toml"],
+            MANY_PLAYS.as_bytes(),
+            None,
+            &expected
+        )?
+    );
     Ok(())
 }

@@ -50,16 +50,18 @@ append-one (x ∷ xs) y ys = ap (λ zs. x ∷ zs) (append-one xs y ys)
 
 pub due-more : (p : Task) (m : Method) (before : List MadeEvent) (s : Search) (es : List MadeEvent) (x : MadeEvent) (c b : SelectionState) (t : Search)
     → SelectedRuns p c s es b t → AreTurnsDue p m before s es → IsDueTurn p.game m t (moves_made (lane_of x.event) (before ++ es)) x.change → AreTurnsDue p m before s (es ++ (x ∷ []))
-due-more p m before s [] x c b t r due one =
-    (subst (λ (z : Search). IsDueTurn p.game m z (moves_made (lane_of x.event) before) x.change) (sym r.1)
-     (subst (λ (ys : List MadeEvent). IsDueTurn p.game m t (moves_made (lane_of x.event) ys) x.change) (append-none before) one),
-     λ u goes. tt)
-due-more p m before s (e ∷ es) x c b t r due one =
-    (due.0,
-     λ u goes. due-more p m (before ++ (e ∷ [])) u es x r.0 b t
-     (subst (λ (z : Search). SelectedRuns p r.0 z es b t) (goes-one p s e.change r.1 u r.4 goes) r.5)
-     (due.1 u goes)
-     (subst (λ (ys : List MadeEvent). IsDueTurn p.game m t (moves_made (lane_of x.event) ys) x.change) (sym (append-one before e es)) one))
+due-more p m before s [] x c b t r due one = (
+  subst (λ (z : Search). IsDueTurn p.game m z (moves_made (lane_of x.event) before) x.change) (sym r.1)
+      (subst (λ (ys : List MadeEvent). IsDueTurn p.game m t (moves_made (lane_of x.event) ys) x.change) (append-none before) one),
+  λ u goes. tt,
+)
+due-more p m before s (e ∷ es) x c b t r due one = (
+  due.0,
+  λ u goes. due-more p m (before ++ (e ∷ [])) u es x r.0 b t
+      (subst (λ (z : Search). SelectedRuns p r.0 z es b t) (goes-one p s e.change r.1 u r.4 goes) r.5)
+      (due.1 u goes)
+      (subst (λ (ys : List MadeEvent). IsDueTurn p.game m t (moves_made (lane_of x.event) ys) x.change) (sym (append-one before e es)) one),
+)
 
 -- ---- the moves
 

@@ -34,7 +34,6 @@ whole : (g : Game) (p : List ℕ) → p ≡ [] → from_here g p ≡ partials g
 whole g p none = ap (from_here g) none ∙ (let e : resource_count g - 0 ≡ resource_count g = omega arith in rw e refl)
 
 module _ (g : Game) (security : is_matrix g ≡ false) (ws : List ℤ) (mu : ℤ) (budget : ℕ) (sized : HasAbsoluteSum ws) (p : List ℕ) (none : p ≡ []) where
-
   pub walk-entered : (play : List ℕ) → EntersAt g ws mu budget 0 (from_here g p) play → FindsFirst g ws mu budget play
   walk-entered play h =
       let first : first_play g ws mu ≡ Some play = sym (first-is g ws mu security) ∙ ap (find (is_play_above g ws mu)) (sym (whole g p none)) ∙ h.first in
