@@ -216,7 +216,7 @@ def self_test(count):
         text = made_up(draw)
         game = Game(text)
         report = report_of(game, draw)
-        status, _, err = answer(game, report.encode(), is_whole=True)
+        status, _, err = answer(game, report.encode())
         seen[status] = seen.get(status, 0) + 1
         if status not in (0, 10):
             failed += 1

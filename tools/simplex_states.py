@@ -17,6 +17,9 @@ from math import gcd, lcm
 class Misfit(Exception):
     """The number of a value, and its first operation that doesn't fit."""
 
+    def __str__(self):
+        return f"wide {self.args}"
+
 
 def formed(name, word, left, right):
     value = {"sum": left + right, "less": left - right, "times": left * right}[word]
@@ -119,7 +122,7 @@ def run(program, pivots, looks):
                 return states, "pivots spent"
             basis[program.leaving(member, lists, y, rho)] = member
         except Misfit as misfit:
-            return states, f"wide {misfit.args}"
+            return states, misfit
 
 
 def main():
