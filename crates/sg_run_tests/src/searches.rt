@@ -92,6 +92,71 @@ const ORDERS: [&[&str]; 8] = [
     &["--order", "seeded", "--lanes", "2", "--seed", "2"],
 ];
 
+/// Games and the values of their best commitments, as `tools/exact_solver.py` computes them: it solves one program for each list of actions, over
+/// fractions, and has no code in common with the program.
+const VALUED: [(&str, &str); 12] = [
+    // Types of different priors.
+    (
+        "version = 1\nform = \"matrix\"\nrows = [\"A\", \"B\"]\n\n[[type]]\nname = \"thief\"\nprior = 3\nactions = [\"x\", \"y\"]\nleader = [[2, 4], [1, 3]]\nfollower = [[1, 0], [0, 2]]\n\n[[type]]\nname = \"vandal\"\nprior = 1\nactions = [\"x\", \"y\"]\nleader = [[2, 4], [1, 3]]\nfollower = [[0, 1], [2, 0]]\n",
+        "11 3",
+    ),
+    // Ties across types: both are indifferent everywhere.
+    (
+        "version = 1\nform = \"matrix\"\nrows = [\"A\", \"B\"]\n\n[[type]]\nname = \"thief\"\nprior = 1\nactions = [\"x\", \"y\"]\nleader = [[1, 0], [0, 1]]\nfollower = [[3, 3], [3, 3]]\n\n[[type]]\nname = \"vandal\"\nprior = 1\nactions = [\"x\", \"y\"]\nleader = [[0, 2], [2, 0]]\nfollower = [[1, 1], [1, 1]]\n",
+        "3 2",
+    ),
+    // An action that is never best, and one that is dominated.
+    (
+        "version = 1\nform = \"matrix\"\nrows = [\"A\", \"B\"]\n\n[[type]]\nname = \"thief\"\nprior = 1\nactions = [\"x\", \"y\", \"z\"]\nleader = [[9, 1, 2], [9, 3, 0]]\nfollower = [[0, 2, 3], [0, 4, 1]]\n",
+        "3 1",
+    ),
+    // A row alone: all regions but one are empty.
+    (
+        "version = 1\nform = \"matrix\"\nrows = [\"A\"]\n\n[[type]]\nname = \"thief\"\nprior = 2\nactions = [\"x\", \"y\", \"z\"]\nleader = [[1, 5, 7]]\nfollower = [[2, 3, 3]]\n\n[[type]]\nname = \"vandal\"\nprior = 1\nactions = [\"x\", \"y\"]\nleader = [[4, -1]]\nfollower = [[0, 1]]\n",
+        "13 3",
+    ),
+    // A type with one action.
+    (
+        "version = 1\nform = \"matrix\"\nrows = [\"A\", \"B\", \"C\"]\n\n[[type]]\nname = \"thief\"\nprior = 1\nactions = [\"x\"]\nleader = [[1], [2], [-1]]\nfollower = [[0], [0], [0]]\n\n[[type]]\nname = \"vandal\"\nprior = 2\nactions = [\"x\", \"y\"]\nleader = [[0, 1], [-1, 3], [5, -2]]\nfollower = [[1, 0], [0, 1], [2, 2]]\n",
+        "3 1",
+    ),
+    // Payoffs below 0 everywhere.
+    (
+        "version = 1\nform = \"matrix\"\nrows = [\"A\", \"B\", \"C\"]\n\n[[type]]\nname = \"thief\"\nprior = 1\nactions = [\"x\", \"y\", \"z\"]\nleader = [[-5, -2, -9], [-3, -8, -4], [-7, -1, -6]]\nfollower = [[-1, -4, -2], [-6, -3, -5], [-2, -9, -1]]\n",
+        "-4 1",
+    ),
+    // Three types.
+    (
+        "version = 1\nform = \"matrix\"\nrows = [\"A\", \"B\", \"C\"]\n\n[[type]]\nname = \"a\"\nprior = 1\nactions = [\"x\", \"y\"]\nleader = [[3, 0], [1, 2], [0, 4]]\nfollower = [[0, 1], [1, 0], [2, 1]]\n\n[[type]]\nname = \"b\"\nprior = 2\nactions = [\"x\", \"y\"]\nleader = [[1, 1], [0, 5], [2, 0]]\nfollower = [[1, 2], [3, 0], [0, 1]]\n\n[[type]]\nname = \"c\"\nprior = 4\nactions = [\"x\", \"y\", \"z\"]\nleader = [[0, 2, 1], [3, 1, 0], [1, 0, 2]]\nfollower = [[2, 0, 1], [0, 1, 2], [1, 2, 0]]\n",
+        "37 28",
+    ),
+    // Patrols without a scale.
+    (
+        "version = 1\nform = \"security\"\npatrols = 2\ntargets = [\"t1\", \"t2\", \"t3\"]\n\n[[type]]\nname = \"thief\"\nprior = 1\npayoffs = [[1, -3, -1, 2], [0, -2, 0, 3], [2, -1, -2, 1]]\n",
+        "0 1",
+    ),
+    // No resource: one play.
+    (
+        "version = 1\nform = \"security\"\ntargets = [\"t1\", \"t2\"]\nschedule = []\nresource = []\n\n[[type]]\nname = \"thief\"\nprior = 1\npayoffs = [[2, -2, 0, 4], [1, -1, 0, 2]]\n\n[[type]]\nname = \"vandal\"\nprior = 3\npayoffs = [[2, -5, 0, 1], [1, -1, 0, 1]]\n",
+        "-5 4",
+    ),
+    // Covering hurts the defender and helps the attacker.
+    (
+        "version = 1\nform = \"security\"\npatrols = 1\ntargets = [\"t1\", \"t2\"]\n\n[[type]]\nname = \"thief\"\nprior = 1\npayoffs = [[-3, 2, 5, 1], [0, 1, 2, 2]]\n",
+        "1 1",
+    ),
+    // Two types over schedules that overlap.
+    (
+        "version = 1\nform = \"security\"\ntargets = [\"t1\", \"t2\", \"t3\"]\n\n[[schedule]]\nname = \"s1\"\ntargets = [\"t1\", \"t2\"]\n\n[[schedule]]\nname = \"s2\"\ntargets = [\"t2\", \"t3\"]\n\n[[schedule]]\nname = \"s3\"\ntargets = [\"t3\"]\n\n[[resource]]\nname = \"r1\"\nschedules = [\"s1\", \"s2\"]\n\n[[resource]]\nname = \"r2\"\nschedules = [\"s3\"]\n\n\n[[type]]\nname = \"thief\"\nprior = 2\npayoffs = [[0, -4, -1, 3], [1, -2, 0, 2], [0, -3, -2, 4]]\n\n[[type]]\nname = \"vandal\"\nprior = 1\npayoffs = [[0, -1, 0, 1], [0, -6, -3, 5], [0, -1, 0, 2]]\n",
+        "2 3",
+    ),
+    // The greatest payoffs.
+    (
+        "version = 1\nform = \"matrix\"\nrows = [\"A\", \"B\"]\n\n[[type]]\nname = \"thief\"\nprior = 1\nactions = [\"x\", \"y\"]\nleader = [[-1073741824, 1073741824], [1073741823, -1073741824]]\nfollower = [[1073741824, -1073741824], [-1073741824, 1073741823]]\n",
+        "-1073741824 4294967295",
+    ),
+];
+
 /// `solve game.toml` and the options.
 fn solve_words(alloc: Global, options: &[&str]) -> Result<Vec<String>, AllocError> {
     let mut words = words_of(alloc, &["solve", "game.toml"])?;
@@ -176,6 +241,24 @@ fn each_order_comes_to_the_value(rt: HostRuntime) -> Result<(), AllocError> {
                 assert!(rt; text.contains("\nvalue 11 3\n"));
                 assert!(rt; text.ends_with("\nupper 11 3\nverdict optimal\nend\n"));
                 assert!(rt; is_accepted(rt.alloc(), TWO_TYPES, text.as_str(), 0)?);
+            }
+            None => assert!(rt; false),
+        }
+    }
+    Ok(())
+}
+
+#[test]
+fn values_are_those_of_another_solver(rt: HostRuntime) -> Result<(), AllocError> {
+    for (game, value) in VALUED {
+        let words = solve_words(rt.alloc(), &[])?;
+        let value_line = format!(in rt.alloc(); "\nvalue {value}\n")?;
+        let end = format!(in rt.alloc(); "\nupper {value}\nverdict optimal\nend\n")?;
+        match written(rt.alloc(), &words, game, 0)? {
+            Some(text) => {
+                assert!(rt; text.contains(value_line.as_str()));
+                assert!(rt; text.ends_with(end.as_str()));
+                assert!(rt; is_accepted(rt.alloc(), game, text.as_str(), 0)?);
             }
             None => assert!(rt; false),
         }
