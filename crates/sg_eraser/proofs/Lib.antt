@@ -6,3 +6,5 @@ pub mod CostSums
 pub mod Tabled
 pub mod Viewed
 pub mod Answered
+pub mod Weighed
+pub mod Fillings
