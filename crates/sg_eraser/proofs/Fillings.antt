@@ -57,10 +57,6 @@ module _ (g : Game) (a : table.Column → ℤ) where
         omega (arith, ints, at, m, some, whole);
   }
 
-  -- what is left of a target is not below 0
-  pub left-low : (r j : ℕ) (left : List ℤ) (u : ℕ) → AreLeft g a r j left → 1 ≤ u → u ≤ length g.goals → pos 0 ≤ℤ slice_index_or left (u - 1) (pos 0)
-  left-low r j left u are from_one in_range = let e = are.each u from_one in_range in let m = int_max_is (pos 0) (amount_left g a u r j) in omega (arith, ints, e, m)
-
   module _ (r j own : ℕ) (left : List ℤ) (amount taken : ℤ) (from_one : 1 ≤ j) (is : IsTargetOf g r j own) (are : AreLeft g a r j left) (amount-is : amount ≡ a (table.chooses r j)) (low : pos 0 ≤ℤ amount)
       (taken-is : taken ≡ int_min (slice_index_or left (own - 1) (pos 0)) amount) where
     own-is : target_in g r j ≡ own

@@ -8,3 +8,4 @@ pub mod Viewed
 pub mod Answered
 pub mod Weighed
 pub mod Fillings
+pub mod Pointed

@@ -7,6 +7,7 @@
 
 mod amounts;
 mod columns;
+mod committing;
 mod costs;
 mod cover;
 mod entry;
