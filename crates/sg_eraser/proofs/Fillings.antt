@@ -1,5 +1,5 @@
 -- What is left of the targets' amounts, as choice after choice takes its count.
-use Rattle.std.proofs.Common.{◌≡◌, ◌≢◌, ◌∙◌, ℕ, zero, suc, ◌+◌, ◌-◌, ◌<◌, ◌≤◌, Bool, true, false, cond, eqb, List, [], ◌∷◌, ◌++◌, length, map, set, ap, subst, sym, refl, arith, inl, inr, slice_index, slice_index_or, get_or-set_same, get_or-set_other}
+use Rattle.std.proofs.Common.{◌≡◌, ◌≢◌, ◌∙◌, ℕ, suc, ◌+◌, ◌-◌, ◌<◌, ◌≤◌, true, false, cond, List, [], ◌∷◌, length, map, set, ap, subst, sym, refl, arith, inl, inr, slice_index, slice_index_or, get_or-set_same, get_or-set_other}
 use Rattle.std.specs.Prelude.{ℤ, pos, ◌+ℤ◌, ◌-ℤ◌, ◌≤ℤ◌}
 use Rattle.std.specs.Int.{int_max, int_min}
 use Rattle.std.specs.List.{All}
@@ -7,14 +7,14 @@ use Rattle.std.proofs.Math.ListN.{length-set}
 use Rattle.std.proofs.lemmas.Bool.{cases_eq, cond-false, cond-true, eq-eqb, ne_eqb}
 use Rattle.std.proofs.lemmas.Int.{ints, int_max_is, int_min_is}
 use Rattle.std.proofs.lemmas.List.{get_or-map, length-map}
-use Rattle.sg_model.specs.Games.{Game, resource_schedules, schedule_targets}
+use Rattle.sg_model.specs.Games.{Game, resource_schedules}
 use Rattle.sg_model.specs.Sums.{nth, numbers, total}
 use Rattle.sg_model.proofs.Numbers.{length-numbers_from, nth-numbers}
 use Rattle.sg_model.proofs.Sums.{total-append, total-nonneg}
 use Rattle.sg_bounds.specs.Coverage as table
 use Rattle.sg_split.specs.ByTarget.{IsTargetOf}
 use Rattle.sg_split.proofs.Singles.{holds_is}
-use Rattle.sg_programs.specs.CoverFilling.{amount_before, amount_left, filled_count, filled_row, held_amount, resource_amount, target_in}
+use Rattle.sg_programs.specs.CoverFilling.{amount_left, filled_count, filled_row, held_amount, resource_amount, target_in}
 use Rattle.sg_programs.specs.CoverPoints.{is_same_column}
 use Rattle.sg_programs.specs.CoverPrograms.{table_column}
 use Rattle.sg_dual.specs.declared.part.Part.{Part}

@@ -1,18 +1,16 @@
 -- The parts of a point: the weights that they give the table's columns are the point's amounts, and the counts that are filled of them lie within the point.
-use Rattle.std.proofs.Common.{◌≡◌, ◌∙◌, ℕ, ◌<◌, ◌≤◌, cond, true, List, [], ◌∷◌, ◌++◌, length, map, flat_map, ap, subst, sym, refl, arith, slice_index_or, None, Bool}
+use Rattle.std.proofs.Common.{◌≡◌, ◌∙◌, ℕ, ◌<◌, ◌≤◌, cond, true, List, [], ◌∷◌, ◌++◌, length, map, flat_map, ap, subst, sym, refl, arith, slice_index_or, None}
 use Rattle.std.specs.Prelude.{ℤ, pos, ◌+ℤ◌, ◌≤ℤ◌, ◌<ℤ◌, FitsSigned}
 use Rattle.std.specs.Int.{w128}
 use Rattle.std.specs.List.{All}
 use Rattle.std.proofs.lemmas.Int.{ints}
 use Rattle.std.proofs.lemmas.List.Elements.{All-map}
 use Rattle.sg_num.proofs.Steps.{FitsSigned-from_fits}
-use Rattle.sg_num.specs.declared.step.Wide.{Wide}
 use Rattle.sg_num.specs.Operations.{first_wide, plus}
 use Rattle.sg_model.specs.declared.kind.Kind.TheVariants.{Security}
 use Rattle.sg_model.specs.Games.{Game, resource_count, resource_schedules}
 use Rattle.sg_model.specs.Limits.{IsGame}
-use Rattle.sg_model.specs.Sums.{nth, numbers, total}
-use Rattle.sg_model.proofs.Numbers.{All-numbers}
+use Rattle.sg_model.specs.Sums.{numbers, total}
 use Rattle.sg_model.proofs.Sums.{total-same}
 use Rattle.sg_game.specs.Counting.{IsSingle}
 use Rattle.sg_commit.specs.Committed.{Committed, IsCommitted}
@@ -30,7 +28,7 @@ use Rattle.sg_lp.specs.States.{IsTableau, Tableau, member_at}
 use Rattle.sg_programs.specs.CoverFilling.{filled_counts, held_amount, resource_amount}
 use Rattle.sg_programs.specs.CoverPointLaws.{KeepsTable}
 use Rattle.sg_programs.specs.CoverPoints.{AreCountsUnder, IsCoverCommitment, amount_of, cover_whole, is_same_column}
-use Rattle.sg_programs.specs.CoverPrograms.{cover_fact, cover_program, number_in_table, table_column}
+use Rattle.sg_programs.specs.CoverPrograms.{cover_fact, cover_program, table_column}
 use Rattle.sg_programs.specs.Nodes.{NodeOf}
 use Rattle.sg_programs.specs.Points.{column_in, is_column, is_point_row, multiple_steps, own_steps, point_rows, point_steps, point_weight, point_whole, weight_at, weight_step, weights_of, whole_weight}
 use Rattle.sg_programs.proofs.CoverCounts.{counts_are_choice_counts, filled_under, single-secure}
@@ -92,8 +90,8 @@ module _ (g : Game) (h : IsGame g) (unscaled : g.scale ≡ pos 0) (single : IsSi
   numbered-all count long =
       let one : (i : ℕ) → i < p.height → is_point_row t i ≡ true → IsNumbered count (part_of_row p t i) =
       (λ i lt test.
-          let at = number-in g fix (column_in (member_at t i)) (column-is p t st i lt (both (is_column (member_at t i)) _ test).0).0 in
-          record { from_one = at.0; in_table = omega (arith, at.1, long) }) in
+      let at = number-in g fix (column_in (member_at t i)) (column-is p t st i lt (both (is_column (member_at t i)) _ test).0).0 in
+      record { from_one = at.0; in_table = omega (arith, at.1, long) }) in
       let rows : All (λ (i : ℕ). IsNumbered count (part_of_row p t i)) (point_rows p t) = over-rows (λ i. IsNumbered count (part_of_row p t i)) t p.height one in
       All-map (IsNumbered count) (part_of_row p t) (point_rows p t) rows
 

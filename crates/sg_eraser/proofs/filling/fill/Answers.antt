@@ -1,4 +1,4 @@
-use Rattle.std.proofs.Common.{◌≡◌, ◌∙◌, ℕ, ℤ, List, Vec, Global, ap, arith, map}
+use Rattle.std.proofs.Common.{◌∙◌, ℕ, ℤ, List, Vec, Global, ap, arith, map}
 use Rattle.sg_model.specs.Games.{resource_count}
 use Rattle.sg_game.specs.Seen.{number_lists}
 use Rattle.sg_programs.specs.CoverFilling.{filled_row}
@@ -16,9 +16,10 @@ pub fill_row-requires-clause-left : goal.fill_row-requires-clause-left
 fill_row-requires-clause-left c = c.loop-r.invariant.1
 
 pub loop-r-preserved : goal.loop-r-preserved
-loop-r-preserved c =
-    (next-number (λ (v : Vec ℤ Global). v.items) (filled_row c.args.game.now (amount_in c.args.game.now c.args.parts.now)) c.loop-r.r c.loop-r.counts.items c.push.new.self.items c.in_ok-fill_row.field-0 c.loop-r.invariant.0 c.in_ok-fill_row.ensures.row c.in_ok-push.ensures.items,
-    c.in_ok-fill_row.ensures.left)
+loop-r-preserved c = (
+  next-number (λ (v : Vec ℤ Global). v.items) (filled_row c.args.game.now (amount_in c.args.game.now c.args.parts.now)) c.loop-r.r c.loop-r.counts.items c.push.new.self.items c.in_ok-fill_row.field-0 c.loop-r.invariant.0 c.in_ok-fill_row.ensures.row c.in_ok-push.ensures.items,
+  c.in_ok-fill_row.ensures.left,
+)
 
 pub returns : goal.returns
 returns c =
