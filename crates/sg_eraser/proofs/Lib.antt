@@ -6,3 +6,6 @@ pub mod CostSums
 pub mod Tabled
 pub mod Viewed
 pub mod Answered
+pub mod Weighed
+pub mod Fillings
+pub mod Pointed

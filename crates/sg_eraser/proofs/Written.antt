@@ -11,7 +11,7 @@ use Rattle.sg_programs.proofs.Comparisons.{apart}
 use Rattle.sg_programs.proofs.Fixed.{apart-more, apart-same, fixed-all, fixed-more}
 use Rattle.sg_programs.proofs.Heights.{numbers-split}
 
-numbers-next : (k : ℕ) → numbers (k + 1) ≡ numbers k ++ (k + 1) ∷ []
+pub numbers-next : (k : ℕ) → numbers (k + 1) ≡ numbers k ++ (k + 1) ∷ []
 numbers-next k = let e : 1 + k ≡ k + 1 = omega arith in numbers-split 1 k 1 ∙ ap (λ (n : ℕ). numbers k ++ n ∷ []) e
 
 pushed : {X Y : Type 0} (f : X → Y) (xs all : List X) (x : X) (ys : List Y) (y : Y) → map f xs ≡ ys → f x ≡ y → all ≡ xs ++ x ∷ [] → map f all ≡ ys ++ y ∷ []
@@ -23,6 +23,10 @@ appended {Y = Y} f xs more all ys zs h k is = ap (map f) is ∙ map-append f xs 
 -- one number more
 pub next-number : {X Y : Type 0} (f : X → Y) (h : ℕ → Y) (k : ℕ) (xs all : List X) (x : X) → map f xs ≡ map h (numbers k) → f x ≡ h (k + 1) → all ≡ xs ++ x ∷ [] → map f all ≡ map h (numbers (k + 1))
 next-number f h k xs all x before e is = pushed f xs all x (map h (numbers k)) (h (k + 1)) before e is ∙ sym (ap (map h) (numbers-next k) ∙ map-append h (numbers k) ((k + 1) ∷ []))
+
+pub next-value : {Y : Type 0} (h : ℕ → Y) (k : ℕ) (ys all : List Y) (y : Y) → ys ≡ map h (numbers k) → y ≡ h (k + 1) → all ≡ ys ++ y ∷ [] → all ≡ map h (numbers (k + 1))
+next-value {Y = Y} h k ys all y before e is =
+    is ∙ ap (λ (zs : List Y). zs ++ y ∷ []) before ∙ ap (λ (z : Y). map h (numbers k) ++ z ∷ []) e ∙ sym (ap (map h) (numbers-next k) ∙ map-append h (numbers k) ((k + 1) ∷ []))
 
 -- one number more, but the one left out
 pub next-apart : {X Y : Type 0} (f : X → Y) (h : ℕ → Y) (own k : ℕ) (xs all : List X) (x : X) → k + 1 ≢ own → map f xs ≡ map h (filter (apart own) (numbers k)) → f x ≡ h (k + 1) → all ≡ xs ++ x ∷ []

@@ -1,3 +1,4 @@
 pub mod TableValues
 pub mod Nonzero
 pub mod Covers
+pub mod Amounts

@@ -26,10 +26,10 @@ use std::marker::Model;
 /// the shift, summed over the fixed types; that of a target is a prior times what covering it adds.
 #[derive(Drop)]
 pub struct Cover<'a> {
-    game: &'a Game,
+    pub(crate) game: &'a Game,
     fix: Fix,
     rows: Items<CoverRow>,
-    columns: Items<CoverColumn>,
+    pub(crate) columns: Items<CoverColumn>,
     costs: Items<i64>,
     entries: Items<Items<RowEntry>>,
 }

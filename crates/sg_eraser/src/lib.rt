@@ -5,10 +5,13 @@
 //! column, and forms products at a column's entries other than 0 alone.
 #![tactic(auto)]
 
+mod amounts;
 mod columns;
+mod committing;
 mod costs;
 mod cover;
 mod entry;
+mod filling;
 mod fixed;
 mod pricing;
 mod rows;

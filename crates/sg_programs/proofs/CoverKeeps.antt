@@ -17,8 +17,8 @@ use Rattle.sg_linear.proofs.Products.{unit-apart}
 use Rattle.sg_rows.specs.Rows.{place}
 use Rattle.sg_lp.specs.Programs.{IsWithinLimits, Program}
 use Rattle.sg_lp.specs.States.{IsTableau, Tableau}
-use Rattle.sg_programs.specs.CoverPointLaws.{KeepsTable, PointKeepsTable, cover_whole}
-use Rattle.sg_programs.specs.CoverPoints.{amount_of, is_same_column}
+use Rattle.sg_programs.specs.CoverPointLaws.{KeepsTable, PointKeepsTable}
+use Rattle.sg_programs.specs.CoverPoints.{amount_of, cover_whole, is_same_column}
 use Rattle.sg_programs.specs.CoverPrograms.{cover_program, table_row}
 use Rattle.sg_programs.specs.Laws.{IsComparison}
 use Rattle.sg_programs.specs.PointLaws.{HasPointValue}

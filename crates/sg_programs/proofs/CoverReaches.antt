@@ -28,8 +28,8 @@ use Rattle.sg_split.specs.Matched.{IsMatched}
 use Rattle.sg_linear.proofs.Lex.{same_or}
 use Rattle.sg_rows.specs.Rows.{place}
 use Rattle.sg_lp.specs.States.{IsTableau, Tableau}
-use Rattle.sg_programs.specs.CoverPointLaws.{KeepsTable, MatchedReachesFact, NoCoverMeansEmpty, cover_whole}
-use Rattle.sg_programs.specs.CoverPoints.{AreCountsUnder, amount_of, coverage_sum}
+use Rattle.sg_programs.specs.CoverPointLaws.{KeepsTable, MatchedReachesFact, NoCoverMeansEmpty}
+use Rattle.sg_programs.specs.CoverPoints.{AreCountsUnder, amount_of, cover_whole, coverage_sum}
 use Rattle.sg_programs.specs.CoverPrograms.{cover_fact, cover_program}
 use Rattle.sg_programs.proofs.CoverCounts.{single-secure}
 use Rattle.sg_programs.proofs.CoverFacts.{final_is_cover_fact}

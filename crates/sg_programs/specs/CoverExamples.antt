@@ -12,8 +12,7 @@ use Rattle.sg_lp.specs.declared.column.Enter.TheVariants.{Col, Slack}
 use Rattle.sg_lp.specs.Moves.{entries_of}
 use Rattle.sg_lp.specs.Programs.{Program}
 use Rattle.sg_lp.specs.States.{Tableau}
-use Rattle.sg_programs.specs.CoverPointLaws.{cover_whole}
-use Rattle.sg_programs.specs.CoverPoints.{amount_of}
+use Rattle.sg_programs.specs.CoverPoints.{amount_of, cover_whole}
 use Rattle.sg_programs.specs.CoverPrograms.{cover_fact, cover_program, column_numbered}
 
 -- the first type is fixed to the first target, and the second to the second

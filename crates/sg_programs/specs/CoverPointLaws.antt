@@ -17,14 +17,9 @@ use Rattle.sg_split.specs.Matched.{AreChoiceCounts, IsMatched}
 use Rattle.sg_rows.specs.Rows.{place}
 use Rattle.sg_lp.specs.Moves.{IsFinal}
 use Rattle.sg_lp.specs.States.{IsTableau, Tableau}
-use Rattle.sg_programs.specs.CoverPoints.{AreCountsUnder, amount_of, coverage_sum}
+use Rattle.sg_programs.specs.CoverPoints.{AreCountsUnder, amount_of, cover_whole, coverage_sum}
 use Rattle.sg_programs.specs.CoverPrograms.{cover_fact, cover_program}
 use Rattle.sg_programs.specs.Laws.{IsComparison}
-use Rattle.sg_programs.specs.Points.{point_whole}
-
--- the whole that the weights of a state's point are brought over
-abbrev pub cover_whole : Game → Fix → Tableau → ℤ
-cover_whole g fix t = pos (point_whole (cover_program g fix) t)
 
 -- the amounts of a state's point: none is below 0; a resource takes its choices together, and a target is covered, at most always; a target is covered
 -- no more than it is held; no fixed type gains by another target; and what the defender gets of the fixed types, with the shift, is what the
