@@ -23,7 +23,7 @@ same-load a b e = cc
 pub moved-on : (ends : Fix → ℕ → Type 0) (most : ℕ) (loads after : List (Option Load)) (lane : ℕ) → IsLoaded loads lane false → IsStep ends most loads after lane step.Moved → IsLoaded after lane false
 moved-on ends most loads after lane h s =
     let same = same-load s.0 h.load (sym s.1 ∙ h.held) in
-    loaded-set loads after lane (record { node = s.0.node; moves = s.0.moves + 1; ended = s.0.ended }) false h.from_one h.in_range s.3.0 (ap (λ (l : Load). l.ended) same ∙ h.state)
+    loaded-set loads after lane (record { node = s.0.node; moves = s.0.moves + 1; ended = s.0.ended }) false h.from_one h.in_range s.3 (ap (λ (l : Load). l.ended) same ∙ h.state)
 
 pub ended-on : (ends : Fix → ℕ → Type 0) (most : ℕ) (loads after : List (Option Load)) (lane : ℕ) → IsLoaded loads lane false → IsStep ends most loads after lane step.Ended → IsLoaded after lane true
 ended-on ends most loads after lane h s = loaded-set loads after lane (record { node = s.0.node; moves = s.0.moves; ended = true }) true h.from_one h.in_range s.3 refl
